@@ -1,0 +1,42 @@
+-- The other children of a parent, and the room between their positions.
+use Rattle.std.specs.Prelude.{◌≡◌, ◌≢◌, ◌⊎◌, Option, Some, None}
+use Rattle.std.specs.Ordering.{nat_cmp}
+use Rattle.std.specs.Cmp.Lexicographic.{slice_cmp}
+use Rattle.std.specs.declared.cmp.Ordering.TheVariants.{Less}
+use Rattle.canvas_model.specs.declared.ObjId.{ObjId}
+use Rattle.canvas_model.specs.Position.{IsPosition}
+use Rattle.canvas_model.specs.Document.{Doc, Place, Pos, place_of}
+
+-- positions stand in the order of their bytes, which is the order of their fractions
+abbrev pub IsBefore : Pos → Pos → Type 0
+IsBefore p q = slice_cmp nat_cmp p q ≡ Less
+
+-- q is a child of this parent other than `except`, at this position
+abbrev pub IsSibling : Doc → ObjId → ObjId → ObjId → Pos → Type 0
+IsSibling d parent except q pos = (q ≢ except) × (place_of d q ≡ Some (record { parent = parent; pos = pos }))
+
+-- some child of this parent other than `except` has this position
+abbrev pub IsTaken : Doc → ObjId → ObjId → Pos → Type 0
+IsTaken d parent except pos = (q : ObjId) × IsSibling d parent except q pos
+
+-- a position above the asked one and below each greater one of another child
+abbrev pub IsFree : Doc → ObjId → ObjId → Pos → Pos → Type 0
+IsFree d parent except asked pos = IsPosition pos × IsBefore asked pos × ((q : ObjId) (other : Pos) → IsSibling d parent except q other → IsBefore asked other → IsBefore pos other)
+
+-- the asked place where no other child has it, else one at a free position: any will do
+abbrev pub Gets : Doc → ObjId → Place → Place → Type 0
+Gets d id ask got = (got.parent ≡ ask.parent) × ((got.pos ≡ ask.pos) × (IsTaken d ask.parent id ask.pos → ⊥) ⊎ IsTaken d ask.parent id ask.pos × IsFree d ask.parent id ask.pos got.pos)
+
+-- the asked place is taken, and no position is free
+abbrev pub HasNoRoom : Doc → ObjId → Place → Type 0
+HasNoRoom d id ask = IsTaken d ask.parent id ask.pos × ((pos : Pos) → IsFree d ask.parent id ask.pos pos → ⊥)
+
+-- the position is above this one, if there is one
+abbrev pub IsAfter : Option Pos → Pos → Type 0
+IsAfter None p = Unit {0}
+IsAfter (Some low) p = IsBefore low p
+
+-- the least position of another child above this one (or of all, at none), if there is one
+abbrev pub IsNext : Doc → ObjId → ObjId → Option Pos → Option Pos → Type 0
+IsNext d parent except low None = (q : ObjId) (other : Pos) → IsSibling d parent except q other → IsAfter low other → ⊥
+IsNext d parent except low (Some pos) = IsTaken d parent except pos × IsAfter low pos × ((q : ObjId) (other : Pos) → IsSibling d parent except q other → IsAfter low other → IsBefore other pos → ⊥)

@@ -1,0 +1,32 @@
+-- Values of properties: finite trees of numbers, truth values, colours, texts and lists.
+use Rattle.std.specs.Prelude.{ℕ, ℤ, suc, max, Bool, List, [], ◌∷◌, ◌≤◌}
+
+mutual
+  pub data Value : Type 0 where
+    number : ℤ → Value
+    truth : Bool → Value
+    colour : ℕ → Value
+    text : List ℕ → Value
+    list : Values → Value
+
+  -- the members of a list
+  pub data Values : Type 0 where
+    no_more : Values
+    more : Value → Values → Values
+
+abbrev pub values_of : List Value → Values
+values_of [] = no_more
+values_of (v ∷ vs) = more v (values_of vs)
+
+-- how deep lists nest: a list is one more than its deepest member, an empty one 1
+abbrev mutual
+  pub depth : Value → ℕ
+  depth (number n) = 0
+  depth (truth b) = 0
+  depth (colour c) = 0
+  depth (text s) = 0
+  depth (list vs) = suc (members_depth vs)
+
+  pub members_depth : Values → ℕ
+  members_depth no_more = 0
+  members_depth (more v vs) = max (depth v) (members_depth vs)

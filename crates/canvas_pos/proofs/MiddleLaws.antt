@@ -1,0 +1,113 @@
+-- What the middle is: a position, strictly between the ends, and the only one.
+use Rattle.std.proofs.Common.{◌≡◌, ℕ, suc, ◌-◌, ◌*◌, ◌<◌, ◌≤◌, max, List, length, ap, sym, subst, ◌∙◌, arith, Option, Some, None, inl, inr}
+use Rattle.std.proofs.Math.Nat.{pow-suc, mul-le-mul_right, lt_of_mul-lt-mul_right}
+use Rattle.std.proofs.lemmas.Bool.{cases_lt, cases_order}
+use Rattle.std.specs.declared.cmp.Ordering.TheVariants.{Less, Equal, Greater}
+use Rattle.std.specs.Ordering.{MatchOrdering, nat_cmp}
+use Rattle.std.specs.Cmp.Lexicographic.{slice_cmp}
+use Rattle.canvas_model.specs.Position.{IsPosition, IsSmaller, digit, num}
+use Rattle.canvas_model.specs.Middle.{IsLess, fraction, lower, upper, AreInOrder, LiesBetween, IsShut, IsMiddle, IsInside}
+use Rattle.canvas_pos.proofs.Numbers.{num-suc, num-below}
+use Rattle.canvas_pos.proofs.EndsLemmas.{num-pos}
+use Rattle.canvas_pos.proofs.Gaps.{IsEnd, lies-above, lies-below, floor-zero, ceiling-zero, less-smaller, smaller-less}
+use Rattle.canvas_pos.proofs.Order.{order-positions}
+
+-- what lies between two numbers that lie between the ends lies there too
+lies-convex : (lo hi : Option (List ℕ)) (n a m b : ℕ) → LiesBetween lo hi n a → LiesBetween lo hi n b → a ≤ m → m ≤ b → LiesBetween lo hi n m
+lies-convex lo hi n a m b h k l r =
+    let up : a * (lower lo).bottom ≤ m * (lower lo).bottom = mul-le-mul_right (lower lo).bottom l in
+    let down : m * (upper hi).bottom ≤ b * (upper hi).bottom = mul-le-mul_right (upper hi).bottom r in
+    record { above = omega (arith, h.above); below = omega (arith, k.below) }
+
+-- the middle's own number lies between the ends
+pub lies-middle : (lo hi : Option (List ℕ)) (p : List ℕ) → IsMiddle lo hi p → LiesBetween lo hi (length p) (num p (length p))
+lies-middle lo hi p h =
+    let within : h.least ≤ h.greatest = h.is_greatest.greatest h.least h.is_least.holds in
+    lies-convex lo hi (length p) h.least (num p (length p)) h.greatest h.is_least.holds h.is_greatest.holds (omega (arith, h.half_way)) (omega (arith, h.half_way))
+
+-- a number with a 0 at its end lies there at a smaller length
+lies-shorter : (lo hi : Option (List ℕ)) (n m : ℕ) → LiesBetween lo hi (suc n) (95 * m) → LiesBetween lo hi n m
+lies-shorter lo hi n m h = record {
+  above = lt_of_mul-lt-mul_right 95 (omega (arith, h.above, ap (λ e. (lower lo).top * e) (pow-suc 95 n)));
+  below = lt_of_mul-lt-mul_right 95 (omega (arith, h.below, ap (λ e. (upper hi).top * e) (pow-suc 95 n)));
+}
+
+pub middle-position : (lo hi : Option (List ℕ)) (p : List ℕ) → IsEnd lo → IsEnd hi → IsMiddle lo hi p → IsPosition p
+middle-position lo hi p e f h =
+    let lies : LiesBetween lo hi (length p) (num p (length p)) = lies-middle lo hi p h in
+    let some : 0 < length p = elim (cases_lt 0 (length p)) [
+      | inl lt ↦ lt
+      | inr ge ↦
+          let none : length p ≡ 0 = omega arith in
+          let zero-lies : LiesBetween lo hi 0 (num p (length p)) = subst (λ n. LiesBetween lo hi n (num p (length p))) none lies in
+          absurd (omega (arith, lies-above lo hi 0 (num p (length p)) e zero-lies, lies-below lo hi 0 (num p (length p)) f zero-lies, floor-zero lo, ceiling-zero hi f))
+    ] in
+    record {
+      not_empty = some;
+      short = h.short;
+      digits = h.digits;
+      last = λ z.
+          let len : length p ≡ suc (length p - 1) = omega arith in
+          let at : num p (length p) ≡ 95 * num p (length p - 1) =
+          ap (num p) len ∙ num-suc p (length p - 1) ∙ (let none : digit p (length p - 1) ≡ 0 = ap (λ b. b - 32) z in omega (arith, none)) in
+          let longer : LiesBetween lo hi (suc (length p - 1)) (95 * num p (length p - 1)) = rw (← len, ← at) lies in
+          h.least_length (length p - 1) (omega arith) (num p (length p - 1)) (lies-shorter lo hi (length p - 1) (num p (length p - 1)) longer);
+    }
+
+above-middle : (lo hi : Option (List ℕ)) (p : List ℕ) → LiesBetween lo hi (length p) (num p (length p)) → AreInOrder lo (Some p)
+above-middle None hi p l = tt
+above-middle (Some s) hi p l = less-smaller s p l.above
+
+below-middle : (lo hi : Option (List ℕ)) (p : List ℕ) → LiesBetween lo hi (length p) (num p (length p)) → AreInOrder (Some p) hi
+below-middle lo None p l = tt
+below-middle lo (Some t) p l = less-smaller p t l.below
+
+-- the middle is a position strictly between the ends
+pub middle-inside : (lo hi : Option (List ℕ)) (p : List ℕ) → IsEnd lo → IsEnd hi → IsMiddle lo hi p → IsInside lo hi p
+middle-inside lo hi p e f h = record {
+  position = middle-position lo hi p e f h;
+  above = above-middle lo hi p (lies-middle lo hi p h);
+  below = below-middle lo hi p (lies-middle lo hi p h);
+}
+
+-- a position strictly between the ends lies there as a fraction
+above-inside : (lo : Option (List ℕ)) (p : List ℕ) → IsPosition p → AreInOrder lo (Some p) → IsLess (lower lo) (fraction p)
+above-inside None p h l = omega (arith, num-pos p (length p) h.not_empty (omega arith) h.digits h.last)
+above-inside (Some s) p h l = smaller-less s p l
+
+below-inside : (hi : Option (List ℕ)) (p : List ℕ) → IsPosition p → AreInOrder (Some p) hi → IsLess (fraction p) (upper hi)
+below-inside None p h l = omega (arith, num-below p (length p) h.digits)
+below-inside (Some t) p h l = smaller-less p t l
+
+-- where nothing of at most 128 digits lies between the ends, no position does
+pub shut-outside : (lo hi : Option (List ℕ)) → ((n : ℕ) → n ≤ 128 → IsShut lo hi n) → (p : List ℕ) → ¬ IsInside lo hi p
+shut-outside lo hi h p i =
+    h (length p) i.position.short (num p (length p)) (record {
+      above = above-inside lo p i.position i.above;
+      below = below-inside hi p i.position i.below;
+    })
+
+-- positions of one length with one number are the same
+same-number : (p q : List ℕ) → IsPosition p → IsPosition q → length p ≡ length q → num p (length p) ≡ num q (length p) → p ≡ q
+same-number p q a b len e =
+    elim (slice_cmp nat_cmp p q) as (λ r. MatchOrdering r (IsSmaller p q) (p ≡ q) (IsSmaller q p) → p ≡ q) [
+      | Less ↦ λ l. absurd (let at : max (length p) (length q) ≡ length p = omega arith in let m : num p (length p) < num q (length p) = rw at at l in omega arith)
+      | Equal ↦ λ h. h
+      | Greater ↦ λ l. absurd (let at : max (length q) (length p) ≡ length p = omega arith in let m : num q (length p) < num p (length p) = rw at at l in omega arith)
+    ] (order-positions p q a b)
+
+-- there is one middle at most
+pub middle-unique : (lo hi : Option (List ℕ)) (p q : List ℕ) → IsEnd lo → IsEnd hi → IsMiddle lo hi p → IsMiddle lo hi q → p ≡ q
+middle-unique lo hi p q e f h k =
+    let len : length p ≡ length q = elim (cases_order (length p) (length q)) [
+      | inl same ↦ same
+      | inr (inl lt) ↦ absurd (k.least_length (length p) lt h.least h.is_least.holds)
+      | inr (inr gt) ↦ absurd (h.least_length (length q) gt k.least k.is_least.holds)
+    ] in
+    let k-least : LiesBetween lo hi (length p) k.least = rw len k.is_least.holds in
+    let k-greatest : LiesBetween lo hi (length p) k.greatest = rw len k.is_greatest.holds in
+    let h-least : LiesBetween lo hi (length q) h.least = rw (← len) h.is_least.holds in
+    let h-greatest : LiesBetween lo hi (length q) h.greatest = rw (← len) h.is_greatest.holds in
+    let one : num p (length p) ≡ num q (length q) =
+    omega (arith, h.half_way, k.half_way, h.is_least.least k.least k-least, k.is_least.least h.least h-least, h.is_greatest.greatest k.greatest k-greatest, k.is_greatest.greatest h.greatest h-greatest) in
+    same-number p q (middle-position lo hi p e f h) (middle-position lo hi q e f k) len (one ∙ ap (num q) (sym len))

@@ -1,0 +1,86 @@
+-- The order of the bytes of positions is that of their fractions.
+use Rattle.std.proofs.Common.{◌≡◌, ◌≢◌, ℕ, zero, suc, ◌+◌, ◌-◌, ◌*◌, ◌^◌, ◌<◌, ◌≤◌, max, List, [], ◌∷◌, length, get_or, refl, ap, sym, subst, ◌∙◌, arith, All}
+use Rattle.std.proofs.Math.Nat.{mul-le-mul_right}
+use Rattle.std.specs.declared.cmp.Ordering.{Ordering}
+use Rattle.std.specs.declared.cmp.Ordering.TheVariants.{Less, Equal, Greater}
+use Rattle.std.specs.Ordering.{MatchOrdering, nat_cmp, ordering_then}
+use Rattle.std.specs.Cmp.{ranks}
+use Rattle.std.specs.Cmp.Lexicographic.{slice_cmp}
+use Rattle.canvas_model.specs.Position.{IsDigitByte, IsPosition, IsSmaller, num}
+use Rattle.canvas_pos.proofs.Numbers.{num-cons, num-empty, num-below, digits-tail}
+use Rattle.canvas_pos.proofs.EndsLemmas.{num-pos, power-pos}
+use Rattle.canvas_pos.proofs.Products.{less-trans-fraction}
+use Rattle.canvas_pos.proofs.Gaps.{smaller-less, less-smaller}
+
+-- digits with no 0 at their end
+record IsTrimmed (s : List ℕ) : Type 0 where
+  digits : All IsDigitByte s
+  last : 0 < length s → get_or s (length s - 1) 32 ≢ 32
+
+trimmed-tail : (x : ℕ) (xs : List ℕ) → IsTrimmed (x ∷ xs) → IsTrimmed xs
+trimmed-tail x xs h = record {
+  digits = digits-tail x xs h.digits;
+  last = λ l e. h.last (omega arith) (ap (λ k. get_or (x ∷ xs) k 32) (let e : suc (length xs) - 1 ≡ suc (length xs - 1) = omega arith in e) ∙ e);
+}
+
+match_then : (o : Ordering) {P Q R S T U : Type 0} → (P → S) → (Q → T) → (R → U) → MatchOrdering o P Q R → MatchOrdering o S T U
+match_then Less f g h m = f m
+match_then Equal f g h m = g m
+match_then Greater f g h m = h m
+
+-- a smaller first digit decides
+first-decides : (x y : ℕ) (xs ys : List ℕ) (n : ℕ) → All IsDigitByte (x ∷ xs) → x < y → num (x ∷ xs) (suc n) < num (y ∷ ys) (suc n)
+first-decides x y xs ys n d h =
+    let here : IsDigitByte x = d 0 32 (omega arith) in
+    let rest : num xs n < 95 ^ n = num-below xs n (digits-tail x xs d) in
+    let first : (x - 32 + 1) * 95 ^ n ≤ (y - 32) * 95 ^ n = mul-le-mul_right (95 ^ n) (omega arith) in
+    omega (arith, num-cons x xs n, num-cons y ys n, rest, first)
+
+same-first : (x y : ℕ) (xs ys : List ℕ) (n : ℕ) → x ≡ y → num xs n < num ys n → num (x ∷ xs) (suc n) < num (y ∷ ys) (suc n)
+same-first x y xs ys n e h =
+    let first : (x - 32) * 95 ^ n ≡ (y - 32) * 95 ^ n = ap (λ b. (b - 32) * 95 ^ n) e in
+    omega (arith, num-cons x xs n, num-cons y ys n, first)
+
+ordered : (s t : List ℕ) (n : ℕ) → IsTrimmed s → IsTrimmed t → length s ≤ n → length t ≤ n
+    → MatchOrdering (slice_cmp nat_cmp s t) (num s n < num t n) (s ≡ t) (num t n < num s n)
+ordered [] [] n a b h k = refl
+ordered [] (y ∷ ys) n a b h k = omega (arith, num-empty n, num-pos (y ∷ ys) n (omega arith) k b.digits (b.last (omega arith)))
+ordered (x ∷ xs) [] n a b h k = omega (arith, num-empty n, num-pos (x ∷ xs) n (omega arith) h a.digits (a.last (omega arith)))
+ordered (x ∷ xs) (y ∷ ys) zero a b h k = absurd (omega arith)
+ordered (x ∷ xs) (y ∷ ys) (suc n) a b h k =
+    let tail : MatchOrdering (slice_cmp nat_cmp xs ys) (num xs n < num ys n) (xs ≡ ys) (num ys n < num xs n) =
+    ordered xs ys n (trimmed-tail x xs a) (trimmed-tail y ys b) (omega arith) (omega arith) in
+    elim (nat_cmp x y) as (λ r. MatchOrdering r (x < y) (x ≡ y) (y < x)
+    → MatchOrdering (ordering_then r (slice_cmp nat_cmp xs ys)) (num (x ∷ xs) (suc n) < num (y ∷ ys) (suc n)) (x ∷ xs ≡ y ∷ ys) (num (y ∷ ys) (suc n) < num (x ∷ xs) (suc n))) [
+      | Less ↦ λ l. first-decides x y xs ys n a.digits l
+      | Equal ↦ λ e. match_then (slice_cmp nat_cmp xs ys) (same-first x y xs ys n e) (λ f. cc) (same-first y x ys xs n (sym e)) tail
+      | Greater ↦ λ l. first-decides y x ys xs n b.digits l
+    ] (ranks x y)
+
+trimmed : (s : List ℕ) → IsPosition s → IsTrimmed s
+trimmed s h = record { digits = h.digits; last = λ _. h.last }
+
+-- positions compare as their fractions do
+pub order-positions : (s t : List ℕ) → IsPosition s → IsPosition t → MatchOrdering (slice_cmp nat_cmp s t) (IsSmaller s t) (s ≡ t) (IsSmaller t s)
+order-positions s t p q =
+    let same : max (length s) (length t) ≡ max (length t) (length s) = omega arith in
+    match_then (slice_cmp nat_cmp s t) (λ l. l) (λ e. e) (λ l. rw (← same) l)
+    (ordered s t (max (length s) (length t)) (trimmed s p) (trimmed t q) (omega arith) (omega arith))
+
+-- for callers that know one of the two orders
+pub smaller-from_cmp : (s t : List ℕ) → IsPosition s → IsPosition t → slice_cmp nat_cmp s t ≡ Less → IsSmaller s t
+smaller-from_cmp s t p q e = subst (λ r. MatchOrdering r (IsSmaller s t) (s ≡ t) (IsSmaller t s)) e (order-positions s t p q)
+
+pub cmp-from_smaller : (s t : List ℕ) → IsPosition s → IsPosition t → IsSmaller s t → slice_cmp nat_cmp s t ≡ Less
+cmp-from_smaller s t p q l =
+    elim (slice_cmp nat_cmp s t) as (λ r. MatchOrdering r (IsSmaller s t) (s ≡ t) (IsSmaller t s) → r ≡ Less) [
+      | Less ↦ λ _. refl
+      | Equal ↦ λ e. absurd (let m : num s (max (length s) (length s)) < num s (max (length s) (length s)) = rw (← e) at l in omega arith)
+      | Greater ↦ λ g. absurd (let same : max (length t) (length s) ≡ max (length s) (length t) = omega arith in let m : num t (max (length s) (length t)) < num s (max (length s) (length t)) = rw same at g in omega arith)
+    ] (order-positions s t p q)
+
+-- needs no positions
+pub smaller-trans : (s t u : List ℕ) → IsSmaller s t → IsSmaller t u → IsSmaller s u
+smaller-trans s t u a b =
+    less-smaller s u (less-trans-fraction (num s (length s)) (95 ^ length s) (num t (length t)) (95 ^ length t) (num u (length u)) (95 ^ length u)
+    (power-pos (length s)) (power-pos (length u)) (smaller-less s t a) (smaller-less t u b))
