@@ -1,5 +1,6 @@
 pub mod Position
 pub mod Middle
+pub mod Order
 pub mod Ids
 pub mod Value
 pub mod Document

@@ -10,7 +10,8 @@ use Rattle.canvas_model.specs.Ids.{root, same_id}
 use Rattle.canvas_model.specs.declared.Kind.{Kind}
 use Rattle.canvas_model.specs.Document.{may_stand, Pos, Place, Name, Object, Doc, live, kind_of, place_of}
 use Rattle.canvas_model.specs.Position.{IsPosition}
-use Rattle.canvas_model.specs.Sibling.{IsBefore, IsAfter, IsSibling, IsNext}
+use Rattle.canvas_model.specs.Order.{IsBefore, IsAfter}
+use Rattle.canvas_model.specs.Sibling.{IsSibling, IsNext}
 use Rattle.canvas_model.specs.Chain.{Below, InTree}
 use Rattle.canvas_model.specs.Change.{Change, object_of}
 use Rattle.canvas_model.specs.Overlay.{over, lay}

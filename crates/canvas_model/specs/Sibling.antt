@@ -1,15 +1,9 @@
 -- The other children of a parent, and the room between their positions.
 use Rattle.std.specs.Prelude.{◌≡◌, ◌≢◌, ◌⊎◌, Option, Some, None}
-use Rattle.std.specs.Ordering.{nat_cmp}
-use Rattle.std.specs.Cmp.Lexicographic.{slice_cmp}
-use Rattle.std.specs.declared.cmp.Ordering.TheVariants.{Less}
 use Rattle.canvas_model.specs.declared.ObjId.{ObjId}
 use Rattle.canvas_model.specs.Position.{IsPosition}
+use Rattle.canvas_model.specs.Order.{IsBefore, IsAfter}
 use Rattle.canvas_model.specs.Document.{Doc, Place, Pos, place_of}
-
--- positions stand in the order of their bytes, which is the order of their fractions
-abbrev pub IsBefore : Pos → Pos → Type 0
-IsBefore p q = slice_cmp nat_cmp p q ≡ Less
 
 -- q is a child of this parent other than `except`, at this position
 abbrev pub IsSibling : Doc → ObjId → ObjId → ObjId → Pos → Type 0
@@ -30,11 +24,6 @@ Gets d id ask got = (got.parent ≡ ask.parent) × ((got.pos ≡ ask.pos) × (Is
 -- the asked place is taken, and no position is free
 abbrev pub HasNoRoom : Doc → ObjId → Place → Type 0
 HasNoRoom d id ask = IsTaken d ask.parent id ask.pos × ((pos : Pos) → IsFree d ask.parent id ask.pos pos → ⊥)
-
--- the position is above this one, if there is one
-abbrev pub IsAfter : Option Pos → Pos → Type 0
-IsAfter None p = Unit {0}
-IsAfter (Some low) p = IsBefore low p
 
 -- the least position of another child above this one (or of all, at none), if there is one
 abbrev pub IsNext : Doc → ObjId → ObjId → Option Pos → Option Pos → Type 0

@@ -86,6 +86,10 @@ Holds s author change BadParent = AtPlace (asked change) (λ place. MayNotStand 
 Holds s author change Cycle = AtPlace (asked change) (IsCircular s.doc change)
 Holds s author change Crowded = AtPlace (asked change) (HasNoRoom s.doc (object_of change))
 
+-- no reason before the n-th holds
+abbrev pub NoneBefore : State → ℕ → Change → ℕ → Type 0
+NoneBefore s author change n = (reason : Reason) → number_of reason < n → Holds s author change reason → ⊥
+
 -- the place that a refused Move carries: where its object stands, which is nowhere for the root and for what isn't live
 abbrev pub stands : Doc → Change → Option Place
 stands d (Create id kind place) = None
@@ -103,5 +107,5 @@ Accepted d _ _ = ⊥
 
 -- the outcome refuses for the first reason that holds, or grants where none does
 abbrev pub Verdict : State → ℕ → Change → Outcome → Type 0
-Verdict s author change (Refused reason place) = Holds s author change reason × ((earlier : Reason) → number_of earlier < number_of reason → Holds s author change earlier → ⊥) × (place ≡ stands s.doc change)
+Verdict s author change (Refused reason place) = Holds s author change reason × NoneBefore s author change (number_of reason) × (place ≡ stands s.doc change)
 Verdict s author change outcome = ((reason : Reason) → Holds s author change reason → ⊥) × Accepted s.doc change outcome
