@@ -4,6 +4,7 @@ pub mod Order
 pub mod Ids
 pub mod Value
 pub mod Document
+pub mod Text
 pub mod Chain
 pub mod Sibling
 pub mod Change

@@ -16,12 +16,15 @@ digits-drop zero s h = h
 digits-drop (suc n) [] h = h
 digits-drop (suc n) (x ∷ xs) h = digits-drop n xs (digits-tail x xs h)
 
+-- a power in two factors
 pub power-split : (n l : ℕ) → n ≤ l → 95 ^ l ≡ 95 ^ n * 95 ^ (l - n)
 power-split n l h = ap (λ e. 95 ^ e) (let e : l ≡ n + (l - n) = omega arith in e) ∙ pow-add 95 n (l - n)
 
+-- the first l digits are the first n, and the rest
 pub num-split : (s : List ℕ) (n l : ℕ) → n ≤ l → num s l ≡ num s n * 95 ^ (l - n) + num (drop n s) (l - n)
 num-split s n l h = ap (num s) (let e : l ≡ n + (l - n) = omega arith in e) ∙ num-add s n (l - n)
 
+-- past the end the number grows by powers of 95
 pub num-long : (s : List ℕ) (n l : ℕ) → length s ≤ n → n ≤ l → num s l ≡ num s n * 95 ^ (l - n)
 num-long s n l h k = ap (num s) (let e : l ≡ n + (l - n) = omega arith in e) ∙ num-past s n (l - n) h
 

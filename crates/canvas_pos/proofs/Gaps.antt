@@ -1,17 +1,14 @@
 -- What lies between the ends, by their first digits.
-use Rattle.std.proofs.Common.{◌≡◌, ℕ, ◌+◌, ◌-◌, ◌*◌, ◌/◌, ◌^◌, ◌<◌, ◌≤◌, max, List, length, refl, ◌∙◌, arith, All, Option, Some, None, inl, inr, IfSome, below_more}
+use Rattle.std.proofs.Common.{◌≡◌, ℕ, ◌+◌, ◌-◌, ◌*◌, ◌/◌, ◌^◌, ◌<◌, ◌≤◌, max, List, length, refl, ◌∙◌, arith, All, Option, Some, None, inl, inr, below_more}
 use Rattle.std.proofs.lemmas.Bool.{cases_lt}
-use Rattle.canvas_model.specs.Position.{IsDigitByte, IsPosition, IsSmaller, num}
+use Rattle.canvas_model.specs.Position.{IsDigitByte, IsSmaller, num}
 use Rattle.canvas_model.specs.Middle.{IsLess, fraction, lower, upper, AreInOrder, LiesBetween, IsShut, IsMiddle}
-use Rattle.canvas_pos.specs.Ends.{floor, ceiling, IsNarrow, Opens}
+use Rattle.canvas_pos.specs.Ends.{IsEnd, floor, ceiling, IsNarrow, Opens}
 use Rattle.canvas_pos.proofs.Numbers.{num-zero, num-below}
 use Rattle.canvas_pos.proofs.Products.{le-trans-fraction, less-common, common-less}
 use Rattle.canvas_pos.proofs.EndsLemmas.{power-pos, power-split, num-pos, num-long, above-from, above-to, below-from, below-to}
 
--- an end that is there is a position
-abbrev pub IsEnd : Option (List ℕ) → Type 0
-IsEnd o = IfSome o IsPosition
-
+-- m / 95^n is above the lower end exactly where m is above its floor
 pub lower-from : (lo : Option (List ℕ)) (n m : ℕ) → IsEnd lo → floor lo n < m → IsLess (lower lo) (record { top = m; bottom = 95 ^ n })
 lower-from None n m e h = omega arith
 lower-from (Some s) n m e h = above-from s n m e.digits h
@@ -20,6 +17,7 @@ pub lower-to : (lo : Option (List ℕ)) (n m : ℕ) → IsEnd lo → m ≤ floor
 lower-to None n m e h = omega arith
 lower-to (Some s) n m e h = above-to s n m e.digits h
 
+-- m / 95^n is below the upper end exactly where m is below its ceiling
 pub upper-from : (hi : Option (List ℕ)) (n m : ℕ) → IsEnd hi → m < ceiling hi n → IsLess (record { top = m; bottom = 95 ^ n }) (upper hi)
 upper-from None n m e h = omega arith
 upper-from (Some t) n m e h = below-from t n m e.digits e.last h
@@ -28,6 +26,7 @@ pub upper-to : (hi : Option (List ℕ)) (n m : ℕ) → IsEnd hi → ceiling hi 
 upper-to None n m e h = omega arith
 upper-to (Some t) n m e h = below-to t n m e.digits h
 
+-- what lies between the ends is what is above the floor and below the ceiling
 pub lies-from : (lo hi : Option (List ℕ)) (n m : ℕ) → IsEnd lo → IsEnd hi → floor lo n < m → m < ceiling hi n → LiesBetween lo hi n m
 lies-from lo hi n m e f h k = record { above = lower-from lo n m e h; below = upper-from hi n m f k }
 
@@ -52,6 +51,21 @@ smaller-less s t h =
     less-common (num s (length s)) (num t (length t)) (95 ^ length s) (95 ^ length t) (95 ^ (n - length s)) (95 ^ (n - length t)) (95 ^ n)
     (power-pos (length s)) (power-pos (length t)) (power-split (length s) n (omega arith)) (power-split (length t) n (omega arith)) (omega arith)
 
+-- the other way round
+pub less-smaller : (s t : List ℕ) → IsLess (fraction s) (fraction t) → IsSmaller s t
+less-smaller s t h =
+    let n = max (length s) (length t) in
+    let left : num s n ≡ num s (length s) * 95 ^ (n - length s) = num-long s (length s) n (omega arith) (omega arith) in
+    let right : num t n ≡ num t (length t) * 95 ^ (n - length t) = num-long t (length t) n (omega arith) (omega arith) in
+    omega (
+      arith,
+      left,
+      right,
+      common-less (num s (length s)) (num t (length t)) (95 ^ length s) (95 ^ length t) (95 ^ (n - length s)) (95 ^ (n - length t)) (95 ^ n)
+          (power-pos n) (power-split (length s) n (omega arith)) (power-split (length t) n (omega arith)) h,
+    )
+
+-- ends in order are in order as fractions, missing ones too
 pub ends-less : (lo hi : Option (List ℕ)) → IsEnd lo → IsEnd hi → AreInOrder lo hi → IsLess (lower lo) (upper hi)
 ends-less None None e f h = omega arith
 ends-less None (Some t) e f h = omega (arith, num-pos t (length t) f.not_empty (omega arith) f.digits f.last)
@@ -69,6 +83,7 @@ apart lo hi n e f h = elim (cases_lt (floor lo n) (ceiling hi n)) [
       absurd (omega (arith, ends-less lo hi e f h))
 ]
 
+-- with no digits, the ends are 0 and 1
 pub floor-zero : (lo : Option (List ℕ)) → floor lo 0 ≡ 0
 floor-zero None = refl
 floor-zero (Some s) = num-zero s
@@ -77,6 +92,7 @@ pub ceiling-zero : (hi : Option (List ℕ)) → IsEnd hi → ceiling hi 0 ≡ 1
 ceiling-zero None f = refl
 ceiling-zero (Some t) f = omega (arith, num-zero t, f.not_empty)
 
+-- so they are next to each other
 pub narrow-zero : (lo hi : Option (List ℕ)) → IsEnd lo → IsEnd hi → IsNarrow lo hi 0
 narrow-zero lo hi e f = record {
   shut = λ k h. absurd (omega arith);
@@ -128,16 +144,3 @@ middle-opens lo hi n last p o h len digits value = record {
   is_greatest = rw len o.is_greatest;
   half_way = rw len (value ∙ o.half_way);
 }
-
-pub less-smaller : (s t : List ℕ) → IsLess (fraction s) (fraction t) → IsSmaller s t
-less-smaller s t h =
-    let n = max (length s) (length t) in
-    let left : num s n ≡ num s (length s) * 95 ^ (n - length s) = num-long s (length s) n (omega arith) (omega arith) in
-    let right : num t n ≡ num t (length t) * 95 ^ (n - length t) = num-long t (length t) n (omega arith) (omega arith) in
-    omega (
-      arith,
-      left,
-      right,
-      common-less (num s (length s)) (num t (length t)) (95 ^ length s) (95 ^ length t) (95 ^ (n - length s)) (95 ^ (n - length t)) (95 ^ n)
-          (power-pos n) (power-split (length s) n (omega arith)) (power-split (length t) n (omega arith)) h,
-    )

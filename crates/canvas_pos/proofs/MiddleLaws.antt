@@ -1,15 +1,17 @@
--- What the middle is: a position, strictly between the ends, and the only one.
-use Rattle.std.proofs.Common.{◌≡◌, ℕ, suc, ◌-◌, ◌*◌, ◌<◌, ◌≤◌, max, List, length, ap, sym, subst, ◌∙◌, arith, Option, Some, None, inl, inr}
+-- What the middle is: a position, strictly between the ends, short, and the only one.
+use Rattle.std.proofs.Common.{◌≡◌, ℕ, zero, suc, ◌+◌, ◌-◌, ◌*◌, ◌<◌, ◌≤◌, max, List, [], ◌∷◌, length, codes, All, add-one, refl, ap, sym, subst, ◌∙◌, arith, Option, Some, None, inl, inr}
 use Rattle.std.proofs.Math.Nat.{pow-suc, mul-le-mul_right, lt_of_mul-lt-mul_right}
 use Rattle.std.proofs.lemmas.Bool.{cases_lt, cases_order}
+use Rattle.std.proofs.lemmas.List.{get_or_past}
 use Rattle.std.specs.declared.cmp.Ordering.TheVariants.{Less, Equal, Greater}
 use Rattle.std.specs.Ordering.{MatchOrdering, nat_cmp}
 use Rattle.std.specs.Cmp.Lexicographic.{slice_cmp}
-use Rattle.canvas_model.specs.Position.{IsPosition, IsSmaller, digit, num}
+use Rattle.canvas_model.specs.Position.{IsDigitByte, IsPosition, IsSmaller, digit, num}
 use Rattle.canvas_model.specs.Middle.{IsLess, fraction, lower, upper, AreInOrder, LiesBetween, IsShut, IsMiddle, IsInside}
-use Rattle.canvas_pos.proofs.Numbers.{num-suc, num-below}
+use Rattle.canvas_pos.proofs.Numbers.{num-suc, num-next, num-below}
 use Rattle.canvas_pos.proofs.EndsLemmas.{num-pos}
-use Rattle.canvas_pos.proofs.Gaps.{IsEnd, lies-above, lies-below, floor-zero, ceiling-zero, less-smaller, smaller-less}
+use Rattle.canvas_pos.specs.Ends.{IsEnd, end_length, floor, ceiling, Opens}
+use Rattle.canvas_pos.proofs.Gaps.{apart, narrow-zero, opens-suc, middle-opens, lies-from, lies-above, lies-below, floor-zero, ceiling-zero, less-smaller, smaller-less}
 use Rattle.canvas_pos.proofs.Order.{order-positions}
 
 -- what lies between two numbers that lie between the ends lies there too
@@ -32,6 +34,7 @@ lies-shorter lo hi n m h = record {
   below = lt_of_mul-lt-mul_right 95 (omega (arith, h.below, ap (λ e. (upper hi).top * e) (pow-suc 95 n)));
 }
 
+-- the middle is a position
 pub middle-position : (lo hi : Option (List ℕ)) (p : List ℕ) → IsEnd lo → IsEnd hi → IsMiddle lo hi p → IsPosition p
 middle-position lo hi p e f h =
     let lies : LiesBetween lo hi (length p) (num p (length p)) = lies-middle lo hi p h in
@@ -54,10 +57,12 @@ middle-position lo hi p e f h =
           h.least_length (length p - 1) (omega arith) (num p (length p - 1)) (lies-shorter lo hi (length p - 1) (num p (length p - 1)) longer);
     }
 
+-- it is above the lower end
 above-middle : (lo hi : Option (List ℕ)) (p : List ℕ) → LiesBetween lo hi (length p) (num p (length p)) → AreInOrder lo (Some p)
 above-middle None hi p l = tt
 above-middle (Some s) hi p l = less-smaller s p l.above
 
+-- and below the upper one
 below-middle : (lo hi : Option (List ℕ)) (p : List ℕ) → LiesBetween lo hi (length p) (num p (length p)) → AreInOrder (Some p) hi
 below-middle lo None p l = tt
 below-middle lo (Some t) p l = less-smaller p t l.below
@@ -87,6 +92,31 @@ shut-outside lo hi h p i =
       below = below-inside hi p i.position i.below;
     })
 
+-- past its end an end has zeros
+floor-past : (lo : Option (List ℕ)) (n : ℕ) → end_length lo ≤ n → floor lo (n + 1) ≡ 95 * floor lo n
+floor-past None n h = refl
+floor-past (Some s) n h =
+    let none : digit s n ≡ 0 = ap (λ b. b - 32) (get_or_past s n 32 h) in
+    omega (arith, num-next s n, none)
+
+ceiling-past : (hi : Option (List ℕ)) (n : ℕ) → end_length hi ≤ n → ceiling hi (n + 1) ≡ 95 * ceiling hi n
+ceiling-past None n h = rw (add-one, pow-suc) (omega arith)
+ceiling-past (Some t) n h =
+    let none : digit t n ≡ 0 = ap (λ b. b - 32) (get_or_past t n 32 h) in
+    omega (arith, num-next t n, none)
+
+-- at one digit more than the longer end there is room
+pub middle-short : (lo hi : Option (List ℕ)) (p : List ℕ) → IsEnd lo → IsEnd hi → AreInOrder lo hi → IsMiddle lo hi p → length p ≤ max (end_length lo) (end_length hi) + 1
+middle-short lo hi p e f o h =
+    let n = max (end_length lo) (end_length hi) in
+    let low : floor lo (n + 1) ≡ 95 * floor lo n = floor-past lo n (omega arith) in
+    let high : ceiling hi (n + 1) ≡ 95 * ceiling hi n = ceiling-past hi n (omega arith) in
+    let gap : floor lo n < ceiling hi n = apart lo hi n e f o in
+    elim (cases_lt (n + 1) (length p)) [
+      | inl lt ↦ absurd (h.least_length (n + 1) lt (floor lo (n + 1) + 1) (lies-from lo hi (n + 1) (floor lo (n + 1) + 1) e f (omega arith) (omega arith)))
+      | inr ge ↦ ge
+    ]
+
 -- positions of one length with one number are the same
 same-number : (p q : List ℕ) → IsPosition p → IsPosition q → length p ≡ length q → num p (length p) ≡ num q (length p) → p ≡ q
 same-number p q a b len e =
@@ -111,3 +141,14 @@ middle-unique lo hi p q e f h k =
     let one : num p (length p) ≡ num q (length q) =
     omega (arith, h.half_way, k.half_way, h.is_least.least k.least k-least, k.is_least.least h.least h-least, h.is_greatest.greatest k.greatest k-greatest, k.is_greatest.greatest h.greatest h-greatest) in
     same-number p q (middle-position lo hi p e f h) (middle-position lo hi q e f k) len (one ∙ ap (num q) (sym len))
+
+one-digit : (b : ℕ) → IsDigitByte b → All IsDigitByte (b ∷ [])
+one-digit b h zero d l = h
+one-digit b h (suc k) d l = absurd (omega arith)
+
+-- with no ends, `O`
+pub middle-alone : IsMiddle None None (codes "O")
+unfolding num
+middle-alone =
+    let opens : Opens None None 0 47 = opens-suc None None 0 0 95 tt tt (narrow-zero None None tt tt) refl refl (omega arith) in
+    middle-opens None None 0 47 (codes "O") opens (omega arith) refl (one-digit 79 (record { low = omega arith; high = omega arith })) refl

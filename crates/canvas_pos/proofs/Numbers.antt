@@ -14,6 +14,7 @@ sum_below-scaled n (suc k) d h =
     let power : 95 ^ (suc n - 1 - k) ≡ 95 ^ (n - 1 - k) * 95 = ap (λ e. 95 ^ e) (let e : suc n - 1 - k ≡ suc (n - 1 - k) = omega arith in e) ∙ pow-suc 95 (n - 1 - k) in
     rw power (omega (arith, rest))
 
+-- no digit read, no number
 pub num-zero : (s : List ℕ) → num s 0 ≡ 0
 unfolding num
 num-zero s = refl
@@ -33,6 +34,7 @@ num-cons x xs (suc n) =
     let rest : num (x ∷ xs) (suc n) ≡ (x - 32) * 95 ^ n + num xs n = num-cons x xs n in
     rw pow-suc (omega (arith, num-suc (x ∷ xs) (suc n), num-suc xs n, rest))
 
+-- no digits, no number
 pub num-empty : (n : ℕ) → num [] n ≡ 0
 num-empty zero = num-zero []
 num-empty (suc n) = omega (arith, num-suc [] n, num-empty n)
@@ -56,7 +58,7 @@ num-add s n zero = rw (add-zero, num-zero, pow-zero) (omega arith)
 num-add s n (suc k) =
     let at : digit (drop n s) k ≡ digit s (n + k) = ap (λ b. b - 32) (get_or-drop n s k 32) in
     let rest : num s (n + k) ≡ num s n * 95 ^ k + num (drop n s) k = num-add s n k in
-    rw (add-suc, num-suc, num-suc, rest, pow-suc) (omega (arith, at))
+    rw (add-suc, num-suc s (n + k), num-suc (drop n s) k, rest, pow-suc) (omega (arith, at))
 
 -- past the end the number grows by 95
 pub num-past : (s : List ℕ) (n k : ℕ) → length s ≤ n → num s (n + k) ≡ num s n * 95 ^ k
@@ -66,12 +68,14 @@ num-past s n k h = rw (num-add, drop_of_length-le s h, num-empty) (omega arith)
 pub num-next : (s : List ℕ) (n : ℕ) → num s (n + 1) ≡ 95 * num s n + digit s n
 num-next s n = rw add-one (num-suc s n)
 
+-- the first n digits stay where more are added after them
 pub num-append : (s t : List ℕ) (n : ℕ) → n ≤ length s → num (s ++ t) n ≡ num s n
 num-append s t zero h = num-zero (s ++ t) ∙ sym (num-zero s)
 num-append s t (suc n) h =
     let at : digit (s ++ t) n ≡ digit s n = ap (λ b. b - 32) (get_or-append s t 32 n h) in
     omega (arith, num-suc (s ++ t) n, num-suc s n, num-append s t n (omega arith))
 
+-- one more digit added at the end
 pub num-push : (s : List ℕ) (b n : ℕ) → length s ≡ n → num (s ++ b ∷ []) (n + 1) ≡ 95 * num s n + (b - 32)
 num-push s b n e =
     let at : get_or (s ++ b ∷ []) n 32 ≡ b = ap (λ j. get_or (s ++ b ∷ []) j 32) (sym e) ∙ get_or-append_seam s b [] 32 in

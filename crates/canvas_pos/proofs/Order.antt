@@ -1,5 +1,5 @@
 -- The order of the bytes of positions is that of their fractions.
-use Rattle.std.proofs.Common.{◌≡◌, ◌≢◌, ℕ, zero, suc, ◌+◌, ◌-◌, ◌*◌, ◌^◌, ◌<◌, ◌≤◌, max, List, [], ◌∷◌, length, get_or, refl, ap, sym, subst, ◌∙◌, arith, All}
+use Rattle.std.proofs.Common.{◌≡◌, ◌≢◌, ◌↔◌, Option, Some, None, ℕ, zero, suc, ◌+◌, ◌-◌, ◌*◌, ◌^◌, ◌<◌, ◌≤◌, max, List, [], ◌∷◌, length, get_or, refl, ap, sym, subst, ◌∙◌, arith, All}
 use Rattle.std.proofs.Math.Nat.{mul-le-mul_right}
 use Rattle.std.specs.declared.cmp.Ordering.{Ordering}
 use Rattle.std.specs.declared.cmp.Ordering.TheVariants.{Less, Equal, Greater}
@@ -7,6 +7,9 @@ use Rattle.std.specs.Ordering.{MatchOrdering, nat_cmp, ordering_then}
 use Rattle.std.specs.Cmp.{ranks}
 use Rattle.std.specs.Cmp.Lexicographic.{slice_cmp}
 use Rattle.canvas_model.specs.Position.{IsDigitByte, IsPosition, IsSmaller, num}
+use Rattle.canvas_model.specs.Middle.{AreInOrder, IsInside}
+use Rattle.canvas_model.specs.Order.{IsBefore, IsAfter, IsUnder, AreApart, FitsBetween}
+use Rattle.canvas_pos.specs.Ends.{IsEnd}
 use Rattle.canvas_pos.proofs.Numbers.{num-cons, num-empty, num-below, digits-tail}
 use Rattle.canvas_pos.proofs.EndsLemmas.{num-pos, power-pos}
 use Rattle.canvas_pos.proofs.Products.{less-trans-fraction}
@@ -17,12 +20,14 @@ record IsTrimmed (s : List ℕ) : Type 0 where
   digits : All IsDigitByte s
   last : 0 < length s → get_or s (length s - 1) 32 ≢ 32
 
+-- the rest of such digits ends so too
 trimmed-tail : (x : ℕ) (xs : List ℕ) → IsTrimmed (x ∷ xs) → IsTrimmed xs
 trimmed-tail x xs h = record {
   digits = digits-tail x xs h.digits;
   last = λ l e. h.last (omega arith) (ap (λ k. get_or (x ∷ xs) k 32) (let e : suc (length xs) - 1 ≡ suc (length xs - 1) = omega arith in e) ∙ e);
 }
 
+-- each case of a comparison follows from that of another
 match_then : (o : Ordering) {P Q R S T U : Type 0} → (P → S) → (Q → T) → (R → U) → MatchOrdering o P Q R → MatchOrdering o S T U
 match_then Less f g h m = f m
 match_then Equal f g h m = g m
@@ -36,11 +41,13 @@ first-decides x y xs ys n d h =
     let first : (x - 32 + 1) * 95 ^ n ≤ (y - 32) * 95 ^ n = mul-le-mul_right (95 ^ n) (omega arith) in
     omega (arith, num-cons x xs n, num-cons y ys n, rest, first)
 
+-- a first digit that is the same leaves it to the rest
 same-first : (x y : ℕ) (xs ys : List ℕ) (n : ℕ) → x ≡ y → num xs n < num ys n → num (x ∷ xs) (suc n) < num (y ∷ ys) (suc n)
 same-first x y xs ys n e h =
     let first : (x - 32) * 95 ^ n ≡ (y - 32) * 95 ^ n = ap (λ b. (b - 32) * 95 ^ n) e in
     omega (arith, num-cons x xs n, num-cons y ys n, first)
 
+-- digits with no 0 at their end compare as their numbers do
 ordered : (s t : List ℕ) (n : ℕ) → IsTrimmed s → IsTrimmed t → length s ≤ n → length t ≤ n
     → MatchOrdering (slice_cmp nat_cmp s t) (num s n < num t n) (s ≡ t) (num t n < num s n)
 ordered [] [] n a b h k = refl
@@ -79,8 +86,33 @@ cmp-from_smaller s t p q l =
       | Greater ↦ λ g. absurd (let same : max (length t) (length s) ≡ max (length s) (length t) = omega arith in let m : num t (max (length s) (length t)) < num s (max (length s) (length t)) = rw same at g in omega arith)
     ] (order-positions s t p q)
 
--- needs no positions
+-- the order of fractions is transitive, also where they are written with a 0 at the end
 pub smaller-trans : (s t u : List ℕ) → IsSmaller s t → IsSmaller t u → IsSmaller s u
 smaller-trans s t u a b =
     less-smaller s u (less-trans-fraction (num s (length s)) (95 ^ length s) (num t (length t)) (95 ^ length t) (num u (length u)) (95 ^ length u)
     (power-pos (length s)) (power-pos (length u)) (smaller-less s t a) (smaller-less t u b))
+
+-- byte order is the order of fractions, both ways
+pub before-smaller : (s t : List ℕ) → IsPosition s → IsPosition t → IsBefore s t ↔ IsSmaller s t
+before-smaller s t p q = (smaller-from_cmp s t p q, cmp-from_smaller s t p q)
+
+-- the same for an end that may be missing
+after-above : (lo : Option (List ℕ)) (p : List ℕ) → IsEnd lo → IsPosition p → IsAfter lo p ↔ AreInOrder lo (Some p)
+after-above None p e h = (λ _. tt, λ _. tt)
+after-above (Some s) p e h = before-smaller s p e h
+
+under-below : (p : List ℕ) (hi : Option (List ℕ)) → IsPosition p → IsEnd hi → IsUnder hi p ↔ AreInOrder (Some p) hi
+under-below p None h f = (λ _. tt, λ _. tt)
+under-below p (Some t) h f = before-smaller p t h f
+
+-- and for two ends
+pub apart-in_order : (lo hi : Option (List ℕ)) → IsEnd lo → IsEnd hi → AreApart lo hi ↔ AreInOrder lo hi
+apart-in_order None hi e f = (λ _. tt, λ _. tt)
+apart-in_order (Some s) hi e f = under-below s hi e f
+
+-- and for a position between two ends
+pub fits-inside : (lo hi : Option (List ℕ)) (p : List ℕ) → IsEnd lo → IsEnd hi → FitsBetween lo hi p ↔ IsInside lo hi p
+fits-inside lo hi p e f = (
+  λ h. record { position = h.0; above = (after-above lo p e h.0).0 h.1; below = (under-below p hi h.0 f).0 h.2 },
+  λ h. (h.position, (after-above lo p e h.position).1 h.above, (under-below p hi h.position f).1 h.below),
+)

@@ -6,11 +6,13 @@ use Rattle.std.proofs.lemmas.Str.{IsUtf8-from_ascii}
 use Rattle.std.specs.Str.{IsAscii, IsUtf8}
 use Rattle.canvas_model.specs.Position.{IsDigitByte, IsPosition}
 
+-- its bytes are ASCII
 pub IsAscii-position : (s : List ℕ) → IsPosition s → IsAscii s
 IsAscii-position s h = λ i. elim (cases_lt i (length s)) [
   | inl lt ↦ let here : IsDigitByte (get_or s i 0) = h.digits i 0 lt in omega arith
   | inr ge ↦ omega (arith, get_or_past s i 0 ge)
 ]
 
+-- and so UTF-8
 pub IsUtf8-position : (s : List ℕ) → IsPosition s → IsUtf8 s
 IsUtf8-position s h = IsUtf8-from_ascii s (IsAscii-position s h)

@@ -1,7 +1,16 @@
--- What of the ends of a gap counts at each length.
-use Rattle.std.specs.Prelude.{◌≡◌, ℕ, ◌+◌, ◌-◌, ◌*◌, ◌/◌, ◌^◌, ◌<◌, min, List, length, Option, Some, None}
-use Rattle.canvas_model.specs.Position.{num}
+-- The ends of a gap between positions, and where the gap is wide enough for another.
+use Rattle.std.specs.Prelude.{◌≡◌, ℕ, ◌+◌, ◌-◌, ◌*◌, ◌/◌, ◌^◌, ◌<◌, min, List, length, Option, Some, None, IfSome}
+use Rattle.canvas_model.specs.Position.{IsPosition, num}
 use Rattle.canvas_model.specs.Middle.{LiesBetween, IsShut, IsLeast, IsGreatest}
+
+-- an end that is there is a position
+abbrev pub IsEnd : Option (List ℕ) → Type 0
+IsEnd end = IfSome end IsPosition
+
+-- how many digits an end has
+abbrev pub end_length : Option (List ℕ) → ℕ
+end_length None = 0
+end_length (Some s) = length s
 
 -- the greatest m for which m / 95^n isn't above the lower end
 abbrev pub floor : Option (List ℕ) → ℕ → ℕ
@@ -13,12 +22,12 @@ abbrev pub ceiling : Option (List ℕ) → ℕ → ℕ
 ceiling None n = 95 ^ n
 ceiling (Some t) n = num t n + min 1 (length t - n)
 
--- the ends have less than two numbers between them up to this length
+-- at n digits the ends are next to each other, and nothing shorter lies between them
 pub record IsNarrow (lo hi : Option (List ℕ)) (n : ℕ) : Type 0 where
   pub shut : (k : ℕ) → k < n → IsShut lo hi k
   pub next : ceiling hi n ≡ floor lo n + 1
 
--- the first length at which anything lies between the ends, and the last digit of what is half way there
+-- something lies between the ends first at `before + 1` digits, and what is half way there ends in `last`
 pub record Opens (lo hi : Option (List ℕ)) (before last : ℕ) : Type 0 where
   pub shut : (k : ℕ) → k < before + 1 → IsShut lo hi k
   pub least : ℕ

@@ -4,13 +4,13 @@ use Rattle.canvas_model.specs.Position.{IsDigitByte, IsPosition}
 use Rattle.canvas_pos.specs.declared.PosError.{PosError}
 use Rattle.canvas_pos.specs.declared.PosError.TheVariants.{Empty, TooLong, BadByte, TrailingZero, Memory}
 
--- the first byte that stands for no digit
+-- the byte at i is the first that stands for no digit
 pub record IsFirstBad (s : List ℕ) (i : ℕ) : Type 0 where
   pub within : i < length s
   pub bad : ¬ IsDigitByte (slice_index_or s i 32)
   pub before : (k : ℕ) → k < i → IsDigitByte (slice_index_or s k 32)
 
--- each fault is asked for where the earlier ones don't hold; want of memory only at a position
+-- the first fault of the bytes, or want of memory where they are a position
 abbrev pub IsFault : List ℕ → PosError → Type 0
 IsFault s Empty = length s ≡ 0
 IsFault s TooLong = 128 < length s

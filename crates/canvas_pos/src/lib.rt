@@ -1,18 +1,27 @@
-//! Positions of children: fractions between 0 and 1, of which there is always one more in between.
+//! The positions of an object's children: fractions strictly between 0 and 1, and the fraction half way between two of them.
+//!
+//! A position is the digits of its fraction in base 95, after the point: the bytes from space to `~` stand for 0 to 94. It doesn't end in a 0, so a
+//! fraction has one spelling, and the order of the bytes is the order of the fractions. The article "Realtime editing of ordered sequences" (2017)
+//! publishes this order, with fractions of any length in base 95; here a position has at most 128 bytes.
 #![tactic(auto)]
 
-ghost use Rattle.std.specs.Prelude.{◌≡◌, ℕ, ◌+◌, ◌-◌, ◌*◌, ◌<◌, ◌≤◌, length, slice_index_or, nat_eq, refl, ◌↔◌, List, All, IfOk, IfErr, IfSome, IfNone, IsTrue, Some};
+ghost use Rattle.std.specs.Prelude.{◌≡◌, ◌↔◌, ℕ, ◌+◌, ◌*◌, ◌<◌, ◌≤◌, length, nat_eq, refl, All, IfOk, IfErr, IfSome, IfNone, IsTrue, Some};
 ghost use Rattle.std.specs.Option.{option_copied};
-ghost use Rattle.std.specs.Ordering.{nat_cmp, MatchOrdering};
-ghost use Rattle.std.specs.Cmp.{on_equiv, on_total, on_po, on_per, partial_equiv_from_equiv};
+ghost use Rattle.std.specs.Ordering.{nat_cmp};
+ghost use Rattle.std.specs.Cmp.{partial_equiv_from_equiv};
 ghost use Rattle.std.specs.Cmp.Lexicographic.{pointwise, slice_cmp, nat_list_eq_equiv, nat_list_cmp_total, texts_po, texts_ties};
 ghost use Rattle.std.specs.Cmp.Rules.{hashing};
+ghost use Rattle.std.specs.Fmt.{debug_str};
 ghost use Rattle.std.specs.Hash as fed;
 ghost use Rattle.std.proofs.Common.{rules};
-ghost use Rattle.canvas_model.specs.Position.{digit, num, IsDigitByte, IsPosition, IsSmaller};
-ghost use Rattle.canvas_model.specs.Middle.{AreInOrder, IsShut, IsMiddle, IsInside, Middle};
-ghost use Rattle.canvas_pos.specs.Ends.{floor, ceiling, Opens};
+ghost use Rattle.canvas_model.specs.Position.{digit, num, IsDigitByte, IsPosition};
+ghost use Rattle.canvas_model.specs.Middle.{AreInOrder, IsShut, Middle};
+ghost use Rattle.canvas_model.specs.Order.{AreApart, FitsBetween};
+ghost use Rattle.canvas_pos.specs.Ends.{IsEnd, floor, ceiling, Opens};
 ghost use Rattle.canvas_pos.specs.Fault.{IsFault};
+ghost use Rattle.canvas_pos.specs.Laws.{ComparesAsFractions, IsOnlyMiddle, NoneFits};
+ghost use Rattle.canvas_pos.specs.Laws.{BytesCompareAsFractions, BeforeIffSmaller, ApartIffInOrder, FitsIffInside, SmallerIsTransitive};
+ghost use Rattle.canvas_pos.specs.Laws.{EachMiddleIsPosition, EachMiddleIsInside, EachMiddleIsOnly, EachMiddleIsShort, ShutEndsHoldNone, MiddleOfAll};
 
 use std::alloc::{AllocError, Allocator, Global};
 use std::cmp::Ordering;
@@ -24,22 +33,29 @@ use thiserror::Error;
 /// The most bytes that a position has.
 pub const MAX_LEN: usize = 128;
 
-/// Why bytes are no position: the first reason that holds.
+/// Why [`Pos::read`] gives no position: the first reason that holds, in this order.
 #[derive(Clone, Copy, Debug, PartialEq, Eq, Error)]
 pub enum PosError {
+    /// There are no bytes.
     #[error("a position has at least one byte")]
     Empty,
+    /// There are more than 128 bytes.
     #[error("a position has at most 128 bytes")]
     TooLong,
+    /// The byte at this index, counted from 0, is the first that isn't from space to `~`.
     #[error("byte {0} of a position isn't printable ASCII")]
     BadByte(usize),
+    /// The last byte is a space, the digit 0.
     #[error("a position doesn't end in a space")]
     TrailingZero,
+    /// The bytes are a position, and the memory for them was refused.
     #[error("out of memory")]
     Memory,
 }
 
 /// A place among the children of an object: a fraction strictly between 0 and 1.
+///
+/// A contract sees it as its bytes.
 #[derive(Drop)]
 pub struct Pos<A: Allocator = Global> {
     bytes: Vec<u8, A>,
@@ -58,10 +74,16 @@ impl<A: Allocator> Model for Pos<A> {
 }
 
 impl<A: Allocator> Pos<A> {
-    /// Reads a position, or says why the bytes are none.
+    /// Reads a position, as a copy of the bytes.
+    ///
+    /// It accepts exactly the positions: 1 to 128 bytes from space to `~`, the last of which isn't a space. Of anything else it gives the first
+    /// of `Empty`, `TooLong`, `BadByte` and `TrailingZero` that holds. `Memory` comes only where the bytes are a position and memory was refused.
     pub fn read(alloc: A, bytes: &[u8]) -> Result<Pos<A>, PosError>
         ensures ok { IfOk result (λ p. p ≡ bytes.now) }
         ensures position { IfOk result IsPosition }
+
+        // A position is refused for want of memory alone.
+        ensures only_memory { IsPosition bytes.now → IfErr result (λ e. e ≡ PosError.Memory) }
         ensures fault { IfErr result (IsFault bytes.now) }
     {
         if bytes.is_empty() {
@@ -71,11 +93,11 @@ impl<A: Allocator> Pos<A> {
             return Err(PosError::TooLong);
         }
         for (i, b) in bytes.iter().enumerate() {
-            if *b < 32 || *b > 126 {
+            if *b < b' ' || *b > b'~' {
                 return Err(PosError::BadByte(i));
             }
         }
-        if bytes[bytes.len() - 1] == 32 {
+        if bytes[bytes.len() - 1] == b' ' {
             return Err(PosError::TrailingZero);
         }
         match Vec::from_slice(alloc, bytes) {
@@ -84,7 +106,7 @@ impl<A: Allocator> Pos<A> {
         }
     }
 
-    /// The bytes of the position.
+    /// The bytes of the position: 1 to 128, from space to `~`.
     pub fn bytes(&self) -> &[u8]
         ensures value { result.now ≡ self.now }
         ensures position { IsPosition self.now }
@@ -96,17 +118,17 @@ impl<A: Allocator> Pos<A> {
     pub fn as_str(&self) -> &str
         ensures { result.now ≡ self.now }
     {
-        match str::from_utf8(self.bytes.as_slice()) {
+        match str::from_utf8(self.bytes()) {
             Ok(text) => text,
             Err(_) => unreachable!(),
         }
     }
 
-    /// The same position under another allocator.
+    /// The same position under another allocator. The error is that memory was refused.
     pub fn copy<B: Allocator>(&self, alloc: B) -> Result<Pos<B>, AllocError>
         ensures { IfOk result (λ p. p ≡ self.now) }
     {
-        let bytes = Vec::from_slice(alloc, self.bytes.as_slice())?;
+        let bytes = Vec::from_slice(alloc, self.bytes())?;
         Ok(Pos { bytes })
     }
 }
@@ -120,7 +142,7 @@ impl<A: Allocator> PartialEq for Pos<A> {
         ensures value { result ≡ pointwise nat_eq self.now other.now }
         ensures same { IsTrue result ↔ (self.now ≡ other.now) }
     {
-        self.bytes.as_slice() == other.bytes.as_slice()
+        self.bytes() == other.bytes()
     }
 }
 
@@ -149,17 +171,9 @@ impl<A: Allocator> Ord for Pos<A> {
 
     fn cmp(&self, other: &Pos<A>) -> Ordering
         ensures value { result ≡ slice_cmp nat_cmp self.now other.now }
-        ensures order { MatchOrdering result (IsSmaller self.now other.now) (self.now ≡ other.now) (IsSmaller other.now self.now) }
+        ensures order { ComparesAsFractions result self.now other.now }
     {
-        self.bytes.as_slice().cmp(other.bytes.as_slice())
-    }
-}
-
-impl<A: Allocator> fmt::Display for Pos<A> {
-    ghost output = { λ p. Some p };
-
-    fn fmt<W: fmt::Write>(&self, f: &mut fmt::Formatter<W>) -> fmt::Result {
-        f.pad(self.as_str())
+        self.bytes().cmp(other.bytes())
     }
 }
 
@@ -169,35 +183,90 @@ impl<A: Allocator> Hash for Pos<A> {
     ghost respects_eq = { Prim.search (hashing, rules) };
 
     fn hash<H: Hasher>(&self, state: &mut H) {
-        self.bytes.as_slice().hash(state);
+        self.bytes().hash(state);
     }
 }
 
-/// The position half way between two others, or between one and the end where the other is missing.
+/// Prints the bytes as they are.
+impl<A: Allocator> fmt::Display for Pos<A> {
+    ghost output = { λ p. Some p };
+
+    fn fmt<W: fmt::Write>(&self, f: &mut fmt::Formatter<W>) -> fmt::Result {
+        f.pad(self.as_str())
+    }
+}
+
+/// Prints the bytes as a text in quotes.
+impl<A: Allocator> fmt::Debug for Pos<A> {
+    ghost debug_output = { debug_str };
+
+    fn fmt<W: fmt::Write>(&self, f: &mut fmt::Formatter<W>) -> fmt::Result {
+        fmt::Debug::fmt(self.as_str(), f)
+    }
+}
+
+/// The laws of the order: bytes decide it as the fractions do, for positions and for ends that may be missing. It does nothing when it runs: call it
+/// where a proof needs the laws.
+pub fn byte_order()
+    ensures compare { BytesCompareAsFractions }
+    ensures less { BeforeIffSmaller }
+    ensures apart { ApartIffInOrder }
+    ensures fits { FitsIffInside }
+    ensures transitive { SmallerIsTransitive }
+{}
+
+/// The laws of the middle between two ends: it is a position strictly between them, the only middle, and at most one byte longer than the longer
+/// end; and where there is none, no position is strictly between them. It does nothing when it runs: call it where a proof needs the laws.
+pub fn every_middle()
+    ensures position { EachMiddleIsPosition }
+    ensures inside { EachMiddleIsInside }
+    ensures only { EachMiddleIsOnly }
+    ensures short { EachMiddleIsShort }
+    ensures none { ShutEndsHoldNone }
+    ensures alone { MiddleOfAll }
+{}
+
+/// The position half way between two ends, where a missing lower end is 0 and a missing upper end is 1. The lower end has to be below the upper.
+///
+/// Of the fractions between the ends that have the fewest digits, it is half way between the least and the greatest, rounded down. So it is at most
+/// one byte longer than the longer end. It is `None` only where no position lies between the ends, since a position has at most 128 bytes.
+///
+/// The time is linear in the longer end. Memory is asked for once, for the answer, and not at all where that is `None`; the error is that it was
+/// refused.
 pub fn between<A: Allocator, B: Allocator, C: Allocator>(
     alloc: A,
     lo: Option<&Pos<B>>,
     hi: Option<&Pos<C>>,
 ) -> Result<Option<Pos<A>>, AllocError>
-    requires { AreInOrder (option_copied lo) (option_copied hi) }
+    requires { AreApart (option_copied lo) (option_copied hi) }
     ensures middle { IfOk result (Middle (option_copied lo.entry) (option_copied hi.entry)) }
-    ensures only { IfOk result (λ r. IfSome r (λ p. (q : List ℕ) → IsMiddle (option_copied lo.entry) (option_copied hi.entry) q → q ≡ p)) }
-    ensures inside { IfOk result (λ r. IfSome r (IsInside (option_copied lo.entry) (option_copied hi.entry))) }
-    ensures none { IfOk result (λ r. IfNone r ((p : List ℕ) → ¬ IsInside (option_copied lo.entry) (option_copied hi.entry) p)) }
+    ensures only { IfOk result (λ r. IfSome r (IsOnlyMiddle (option_copied lo.entry) (option_copied hi.entry))) }
+    ensures fits { IfOk result (λ r. IfSome r (FitsBetween (option_copied lo.entry) (option_copied hi.entry))) }
+    ensures none { IfOk result (λ r. IfNone r (NoneFits (option_copied lo.entry) (option_copied hi.entry))) }
 {
     let lo = bytes_of(lo);
     let hi = bytes_of(hi);
-    let Some((before, last)) = opening(lo, hi) else {
+    let Some(gap) = first_gap(lo, hi) else {
         return Ok(None);
     };
-    let middle = write(alloc, lo, before, last)?;
+    let middle = half_way(alloc, lo, gap)?;
     Ok(Some(middle))
+}
+
+// Where something first lies between two ends: what is half way there is so many of the lower end's digits, and then one more.
+#[derive(Clone, Copy)]
+struct Gap {
+    before: usize,
+    last: u8,
+    ghost short: { before < 128 },
+    ghost positive: { 0 < last },
+    ghost is_digit: { last < 95 },
 }
 
 // The bytes of an end that is there.
 fn bytes_of<A: Allocator>(end: Option<&Pos<A>>) -> Option<&[u8]>
     ensures same { option_copied result ≡ option_copied end.entry }
-    ensures position { IfSome (option_copied result) IsPosition }
+    ensures position { IsEnd (option_copied result) }
 {
     match end {
         Some(p) => Some(p.bytes()),
@@ -205,20 +274,22 @@ fn bytes_of<A: Allocator>(end: Option<&Pos<A>>) -> Option<&[u8]>
     }
 }
 
-// The first length at which anything lies between the ends, less one, and the last digit of what is half way there.
-fn opening(lo: Option<&[u8]>, hi: Option<&[u8]>) -> Option<(usize, u8)>
-    requires low { IfSome (option_copied lo) IsPosition }
-    requires high { IfSome (option_copied hi) IsPosition }
+// The gap between the ends, or `None` where nothing of at most 128 digits lies between them.
+fn first_gap(lo: Option<&[u8]>, hi: Option<&[u8]>) -> Option<Gap>
+    requires low { IsEnd (option_copied lo) }
+    requires high { IsEnd (option_copied hi) }
     requires order { AreInOrder (option_copied lo) (option_copied hi) }
     ensures shut { IfNone result ((n : ℕ) → n ≤ 128 → IsShut (option_copied lo.entry) (option_copied hi.entry) n) }
-    ensures opens { IfSome result (λ r. Opens (option_copied lo.entry) (option_copied hi.entry) r.0 r.1) }
-    ensures range { IfSome result (λ r. (r.0 < 128) × (0 < r.1) × (r.1 < 95)) }
+    ensures opens { IfSome result (λ gap. Opens (option_copied lo.entry) (option_copied hi.entry) gap.before gap.last) }
 {
     for i in 0..MAX_LEN {
         let low = low_digit(lo, i);
         let high = high_digit(hi, i);
         if low + 1 < high {
-            return Some((i, (low + high) / 2));
+            return Some(Gap {
+                before: i,
+                last: (low + high) / 2,
+            });
         }
     }
     None
@@ -226,7 +297,7 @@ fn opening(lo: Option<&[u8]>, hi: Option<&[u8]>) -> Option<(usize, u8)>
 
 // The digit of the lower end at an index.
 fn low_digit(lo: Option<&[u8]>, i: usize) -> u8
-    requires { IfSome (option_copied lo) IsPosition }
+    requires { IsEnd (option_copied lo) }
     ensures value { floor (option_copied lo.entry) (i + 1) ≡ 95 * floor (option_copied lo.entry) i + result }
     ensures range { result < 95 }
 {
@@ -239,7 +310,7 @@ fn low_digit(lo: Option<&[u8]>, i: usize) -> u8
 // The digit of the upper end at an index, and one more where it has digits after it.
 fn high_digit(hi: Option<&[u8]>, i: usize) -> u8
     requires index { i < 128 }
-    requires end { IfSome (option_copied hi) IsPosition }
+    requires end { IsEnd (option_copied hi) }
     ensures value { ceiling (option_copied hi.entry) (i + 1) + 95 ≡ 95 * ceiling (option_copied hi.entry) i + result }
     ensures range { result ≤ 95 }
 {
@@ -264,31 +335,23 @@ fn digit(bytes: &[u8], i: usize) -> u8
     ensures range { result < 95 }
 {
     match bytes.get(i) {
-        Some(b) => *b - 32,
+        Some(b) => *b - b' ',
         None => 0,
     }
 }
 
-// The lower end's first digits, and one more digit.
-fn write<A: Allocator>(
-    alloc: A,
-    lo: Option<&[u8]>,
-    before: usize,
-    last: u8,
-) -> Result<Pos<A>, AllocError>
-    requires end { IfSome (option_copied lo) IsPosition }
-    requires before { before < 128 }
-    requires last_some { 0 < last }
-    requires last_range { last < 95 }
-    ensures len { IfOk result (λ p. length p ≡ before + 1) }
+// The lower end's first digits, and then the gap's.
+fn half_way<A: Allocator>(alloc: A, lo: Option<&[u8]>, gap: Gap) -> Result<Pos<A>, AllocError>
+    requires { IsEnd (option_copied lo) }
+    ensures len { IfOk result (λ p. length p ≡ gap.before + 1) }
     ensures digits { IfOk result (All IsDigitByte) }
-    ensures value { IfOk result (λ p. num p (before + 1) ≡ 95 * floor (option_copied lo.entry) before + last) }
+    ensures value { IfOk result (λ p. num p (gap.before + 1) ≡ 95 * floor (option_copied lo.entry) gap.before + gap.last) }
 {
-    let mut bytes = Vec::with_capacity(alloc, before + 1)?;
-    for i in 0..before {
-        bytes.push(32 + low_digit(lo, i))?;
+    let mut bytes = Vec::with_capacity(alloc, gap.before + 1)?;
+    for i in 0..gap.before {
+        bytes.push(b' ' + low_digit(lo, i))?;
     }
-    bytes.push(32 + last)?;
+    bytes.push(b' ' + gap.last)?;
     Ok(Pos { bytes })
 }
 

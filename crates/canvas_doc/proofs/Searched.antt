@@ -1,0 +1,99 @@
+-- What a binary search by key finds among entries that are in order.
+use Rattle.std.proofs.Common.{◌≡◌, ℕ, zero, suc, ◌+◌, ◌<◌, ◌≤◌, Bool, true, false, ◌&&◌, List, [], ◌∷◌, length, get_or, Some, None, Result, Ok, Err, IfOk, IfErr, T, refl, sym, ap, ◌∙◌, arith, add-one}
+use Rattle.std.specs.List.{insert, AllWithin}
+use Rattle.std.specs.List.Sorted.{IsSearchInRange, IsBinarySearchResult, IsNonDecreasingBy, IsSortedBy}
+use Rattle.std.proofs.lemmas.List.Sorted.{searchable_from_sorted}
+use Rattle.std.proofs.lemmas.Cmp.{tied_back}
+use Rattle.std.specs.FinMap.Entries.{below_all}
+use Rattle.std.specs.Cmp.{IsTotalOrder}
+use Rattle.std.specs.declared.cmp.Ordering.{Ordering}
+use Rattle.std.specs.declared.cmp.Ordering.TheVariants.{Less, Equal, Greater}
+use Rattle.std.specs.Ordering.{is_lt, ordering_index, ordering_reverse}
+use Rattle.std.specs.FinMap.{is_sorted, find, put}
+use Rattle.canvas_doc.specs.Entries.{IsEntryAt, IsGapAt}
+
+first : (a b : Bool) → T (a && b) → T a
+first true b p = tt
+first false b p = p
+
+second : (a b : Bool) → T (a && b) → T b
+second true b p = p
+second false b p = absurd p
+
+less : (o : Ordering) → T (is_lt o) → o ≡ Less
+less Less p = refl
+less Equal p = absurd p
+less Greater p = absurd p
+
+greater : {K : Type 0} {R : K → K → Ordering} → IsTotalOrder R → (x y : K) → R x y ≡ Less → R y x ≡ Greater
+greater o x y e = o.antisymm y x ∙ ap ordering_reverse e
+
+smaller_of : {K : Type 0} {R : K → K → Ordering} → IsTotalOrder R → (x y : K) → R x y ≡ Greater → R y x ≡ Less
+smaller_of o x y e = o.antisymm y x ∙ ap ordering_reverse e
+
+module _ {K X : Type 0} {R : K → K → Ordering} (o : IsTotalOrder R) where
+  abbrev below : K → List (K × X) → Type 0
+  below x [] = Unit {0}
+  below x (e ∷ es) = (R x e.0 ≡ Less) × below x es
+
+  below_from_test : (x : K) (es : List (K × X)) → T (below_all R x es) → below x es
+  below_from_test x [] h = tt
+  below_from_test x (e ∷ es) h = (less _ (first _ _ h), below_from_test x es (second _ _ h))
+
+  below_at : (x : K) (es : List (K × X)) → below x es → (i : ℕ) (d : K × X) → i < length es → R x (get_or es i d).0 ≡ Less
+  below_at x [] h i d lt = absurd (omega arith)
+  below_at x (e ∷ es) h zero d lt = h.0
+  below_at x (e ∷ es) h (suc i) d lt = below_at x es h.1 i d (omega arith)
+
+  head_below : (e : K × X) (es : List (K × X)) → T (is_sorted R (e ∷ es)) → below e.0 es
+  head_below e es h = below_from_test e.0 es (first _ _ h)
+
+  -- neighbours are in order
+  adjacent : (es : List (K × X)) → T (is_sorted R es) → (i : ℕ) (d : K × X) → i + 1 < length es → R (get_or es i d).0 (get_or es (i + 1) d).0 ≡ Less
+  adjacent [] h i d lt = absurd (omega arith)
+  adjacent (e ∷ es) h zero d lt = below_at e.0 es (head_below e es h) 0 d (omega arith)
+  adjacent (e ∷ es) h (suc i) d lt = rw add-one (rw add-one at (adjacent es (second _ _ h) i d (omega arith)))
+
+  sorted_by : (es : List (K × X)) → T (is_sorted R es) → IsSortedBy (λ a b. is_lt (R a.0 b.0)) es
+  sorted_by es h i d low lt = rw (greater o _ _ (adjacent es h i d lt)) refl
+
+  rises : (es : List (K × X)) → T (is_sorted R es) → (k : K) → IsNonDecreasingBy (λ e. ordering_index (R e.0 k)) es
+  rises es h k = searchable_from_sorted o (λ e. e.0) es k (sorted_by es h)
+
+  -- an entry that ties with k is found
+  pub entry_at : (es : List (K × X)) → T (is_sorted R es) → (k : K) (i : ℕ) → i < length es → ((d : K × X) → R (get_or es i d).0 k ≡ Equal) → (d : K × X) → find R k es ≡ Some (get_or es i d).1
+  entry_at [] h k i lt ties d = absurd (omega arith)
+  entry_at (e ∷ es) h k zero lt ties d = rw (tied_back o _ _ (ties d)) refl
+  entry_at (e ∷ es) h k (suc i) lt ties d =
+      let further = o.congr _ _ e.0 (ties d) in
+      let later = greater o _ _ (below_at e.0 es (head_below e es h) i d (omega arith)) in
+      rw (sym further ∙ later) (entry_at es (second _ _ h) k i (omega arith) ties d)
+
+  all_below : (k : K) (es : List (K × X)) → ((i : ℕ) (d : K × X) → i < length es → R k (get_or es i d).0 ≡ Less) → below k es
+  all_below k [] h = tt
+  all_below k (e ∷ es) h = (h 0 e (omega arith), all_below k es (λ i d lt. h (suc i) d (omega arith)))
+
+  -- a key below all isn't found
+  missing : (k : K) (es : List (K × X)) → below k es → find R k es ≡ None
+  missing k [] h = refl
+  missing k (e ∷ es) h = rw h.0 (missing k es h.1)
+
+  -- a place between smaller and greater keys is a gap
+  gap_at : (es : List (K × X)) (k : K) (i : ℕ) → i ≤ length es → AllWithin (λ e. R e.0 k ≡ Less) es 0 i → AllWithin (λ e. R e.0 k ≡ Greater) es i (length es) → (find R k es ≡ None) × ((x : X) → insert es i (k, x) ≡ put R k x es)
+  gap_at [] k zero le smaller greater_after = (refl, λ x. refl)
+  gap_at [] k (suc i) le smaller greater_after = absurd (omega arith)
+  gap_at (e ∷ es) k zero le smaller greater_after =
+      let here = smaller_of o _ _ (greater_after 0 e (omega arith) (omega arith)) in
+      let after = missing k es (all_below k es (λ i d lt. smaller_of o _ _ (greater_after (suc i) d (omega arith) (omega arith)))) in
+      (rw here after, λ x. rw here refl)
+  gap_at (e ∷ es) k (suc i) le smaller greater_after =
+      let rest = gap_at es k i (omega arith) (λ j d low lt. smaller (suc j) d (omega arith) (omega arith)) (λ j d low lt. greater_after (suc j) d (omega arith) (omega arith)) in
+      let here = greater o _ _ (smaller 0 e (omega arith) (omega arith)) in
+      (rw here rest.0, λ x. rw here (ap (λ es. e ∷ es) (rest.1 x)))
+
+  pub searched : (es : List (K × X)) → T (is_sorted R es) → (k : K) (r : Result ℕ ℕ) → IsSearchInRange r (length es) → IsBinarySearchResult (λ e. R e.0 k) es r → IfOk r (IsEntryAt R es k) × IfErr r (IsGapAt R es k)
+  searched es h k (Ok i) within equal = (record { in_range = within; found = entry_at es h k i within equal }, tt)
+  searched es h k (Err i) within parted =
+      let point = parted (rises es h k) in
+      let gap = gap_at es k i within point.0 point.1 in
+      (tt, record { in_range = within; absent = gap.0; put_there = gap.1 })

@@ -1,0 +1,171 @@
+//! The document of a canvas: its live objects by their ids, and the changes that are asked of it.
+#![tactic(auto)]
+
+ghost use Rattle.std.specs.Prelude.{◌≡◌, ◌↔◌, false, IsTrue, IfOk, OnOk, OnErr};
+ghost use Rattle.std.specs.Option.{option_copied};
+ghost use Rattle.std.specs.FinMap as map;
+ghost use Rattle.canvas_model.specs.Document.{IsDocument, blank, live, new_object, revise};
+ghost use Rattle.canvas_model.specs.Document as document;
+ghost use Rattle.canvas_model.specs.Sibling.{IsTaken, IsNext};
+
+use canvas_pos::Pos;
+use std::alloc::{AllocError, Allocator, Global};
+use std::marker::Model;
+
+mod change;
+mod entries;
+mod object;
+mod place;
+
+pub use canvas_model::{Kind, ObjId};
+pub use change::{Change, ChangeNode};
+use entries::{add, value_of};
+pub use object::Object;
+use object::{nearer_sibling, same_entry, stands_there};
+pub use place::Place;
+
+/// A document: its live objects by their ids. The root, `ObjId::ROOT`, is always live, a `Document` without a place;
+/// every other live object has a place, whose parent may be any id.
+#[derive(Drop)]
+pub struct Doc<A: Allocator = Global> {
+    objects: Vec<(ObjId, Object<A>), A>,
+}
+
+impl<A: Allocator> Model for Doc<A> {
+    ghost use Rattle.std.specs.Prelude.{T};
+    ghost use Rattle.std.specs.FinMap as map;
+    ghost use Rattle.canvas_model.specs.Ids.{id_cmp};
+    ghost use Rattle.canvas_model.specs.Codes.{doc_code};
+    ghost use Rattle.canvas_model.specs.Document as document;
+
+    ghost Value = { document.Doc };
+
+    ghost coded = { doc_code };
+
+    ghost view = { λ d. map.from_sorted d.objects.items };
+
+    ghost invariant = { λ d. record { sorted : T (map.is_sorted id_cmp d.objects.items); document : document.IsDocument (map.from_sorted d.objects.items) } };
+}
+
+impl<A: Allocator + Copy> Doc<A> {
+    /// The document of the root alone. Fails only where memory is refused.
+    pub fn new(alloc: A) -> Result<Self, AllocError>
+        ensures { IfOk result (λ d. d ≡ blank) }
+    {
+        let mut objects = Vec::new(alloc);
+        objects.push((ObjId::ROOT, Object::new(Kind::Document, None)))?;
+        Ok(Doc { objects })
+    }
+
+    /// Adds an object without properties, whose id must not be live. Where memory is refused, nothing has changed.
+    pub fn put_object(&mut self, id: ObjId, kind: Kind, place: Place<A>) -> Result<(), AllocError>
+        requires { live self.old id ≡ false }
+        ensures ok { OnOk result (self.new ≡ revise self.old id (Some (new_object kind (Some place)))) }
+        ensures err { OnErr result (self.new ≡ self.old) }
+    {
+        add(&mut self.objects, id, Object::new(kind, Some(place)))?;
+        Ok(())
+    }
+
+    /// The same document under another allocator. Fails only where memory is refused.
+    pub fn copy<B: Allocator + Copy>(&self, alloc: B) -> Result<Doc<B>, AllocError>
+        ensures { IfOk result (λ d. d ≡ self.now) }
+    {
+        let mut objects = Vec::new(alloc);
+        for entry in &self.objects {
+            let object = entry.1.copy(alloc)?;
+            objects.push((entry.0, object))?;
+        }
+        Ok(Doc { objects })
+    }
+}
+
+impl<A: Allocator> Doc<A> {
+    /// All live objects in id order, the root first.
+    pub fn objects(&self) -> &[(ObjId, Object<A>)]
+        ensures objects { result.now ≡ map.entries self.now }
+        ensures document { IsDocument self.now }
+    {
+        &self.objects
+    }
+
+    /// Whether the object is live.
+    pub fn has(&self, id: ObjId) -> bool
+        ensures { result ≡ live self.now id }
+    {
+        value_of(&self.objects, &id).is_some()
+    }
+
+    /// The kind of the object, or none if it isn't live.
+    pub fn kind_of(&self, id: ObjId) -> Option<Kind>
+        ensures { result ≡ document.kind_of self.now id }
+    {
+        let object = value_of(&self.objects, &id)?;
+        Some(object.kind())
+    }
+
+    /// Where the object stands, or none if it isn't live. The root has no place.
+    pub fn place_of(&self, id: ObjId) -> Option<&Place<A>>
+        ensures { option_copied result ≡ document.place_of self.now id }
+    {
+        let object = value_of(&self.objects, &id)?;
+        object.place()
+    }
+
+    /// Whether a child of `parent` other than `except` stands at this position. Walks all objects.
+    pub fn taken(&self, parent: ObjId, pos: &Pos<A>, except: ObjId) -> bool
+        ensures { IsTrue result ↔ IsTaken self.now parent except pos.now }
+    {
+        for entry in &self.objects {
+            if stands_there(entry, parent, pos, except) {
+                return true;
+            }
+        }
+        false
+    }
+
+    /// The least position above `after` among the children of `parent` other than `except`, if there is one; without `after`,
+    /// the least of all. Walks all objects.
+    pub fn next_position<'a>(
+        &'a self,
+        parent: ObjId,
+        after: Option<&Pos<A>>,
+        except: ObjId,
+    ) -> Option<&'a Pos<A>>
+        ensures { IsNext self.now parent except (option_copied after.entry) (option_copied result) }
+    {
+        let mut least = None;
+        for entry in &self.objects {
+            least = nearer_sibling(least, entry, parent, after, except);
+        }
+        least
+    }
+
+    /// Whether two documents are the same.
+    pub fn same<B: Allocator>(&self, other: &Doc<B>) -> bool
+        ensures { IsTrue result ↔ (self.now ≡ other.now) }
+    {
+        same_entries(&self.objects, &other.objects)
+    }
+}
+
+// Whether two lists of entries are the same.
+fn same_entries<A: Allocator, B: Allocator>(
+    entries: &[(ObjId, Object<A>)],
+    others: &[(ObjId, Object<B>)],
+) -> bool
+    ensures { IsTrue result ↔ (entries.now ≡ others.now) }
+{
+    if entries.len() != others.len() {
+        return false;
+    }
+    for (at, entry) in entries.iter().enumerate() {
+        if !same_entry(entry, &others[at]) {
+            return false;
+        }
+    }
+    true
+}
+
+#[cfg(test)]
+mod tests;

@@ -1,0 +1,13 @@
+use Rattle.std.proofs.Common.{◌≡◌, All, vec_len}
+use Rattle.std.specs.Option.{option_copied}
+use Rattle.canvas_model.specs.Position.{num, IsDigitByte}
+use Rattle.canvas_pos.specs.Ends.{floor}
+use Rattle.canvas_pos.proofs.half_way.Given as goal
+
+-- the lower end's first digits stand there
+abbrev pub invariant-loop-i : goal.invariant-loop-i
+invariant-loop-i g l = record {
+  len : vec_len l.bytes ≡ l.i;
+  digits : All IsDigitByte l.bytes.items;
+  value : num l.bytes.items l.i ≡ floor (option_copied l.lo) l.i;
+}

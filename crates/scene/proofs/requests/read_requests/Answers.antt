@@ -1,0 +1,30 @@
+use Rattle.std.proofs.Common.{◌∙◌, sym, rules, arith}
+use Rattle.scene.proofs.Told.{next_left, passed_on, read_on, stopped, whole}
+use Rattle.scene.proofs.requests.read_requests.Goals as goal
+
+pub loop-line-preserved-then-is_passed : goal.loop-line-preserved-then-is_passed
+loop-line-preserved-then-is_passed g c =
+    let left = c.loop-line.invariant.left ∙ c.in-Some.ensures.some in
+    record {
+      left = next_left c.loop-line.line_number _ _ _ left;
+      counted = let less = c.in-Some.ensures.shorter in omega arith;
+      read = passed_on c.loop-line.started c.args.input.now c.loop-line.line_number c.loop-line.requests.items c.loop-line.invariant.read _ _ left (sym c.is_passed.ensures ∙ c.if-is_passed.true);
+    }
+
+pub loop-line-preserved : goal.loop-line-preserved
+loop-line-preserved g c =
+    let left = c.loop-line.invariant.left ∙ c.in-Some.ensures.some in
+    record {
+      left = next_left c.loop-line.line_number _ _ _ left;
+      counted = let less = c.in-Some.ensures.shorter in omega arith;
+      read = read_on c.loop-line.started c.args.input.now c.loop-line.line_number c.loop-line.requests.items c.loop-line.invariant.read _ _ left (sym c.is_passed.ensures ∙ c.if-is_passed.false) _ (c.in_ok-is_read.ensures.read (search rules));
+    }
+
+pub returns-clause-whole : goal.returns-clause-whole
+returns-clause-whole g c = whole c.loop-line.started c.args.input.now c.loop-line.line_number c.loop-line.requests.items c.loop-line.invariant.read c.loop-line.rest.now c.loop-line.invariant.left c.in_default.ensures.none
+
+pub returns-then-not-is_read-clause-bad : goal.returns-then-not-is_read-clause-bad
+returns-then-not-is_read-clause-bad g c =
+    let left = c.loop-line.invariant.left ∙ c.in-Some.ensures.some in
+    let unread = c.in_ok-is_read.ensures.unread (search rules) in
+    stopped c.loop-line.started c.args.input.now c.loop-line.line_number c.loop-line.requests.items c.loop-line.invariant.read _ _ left (sym c.is_passed.ensures ∙ c.if-is_passed.false) unread.0

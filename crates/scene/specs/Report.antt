@@ -1,0 +1,24 @@
+-- The lines of a document's objects.
+use Rattle.std.specs.Prelude.{◌≡◌, ℕ, List, [], ◌∷◌, ◌++◌, codes, Option, None, Some}
+use Rattle.std.specs.List.{flat_map}
+use Rattle.std.specs.FinMap as map
+use Rattle.canvas_model.specs.declared.ObjId.{ObjId}
+use Rattle.canvas_model.specs.Document.{Doc, Object, Place}
+use Rattle.canvas_model.specs.Text.{id_text, kind_word, place_text}
+
+-- a blank and the place, or nothing
+abbrev pub stands_text : Option Place → List ℕ
+stands_text None = []
+stands_text (Some place) = codes " " ++ place_text place
+
+-- an object's id, its kind and its place
+abbrev pub object_line : ObjId × Object → List ℕ
+object_line e = id_text e.0 ++ codes " " ++ kind_word e.1.kind ++ stands_text e.1.place ++ 10 ∷ []
+
+-- the lines of all live objects, in id order
+abbrev pub object_lines : Doc → List ℕ
+object_lines d = flat_map object_line (map.entries d)
+
+-- the text ends with this
+abbrev pub EndsWith : List ℕ → List ℕ → Type 0
+EndsWith text end = (front : List ℕ) × (text ≡ front ++ end)

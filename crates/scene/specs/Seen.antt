@@ -1,0 +1,8 @@
+-- What contracts see of a stored request.
+use Rattle.scene.specs.Spelling.{Asked, AskJoin, AskEdit}
+use Rattle.scene.specs.declared.requests.RequestNode.{RequestNode}
+use Rattle.scene.specs.declared.requests.RequestNode.TheVariants as node
+
+abbrev pub seen : {A : Type 0} → RequestNode A → Asked
+seen node.Join = AskJoin
+seen (node.Edit author change) = AskEdit author change

@@ -1,0 +1,95 @@
+// The lines that answer requests.
+ghost use Rattle.std.specs.Prelude.{◌≡◌, IfOk, string_bytes};
+ghost use Rattle.canvas_model.specs.Text as text;
+ghost use Rattle.scene.specs.Answers.{answer_line, carried_text, outcome_text, reason_word};
+
+use canvas_doc::Place;
+use canvas_judge::{Outcome, OutcomeNode, Reason};
+use std::alloc::{AllocError, Allocator};
+
+/// The line that answers a request which became the log's entry of this version.
+pub fn answer_line<A: Allocator + Copy>(
+    alloc: A,
+    version: u64,
+    outcome: &Outcome<A>,
+) -> Result<String<A>, AllocError>
+    ensures { IfOk result (λ line. string_bytes line ≡ answer_line version outcome.now) }
+{
+    let outcome = outcome_text(alloc, outcome)?;
+    format!(in alloc; "{version} {outcome}\n")
+}
+
+// What became of a request.
+fn outcome_text<A: Allocator + Copy>(
+    alloc: A,
+    outcome: &Outcome<A>,
+) -> Result<String<A>, AllocError>
+    ensures { IfOk result (λ text. string_bytes text ≡ outcome_text outcome.now) }
+{
+    match outcome.node() {
+        OutcomeNode::Joined(client) => format!(in alloc; "joined {client}"),
+        OutcomeNode::Created(place) => {
+            let place = place_text(alloc, place)?;
+            format!(in alloc; "created {place}")
+        }
+        OutcomeNode::WasSet => String::from_str(alloc, "set"),
+        OutcomeNode::Moved(place) => {
+            let place = place_text(alloc, place)?;
+            format!(in alloc; "moved {place}")
+        }
+        OutcomeNode::Removed(ids) => {
+            let mut text = String::from_str(alloc, "removed")?;
+            for id in ids {
+                let word = format!(in alloc; " {id}")?;
+                text.push_str(word.as_str())?;
+            }
+            Ok(text)
+        }
+        OutcomeNode::Refused { reason, stands } => {
+            let number = reason.number();
+            let word = reason_word(*reason);
+            let carried = carried_text(alloc, stands)?;
+            format!(in alloc; "refused {number} {word}{carried}")
+        }
+    }
+}
+
+// The name of a reason.
+fn reason_word(reason: Reason) -> &'static str
+    ensures { result.now ≡ reason_word reason }
+{
+    match reason {
+        Reason::IsRoot => "IsRoot",
+        Reason::BadId => "BadId",
+        Reason::Gone => "Gone",
+        Reason::ParentGone => "ParentGone",
+        Reason::BadParent => "BadParent",
+        Reason::Cycle => "Cycle",
+        Reason::Crowded => "Crowded",
+    }
+}
+
+// The place that a refusal carries.
+fn carried_text<A: Allocator + Copy>(
+    alloc: A,
+    stands: &Option<Place<A>>,
+) -> Result<String<A>, AllocError>
+    ensures { IfOk result (λ text. string_bytes text ≡ carried_text stands.now) }
+{
+    match stands {
+        Some(place) => {
+            let place = place_text(alloc, place)?;
+            format!(in alloc; " stands {place}")
+        }
+        None => Ok(String::new(alloc)),
+    }
+}
+
+/// The parent's id, a blank and the position.
+pub fn place_text<A: Allocator + Copy>(alloc: A, place: &Place<A>) -> Result<String<A>, AllocError>
+    ensures { IfOk result (λ t. string_bytes t ≡ text.place_text place.now) }
+{
+    let parent = place.parent;
+    let pos = place.pos.as_str();
+    format!(in alloc; "{parent} {pos}")
+}
