@@ -1,16 +1,16 @@
 -- The opening state is sound, and the empty world good.
-use Rattle.std.proofs.Common.{◌≡◌, ◌≢◌, ◌⊎◌, ℕ, zero, suc, ◌≤◌, refl, ap, sym, ◌∙◌, subst, arith}
+use Rattle.std.proofs.Common.{◌≡◌, ◌⊎◌, ℕ, zero, suc, refl, ap, sym, ◌∙◌, subst, arith}
 use mathlib.Core.Logic.{inl, inr}
-use Rattle.std.specs.Prelude.{Bool, true, false, cond, Option, Some, None, IsTrue, is_some}
+use Rattle.std.specs.Prelude.{Bool, true, false, cond, Some, None, is_some}
 use Rattle.std.specs.Option.{option_map, option_and_then}
 use Rattle.std.specs.FinMap.{get-insert, get-empty}
 use Rattle.std.specs.FinMap as map
 use Rattle.canvas_model.specs.declared.ObjId.{ObjId}
 use Rattle.canvas_model.specs.Ids.{root, id_cmp, same_id}
-use Rattle.canvas_model.specs.Document.{Object, Doc, blank, live, place_of, kind_of, new_object, Place}
+use Rattle.canvas_model.specs.Document.{Object, blank, live, place_of, new_object}
 use Rattle.canvas_model.specs.declared.Kind.TheVariants.{Document}
-use Rattle.canvas_model.specs.Chain.{Below, itself, through, InTree}
-use Rattle.canvas_model.specs.State.{State, opening, IsSound}
+use Rattle.canvas_model.specs.Chain.{Below, itself}
+use Rattle.canvas_model.specs.State.{opening, IsSound}
 use Rattle.canvas_model.specs.World.{empty}
 use Rattle.canvas_model.specs.Good.{IsGood}
 use Rattle.canvas_model.proofs.Ids.{id_total, same_id_true, id_itself}
@@ -63,9 +63,11 @@ empty_good = record {
     none_at : (k : ℕ) (n : Rattle.canvas_model.specs.World.Node) → Rattle.canvas_model.specs.World.node empty k ≡ Some n → ⊥
     none_at zero n e = absurd (cc)
     none_at (suc k) n e = absurd (cc)
+
     no_letter : (k : ℕ) (n : Rattle.canvas_model.specs.World.Letter) → Rattle.canvas_model.specs.World.nth empty.letters k ≡ Some n → ⊥
     no_letter zero n e = absurd (cc)
     no_letter (suc k) n e = absurd (cc)
+
     no_entry : (k : ℕ) (n : Rattle.canvas_model.specs.Log.Entry) → Rattle.canvas_model.specs.World.nth empty.log k ≡ Some n → ⊥
     no_entry zero n e = absurd (cc)
     no_entry (suc k) n e = absurd (cc)

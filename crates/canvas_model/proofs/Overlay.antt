@@ -1,19 +1,17 @@
 -- What an overlay answers at each object.
-use Rattle.std.proofs.Common.{◌≡◌, ◌≢◌, ◌⊎◌, ℕ, zero, suc, ◌+◌, ◌≤◌, ◌<◌, List, [], ◌∷◌, ◌++◌, length, drop, refl, ap, sym, ◌∙◌, subst, arith}
+use Rattle.std.proofs.Common.{◌≡◌, ◌⊎◌, ℕ, zero, suc, List, [], ◌∷◌, ◌++◌, refl, ap, sym, ◌∙◌}
 use mathlib.Core.Logic.{inl, inr}
-use Rattle.std.specs.Prelude.{Bool, true, false, cond, not, Option, Some, None, IsTrue, is_some}
-use Rattle.std.specs.Option.{option_map, option_and_then}
+use Rattle.std.specs.Prelude.{Bool, true, false, cond, Option, Some, None, is_some}
 use Rattle.std.specs.FinMap as map
-use Rattle.canvas_model.specs.Value.{Value}
 use Rattle.canvas_model.specs.declared.ObjId.{ObjId}
-use Rattle.canvas_model.specs.Ids.{root, id_cmp, same_id}
+use Rattle.canvas_model.specs.Ids.{same_id}
 use Rattle.canvas_model.specs.declared.Kind.{Kind}
-use Rattle.canvas_model.specs.Document.{Object, Doc, Name, Place, blank, live, revise, new_object, with_prop, with_place}
+use Rattle.canvas_model.specs.Document.{Object, Doc, Place, live, revise}
 use Rattle.canvas_model.specs.Change.{Change, Create, Set, Move, Delete, object_of}
 use Rattle.canvas_model.specs.Overlay.{laid, is_idle, lay, over}
 use Rattle.canvas_model.specs.World.{nth}
 use Rattle.canvas_model.specs.Good.{IsCreation}
-use Rattle.canvas_model.proofs.Ids.{id_total, id_apart, same_id_true, id_itself, get-revise}
+use Rattle.canvas_model.proofs.Ids.{same_id_true, get-revise}
 
 -- the change at one object
 abbrev pub lay_at : ObjId → Change → Option Object → Option Object
@@ -25,6 +23,7 @@ get-lay d change q = outer (is_idle change)
     inner : (b : Bool) → same_id q (object_of change) ≡ b → cond b (laid change (map.get d (object_of change))) (map.get d q) ≡ cond b (laid change (map.get d q)) (map.get d q)
     inner true e = ap (λ x. laid change (map.get d x)) (sym (same_id_true q (object_of change) e))
     inner false e = refl
+
     outer : (b : Bool) → map.get (cond b d (revise d (object_of change) (laid change (map.get d (object_of change))))) q ≡ cond b (map.get d q) (cond (same_id q (object_of change)) (laid change (map.get d q)) (map.get d q))
     outer true = refl
     outer false = get-revise d (object_of change) (laid change (map.get d (object_of change))) q ∙ inner (same_id q (object_of change)) refl
@@ -55,9 +54,11 @@ lay_live q change None h = outer (is_idle change) refl h
     made (Set id name value) e h = absurd (cc)
     made (Move id place) e h = absurd (cc)
     made (Delete id) e h = absurd (cc)
+
     inner : (b : Bool) → same_id q (object_of change) ≡ b → is_some (cond b (laid change None) None) ≡ true → (is_some {T = Object} None ≡ true) ⊎ ((kind : Kind) × (place : Place) × (change ≡ Create q kind place))
     inner true e h = inr (made change e h)
     inner false e h = absurd (cc)
+
     outer : (b : Bool) → is_idle change ≡ b → is_some (cond b None (cond (same_id q (object_of change)) (laid change None) None)) ≡ true → (is_some {T = Object} None ≡ true) ⊎ ((kind : Kind) × (place : Place) × (change ≡ Create q kind place))
     outer true e h = absurd (cc)
     outer false e h = inner (same_id q (object_of change)) refl h
@@ -69,9 +70,11 @@ live_over_at q (change ∷ changes) x h = first (live_over_at q changes (lay_at 
     now : (is_some x ≡ true) ⊎ ((kind : Kind) × (place : Place) × (change ≡ Create q kind place)) → (is_some x ≡ true) ⊎ CreatedBy (change ∷ changes) q
     now (inl a) = inl a
     now (inr a) = inr (record { place = 1; is = (a.0, a.1, ap Some a.2) })
+
     later : CreatedBy changes q → (n : ℕ) → IsCreation (nth changes n) q → (is_some x ≡ true) ⊎ CreatedBy (change ∷ changes) q
     later c zero is = absurd (let e = is.2 in cc)
     later c (suc n) is = inr (record { place = suc (suc n); is = is })
+
     first : (is_some (lay_at q change x) ≡ true) ⊎ CreatedBy changes q → (is_some x ≡ true) ⊎ CreatedBy (change ∷ changes) q
     first (inl a) = now (lay_live q change x a)
     first (inr c) = later c c.place c.is

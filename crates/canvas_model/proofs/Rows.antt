@@ -1,25 +1,22 @@
 -- What a list of changes makes of one row.
-use Rattle.std.proofs.Common.{◌≡◌, ◌≢◌, ◌⊎◌, ℕ, List, [], ◌∷◌, ◌++◌, refl, ap, sym, ◌∙◌, subst, arith}
-use mathlib.Core.Logic.{inl, inr}
-use Rattle.std.specs.Prelude.{Bool, true, false, not, cond, ◌&&◌, ◌||◌, Option, Some, None, IsTrue, is_some}
-use Rattle.std.specs.Option.{option_map, option_and_then}
+use Rattle.std.proofs.Common.{◌≡◌, List, [], ◌∷◌, refl, ap, sym, ◌∙◌, subst}
+use Rattle.std.specs.Prelude.{Bool, true, false, not, cond, ◌&&◌, ◌||◌, Option, Some, None}
+use Rattle.std.specs.Option.{option_map}
 use Rattle.std.specs.List.{list_any}
-use Rattle.std.specs.Ordering.{nat_cmp, eq_by_cmp, is_eq}
+use Rattle.std.specs.Ordering.{is_eq}
 use Rattle.std.specs.Cmp.{tied_itself}
-use Rattle.std.specs.Cmp.Lexicographic.{slice_cmp, nat_list_cmp_total}
-use Rattle.std.specs.FinMap.{FinMap, same_map, get-insert, get-remove, slice_cmp-IsAntisymmetric, nat_cmp-IsAntisymmetric}
+use Rattle.std.specs.Cmp.Lexicographic.{nat_list_cmp_total}
+use Rattle.std.specs.FinMap.{same_map, get-insert, get-remove, slice_cmp-IsAntisymmetric, nat_cmp-IsAntisymmetric}
 use Rattle.std.specs.FinMap as map
 use Rattle.std.specs.declared.cmp.Ordering.{Ordering}
 use Rattle.std.specs.declared.cmp.Ordering.TheVariants.{Less, Equal, Greater}
 use Rattle.canvas_model.specs.Value.{Value}
 use Rattle.canvas_model.specs.declared.ObjId.{ObjId}
 use Rattle.canvas_model.specs.Ids.{root, same_id}
-use Rattle.canvas_model.specs.declared.Kind.{Kind}
-use Rattle.canvas_model.specs.Document.{Place, Name, name_cmp, Object, new_object, Doc, with_prop, with_place}
-use Rattle.canvas_model.specs.Change.{Change, Create, Set, Move, Delete, object_of}
+use Rattle.canvas_model.specs.Document.{Place, Name, name_cmp, Object, new_object, with_prop, with_place}
+use Rattle.canvas_model.specs.Change.{Change, Create, Set, Move, Delete}
 use Rattle.canvas_model.specs.Overlay.{laid, is_idle}
 use Rattle.canvas_model.specs.View.{same_name, creates_it, sets_it, moves_it, deletes_it, is_about}
-use Rattle.canvas_model.proofs.Ids.{same_id_true, id_itself, id_dec}
 use Rattle.canvas_model.proofs.Overlay.{lay_at, over_at}
 
 -- the rows of one object's properties
@@ -57,9 +54,9 @@ shadow false x y z = refl
 pub prop_twice : (name : Name) (v w : Option Value) (o : Object) → with_prop name v (with_prop name w o) ≡ with_prop name v o
 prop_twice name v w o =
     same_object (with_prop name v (with_prop name w o)) (with_prop name v o)
-      (kind_kept name v (with_prop name w o) ∙ kind_kept name w o ∙ sym (kind_kept name v o))
-      (place_kept name v (with_prop name w o) ∙ place_kept name w o ∙ sym (place_kept name v o))
-      (λ q. prop_of (with_prop name w o) name v q ∙ ap (cond (same_name q name) v) (prop_of o name w q) ∙ shadow (same_name q name) v w (map.get o.props q) ∙ sym (prop_of o name v q))
+    (kind_kept name v (with_prop name w o) ∙ kind_kept name w o ∙ sym (kind_kept name v o))
+    (place_kept name v (with_prop name w o) ∙ place_kept name w o ∙ sym (place_kept name v o))
+    (λ q. prop_of (with_prop name w o) name v q ∙ ap (cond (same_name q name) v) (prop_of o name w q) ∙ shadow (same_name q name) v w (map.get o.props q) ∙ sym (prop_of o name v q))
 
 swapped : {A : Type 0} (a b : Bool) (x y z : A) → (a ≡ true → b ≡ true → ⊥) → cond a x (cond b y z) ≡ cond b y (cond a x z)
 swapped true true x y z h = absurd (h refl refl)
@@ -70,11 +67,11 @@ swapped false b x y z h = refl
 pub prop_other : (name other : Name) (v w : Option Value) (o : Object) → same_name name other ≡ false → with_prop other w (with_prop name v o) ≡ with_prop name v (with_prop other w o)
 prop_other name other v w o apart =
     same_object (with_prop other w (with_prop name v o)) (with_prop name v (with_prop other w o))
-      (kind_kept other w (with_prop name v o) ∙ kind_kept name v o ∙ sym (kind_kept name v (with_prop other w o) ∙ kind_kept other w o))
-      (place_kept other w (with_prop name v o) ∙ place_kept name v o ∙ sym (place_kept name v (with_prop other w o) ∙ place_kept other w o))
-      (λ q. prop_of (with_prop name v o) other w q ∙ ap (cond (same_name q other) w) (prop_of o name v q)
-        ∙ swapped (same_name q other) (same_name q name) w v (map.get o.props q) (λ a b. let x = same_name_true q other a in let y = same_name_true q name b in let z : same_name name other ≡ true = ap (λ t. same_name t other) (sym y) ∙ a in cc)
-        ∙ ap (cond (same_name q name) v) (sym (prop_of o other w q)) ∙ sym (prop_of (with_prop other w o) name v q))
+    (kind_kept other w (with_prop name v o) ∙ kind_kept name v o ∙ sym (kind_kept name v (with_prop other w o) ∙ kind_kept other w o))
+    (place_kept other w (with_prop name v o) ∙ place_kept name v o ∙ sym (place_kept name v (with_prop other w o) ∙ place_kept other w o))
+    (λ q. prop_of (with_prop name v o) other w q ∙ ap (cond (same_name q other) w) (prop_of o name v q)
+    ∙ swapped (same_name q other) (same_name q name) w v (map.get o.props q) (λ a b. let x = same_name_true q other a in let y = same_name_true q name b in let z : same_name name other ≡ true = ap (λ t. same_name t other) (sym y) ∙ a in cc)
+    ∙ ap (cond (same_name q name) v) (sym (prop_of o other w q)) ∙ sym (prop_of (with_prop other w o) name v q))
 
 pub place_prop : (name : Name) (v : Option Value) (place : Place) (o : Object) → with_prop name v (with_place place o) ≡ with_place place (with_prop name v o)
 place_prop name None place o = refl
@@ -92,9 +89,11 @@ none_stays q (change ∷ changes) h = ap (over_at q changes) (one change (or_fir
     or_first : (a b : Bool) → (a || b) ≡ false → a ≡ false
     or_first true b h = absurd (cc)
     or_first false b h = refl
+
     or_second : (a b : Bool) → (a || b) ≡ false → b ≡ false
     or_second true b h = absurd (cc)
     or_second false b h = h
+
     one : (change : Change) → creates_it q change ≡ false → lay_at q change None ≡ None
     one (Create id kind place) h = ap (cond (same_id id root) None) (ap (λ b. cond b (Some (new_object kind (Some place))) None) h) ∙ both_ways (same_id id root) None
     one (Set id name value) h = both_ways (same_id q id) None
@@ -103,22 +102,24 @@ none_stays q (change ∷ changes) h = ap (over_at q changes) (one change (or_fir
 
 -- what f makes of an object's row lasts, unless a change writes that row
 module _ (q : ObjId) (f : Object → Object) (writes : Change → Bool)
-  (step : (change : Change) → creates_it q change ≡ false → (x : Option Object) → lay_at q change (option_map f x) ≡ cond (writes change) (lay_at q change x) (option_map f (lay_at q change x)))
+    (step : (change : Change) → creates_it q change ≡ false → (x : Option Object) → lay_at q change (option_map f x) ≡ cond (writes change) (lay_at q change x) (option_map f (lay_at q change x)))
   where
-  pub row_over : (changes : List Change) → list_any (creates_it q) changes ≡ false → (x : Option Object) → over_at q changes (option_map f x) ≡ cond (list_any writes changes) (over_at q changes x) (option_map f (over_at q changes x))
-  row_over [] h x = refl
-  row_over (change ∷ changes) h x = ap (over_at q changes) (step change (any_first (creates_it q change) (list_any (creates_it q) changes) h) x) ∙ go (writes change) (row_over changes (any_second (creates_it q change) (list_any (creates_it q) changes) h) (lay_at q change x))
-    where
-      any_first : (a b : Bool) → (a || b) ≡ false → a ≡ false
-      any_first true b h = absurd (cc)
-      any_first false b h = refl
-      any_second : (a b : Bool) → (a || b) ≡ false → b ≡ false
-      any_second true b h = absurd (cc)
-      any_second false b h = h
-      go : (b : Bool) → over_at q changes (option_map f (lay_at q change x)) ≡ cond (list_any writes changes) (over_at q changes (lay_at q change x)) (option_map f (over_at q changes (lay_at q change x)))
-        → over_at q changes (cond b (lay_at q change x) (option_map f (lay_at q change x))) ≡ cond (b || list_any writes changes) (over_at q changes (lay_at q change x)) (option_map f (over_at q changes (lay_at q change x)))
-      go true ih = refl
-      go false ih = ih
+    pub row_over : (changes : List Change) → list_any (creates_it q) changes ≡ false → (x : Option Object) → over_at q changes (option_map f x) ≡ cond (list_any writes changes) (over_at q changes x) (option_map f (over_at q changes x))
+    row_over [] h x = refl
+    row_over (change ∷ changes) h x = ap (over_at q changes) (step change (any_first (creates_it q change) (list_any (creates_it q) changes) h) x) ∙ go (writes change) (row_over changes (any_second (creates_it q change) (list_any (creates_it q) changes) h) (lay_at q change x))
+      where
+        any_first : (a b : Bool) → (a || b) ≡ false → a ≡ false
+        any_first true b h = absurd (cc)
+        any_first false b h = refl
+
+        any_second : (a b : Bool) → (a || b) ≡ false → b ≡ false
+        any_second true b h = absurd (cc)
+        any_second false b h = h
+
+        go : (b : Bool) → over_at q changes (option_map f (lay_at q change x)) ≡ cond (list_any writes changes) (over_at q changes (lay_at q change x)) (option_map f (over_at q changes (lay_at q change x)))
+            → over_at q changes (cond b (lay_at q change x) (option_map f (lay_at q change x))) ≡ cond (b || list_any writes changes) (over_at q changes (lay_at q change x)) (option_map f (over_at q changes (lay_at q change x)))
+        go true ih = refl
+        go false ih = ih
 
 -- the step for a place
 pub place_step : (q : ObjId) (place : Place) (change : Change) → creates_it q change ≡ false → (x : Option Object) → lay_at q change (option_map (with_place place) x) ≡ cond (moves_it q change) (lay_at q change x) (option_map (with_place place) (lay_at q change x))
@@ -137,7 +138,7 @@ place_step q place (Set id name value) h x = here (same_id q id) x
 place_step q place (Move id p) h x = here (same_id id root) (same_id q id) x
   where
     here : (a b : Bool) (x : Option Object) → cond a (option_map (with_place place) x) (cond b (option_map (with_place p) (option_map (with_place place) x)) (option_map (with_place place) x))
-      ≡ cond (b && not a) (cond a x (cond b (option_map (with_place p) x) x)) (option_map (with_place place) (cond a x (cond b (option_map (with_place p) x) x)))
+        ≡ cond (b && not a) (cond a x (cond b (option_map (with_place p) x) x)) (option_map (with_place place) (cond a x (cond b (option_map (with_place p) x) x)))
     here true true x = refl
     here true false x = refl
     here false true None = refl
@@ -161,7 +162,7 @@ prop_step q name value (Create id kind p) h x = here (same_id id root) (same_id 
 prop_step q name value (Set id other w) h x = here (same_id q id) (same_name name other) refl x
   where
     here : (b c : Bool) → same_name name other ≡ c → (x : Option Object) → cond b (option_map (with_prop other w) (option_map (with_prop name value) x)) (option_map (with_prop name value) x)
-      ≡ cond (b && c) (cond b (option_map (with_prop other w) x) x) (option_map (with_prop name value) (cond b (option_map (with_prop other w) x) x))
+        ≡ cond (b && c) (cond b (option_map (with_prop other w) x) x) (option_map (with_prop name value) (cond b (option_map (with_prop other w) x) x))
     here true true e None = refl
     here true false e None = refl
     here true true e (Some o) = ap Some (subst (λ n. with_prop other w (with_prop n value o) ≡ with_prop other w o) (sym (same_name_true name other e)) (prop_twice other w value o))
@@ -205,6 +206,7 @@ gone_deleted q (change ∷ changes) o h = go (deletes_it q change) refl (λ p e.
         here true b e = (o, refl)
         here false true e = absurd (cc)
         here false false e = (o, refl)
+
     go : (b : Bool) → deletes_it q change ≡ b → ((p : Object) → over_at q changes (Some p) ≡ None → list_any (deletes_it q) changes ≡ true) → (b || list_any (deletes_it q) changes) ≡ true
     go true e rec = refl
     go false e rec = let s = still change e in rec s.0 (ap (over_at q changes) (sym s.1) ∙ h)
@@ -220,6 +222,7 @@ untouched q (change ∷ changes) x h = ap (over_at q changes) (untouched_step q 
     any_first : (a b : Bool) → (a || b) ≡ false → a ≡ false
     any_first true b h = absurd (cc)
     any_first false b h = refl
+
     any_second : (a b : Bool) → (a || b) ≡ false → b ≡ false
     any_second true b h = absurd (cc)
     any_second false b h = h
@@ -232,9 +235,11 @@ untouched_writes q (change ∷ changes) h = go change (untouched_writes q change
     any_first : (a b : Bool) → (a || b) ≡ false → a ≡ false
     any_first true b h = absurd (cc)
     any_first false b h = refl
+
     any_second : (a b : Bool) → (a || b) ≡ false → b ≡ false
     any_second true b h = absurd (cc)
     any_second false b h = h
+
     go : (change : Change) → (list_any (deletes_it q) changes ≡ false) × (list_any (creates_it q) changes ≡ false) → is_about q change ≡ false → ((deletes_it q change || list_any (deletes_it q) changes) ≡ false) × ((creates_it q change || list_any (creates_it q) changes) ≡ false)
     go (Create id kind place) r h = (r.0, ap (λ b. b || list_any (creates_it q) changes) h ∙ r.1)
     go (Set id name value) r h = r

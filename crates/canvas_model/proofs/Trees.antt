@@ -1,13 +1,10 @@
 -- Chains of parents.
-use Rattle.std.proofs.Common.{◌≡◌, ◌≢◌, ◌⊎◌, ℕ, refl, ap, sym, ◌∙◌, subst, arith}
-use mathlib.Core.Logic.{inl, inr}
-use Rattle.std.specs.Prelude.{Bool, true, false, cond, Option, Some, None, IsTrue, is_some}
-use Rattle.std.specs.Option.{option_map, option_and_then}
-use Rattle.std.specs.FinMap as map
+use Rattle.std.proofs.Common.{◌≡◌, refl, subst}
+use Rattle.std.specs.Prelude.{true, Some, None}
 use Rattle.canvas_model.specs.declared.ObjId.{ObjId}
 use Rattle.canvas_model.specs.Ids.{root}
-use Rattle.canvas_model.specs.Document.{Object, Doc, live, place_of, Place}
-use Rattle.canvas_model.specs.Chain.{Below, itself, through, InTree, IsCycle}
+use Rattle.canvas_model.specs.Document.{Doc, live, place_of, Place}
+use Rattle.canvas_model.specs.Chain.{Below, itself, through, IsCycle}
 use Rattle.canvas_model.specs.State.{State, IsSound}
 use Rattle.canvas_model.proofs.Making.{below_live}
 
@@ -28,6 +25,7 @@ turn d q place is alive (other, at, back) = go place.parent refl (subst (λ p. B
   where
     step : Below d q place.parent
     step = through place is (itself alive)
+
     go : (p : ObjId) → p ≡ place.parent → Below d p q → IsCycle d place.parent
     go p e (itself h) = subst (λ x. IsCycle d x) e (other, at, back)
     go p e (through next here up) = (next, subst (λ x. place_of d x ≡ Some next) e here, below_trans up step)

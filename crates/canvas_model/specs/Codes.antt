@@ -144,7 +144,7 @@ props_code = map.code (coded_list coded_ℕ) value_code
 abbrev pub object_code : Coded Object
 object_code =
     code_by (Kind × (Option Place × FinMap name_cmp Value)) (coded× kind_code (coded× (coded_option place_code) props_code))
-      (λ o. (o.kind, (o.place, o.props))) (λ p. record { kind = p.0; place = p.1.0; props = p.1.1 }) (λ _. refl)
+    (λ o. (o.kind, (o.place, o.props))) (λ p. record { kind = p.0; place = p.1.0; props = p.1.1 }) (λ _. refl)
 
 abbrev pub doc_code : Coded Doc
 doc_code = map.code id_code object_code

@@ -1,17 +1,16 @@
 -- What holds of every world that events lead to.
-use Rattle.std.specs.Prelude.{◌≡◌, ◌≢◌, ◌⊎◌, ℕ, zero, suc, ◌+◌, ◌≤◌, ◌<◌, Bool, true, false, cond, List, [], ◌∷◌, length, Option, Some, None, IsTrue, count_by, take}
+use Rattle.std.specs.Prelude.{◌≡◌, ◌⊎◌, ℕ, ◌≤◌, ◌<◌, List, [], length, Option, Some, None}
 use Rattle.canvas_model.specs.declared.ObjId.{ObjId}
 use Rattle.canvas_model.specs.Ids.{root}
 use Rattle.canvas_model.specs.declared.Kind.{Kind}
-use Rattle.canvas_model.specs.Document.{Place, Doc}
-use Rattle.canvas_model.specs.Chain.{InTree, IsCycle}
+use Rattle.canvas_model.specs.Document.{Place}
+use Rattle.canvas_model.specs.Chain.{IsCycle}
 use Rattle.canvas_model.specs.Change.{Change, Create, object_of}
 use Rattle.canvas_model.specs.Overlay.{over}
 use Rattle.canvas_model.specs.State.{State, opening, done, used, IsSound}
-use Rattle.canvas_model.specs.Log.{What, Edit, Entry, IsLegal, at_version}
-use Rattle.canvas_model.specs.Verdict.{Outcome, Joined}
-use Rattle.canvas_model.specs.Local.{Hand}
-use Rattle.canvas_model.specs.World.{Message, Asks, Welcome, Sends, Tells, Copies, Letter, Node, World, state, nth, node, unacknowledged, IsEdit, is_own, Event, Answer, Step, Run, empty}
+use Rattle.canvas_model.specs.Log.{Edit, Entry, IsLegal, at_version}
+use Rattle.canvas_model.specs.Verdict.{Joined}
+use Rattle.canvas_model.specs.World.{Message, Asks, Welcome, Sends, Tells, Copies, Letter, Node, World, state, nth, node, unacknowledged, IsEdit, Event, Run, empty}
 
 -- entry v is a Join that this node asked for, and gave it this id
 pub record Gave (log : List Entry) (askers : List ℕ) (v k c : ℕ) : Type 0 where
@@ -103,4 +102,4 @@ NoSharedId = (events : List Event) (w : World) → Run empty events w → (k j c
 abbrev pub OnceEach : Type 0
 OnceEach = (events : List Event) (w : World) → Run empty events w → (k i c : ℕ) (n : Node) → Holds w.nodes k c n → 0 < i → i ≤ n.acknowledged
     → (v : ℕ) × (e : Entry) × (v ≤ w.published) × (nth w.log v ≡ Some e) × (e.author ≡ c) × (e.seq ≡ i) × IsEdit e.what (nth n.hand.edits i)
-      × ((u : ℕ) (other : Entry) → nth w.log u ≡ Some other → other.author ≡ c → other.seq ≡ i → u ≡ v)
+    × ((u : ℕ) (other : Entry) → nth w.log u ≡ Some other → other.author ≡ c → other.seq ≡ i → u ≡ v)

@@ -1,5 +1,5 @@
 -- Object ids: who made the object, and which of theirs it is.
-use Rattle.std.specs.Prelude.{ℕ, Bool}
+use Rattle.std.specs.Prelude.{Bool}
 use Rattle.std.specs.Ordering.{nat_cmp, on, then_cmp, eq_by_cmp}
 use Rattle.std.specs.declared.cmp.Ordering.{Ordering}
 use Rattle.canvas_model.specs.declared.ObjId.{ObjId}

@@ -1,14 +1,14 @@
 -- The laws of the model.
-use Rattle.std.specs.Prelude.{◌≡◌, ◌+◌, ℕ, suc, cond, drop, take, map, None, ◌≤◌, ◌<◌, List, length, Option, Some}
+use Rattle.std.specs.Prelude.{◌≡◌, ℕ, suc, cond, drop, take, map, None, ◌≤◌, ◌<◌, List, length, Option, Some}
 use Rattle.canvas_model.specs.declared.ObjId.{ObjId}
 use Rattle.canvas_model.specs.declared.Kind.{Kind}
 use Rattle.canvas_model.specs.Document.{Place}
 use Rattle.canvas_model.specs.Change.{Change, Create, object_of}
 use Rattle.canvas_model.specs.Overlay.{over}
-use Rattle.canvas_model.specs.State.{State, IsSound, done}
+use Rattle.canvas_model.specs.State.{State, IsSound}
 use Rattle.canvas_model.specs.Log.{Entry, What, Join, Edit, Fits, effect, at_version}
 use Rattle.canvas_model.specs.Verdict.{Created}
-use Rattle.canvas_model.specs.World.{World, Node, Message, Event, Answer, NotForMe, Step, nth, IsEdit, is_own, Receives, Tells, Copies}
+use Rattle.canvas_model.specs.World.{World, Node, Event, Answer, Step, nth, IsEdit, is_own, Tells, Copies}
 use Rattle.canvas_model.specs.View.{refreshed}
 use Rattle.std.specs.List.{filter}
 use Rattle.canvas_model.specs.Good.{IsGood, IsTrueOf, Holds}

@@ -1,23 +1,15 @@
 -- A client's own edits, what it accepts of messages, and the law of its view.
-use Rattle.std.specs.Prelude.{◌≡◌, ◌≢◌, ◌⊎◌, ◌&&◌, ◌||◌, ◌==◌, ℕ, zero, suc, ◌+◌, ◌-◌, ◌^◌, ◌≤◌, ◌<◌, Bool, true, false, not, cond, List, [], ◌∷◌, ◌++◌, length, take, drop, Option, Some, None, IsTrue, is_some, slice_get, nat_lt, nat_le}
-use Rattle.std.specs.Option.{option_map, option_and_then}
-use Rattle.std.specs.List.{list_any}
-use Rattle.std.specs.FinMap as map
+use Rattle.std.specs.Prelude.{◌≡◌, ◌≢◌, ◌⊎◌, ℕ, ◌+◌, ◌^◌, ◌<◌, false, List, [], ◌∷◌, ◌++◌, length, Option, Some, None}
 use Rattle.canvas_model.specs.Middle.{Middle}
 use Rattle.canvas_model.specs.Value.{Value}
 use Rattle.canvas_model.specs.declared.ObjId.{ObjId}
-use Rattle.canvas_model.specs.Ids.{root, same_id}
+use Rattle.canvas_model.specs.Ids.{root}
 use Rattle.canvas_model.specs.declared.Kind.{Kind}
-use Rattle.canvas_model.specs.Document.{may_stand, Pos, Place, Name, Object, Doc, live, kind_of, place_of}
-use Rattle.canvas_model.specs.Position.{IsPosition}
-use Rattle.canvas_model.specs.Order.{IsBefore, IsAfter}
+use Rattle.canvas_model.specs.Document.{may_stand, Pos, Name, Doc, kind_of}
 use Rattle.canvas_model.specs.Sibling.{IsSibling, IsNext}
 use Rattle.canvas_model.specs.Chain.{Below, InTree}
-use Rattle.canvas_model.specs.Change.{Change, object_of}
-use Rattle.canvas_model.specs.Overlay.{over, lay}
-use Rattle.canvas_model.specs.State.{State, used}
-use Rattle.canvas_model.specs.Log.{What, Join, Edit, Entry}
-use Rattle.canvas_model.specs.Verdict.{Outcome}
+use Rattle.canvas_model.specs.Change.{Change}
+use Rattle.canvas_model.specs.Overlay.{lay}
 
 pub data Request : Type 0 where
   Create : Kind → ObjId → Option ObjId → Request

@@ -1,5 +1,5 @@
 -- Values of properties: finite trees of numbers, truth values, colours, texts and lists.
-use Rattle.std.specs.Prelude.{ℕ, ℤ, suc, max, Bool, List, [], ◌∷◌, ◌≤◌}
+use Rattle.std.specs.Prelude.{ℕ, ℤ, suc, max, Bool, List, [], ◌∷◌}
 
 mutual
   pub data Value : Type 0 where

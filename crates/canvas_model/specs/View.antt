@@ -1,5 +1,5 @@
 -- A client's view, brought up to the next entry row by row from the view, its waiting edits and the entry alone.
-use Rattle.std.specs.Prelude.{◌≡◌, ◌≢◌, ◌⊎◌, ◌&&◌, ◌||◌, ℕ, ◌≤◌, ◌<◌, Bool, true, false, not, cond, List, [], ◌∷◌, Option, Some, None, IsTrue}
+use Rattle.std.specs.Prelude.{◌≡◌, ◌≢◌, ◌&&◌, ℕ, ◌≤◌, Bool, true, false, not, cond, List, [], ◌∷◌, Option, Some, None}
 use Rattle.std.specs.Option.{option_map}
 use Rattle.std.specs.Ordering.{eq_by_cmp}
 use Rattle.std.specs.List.{list_any}
@@ -10,9 +10,9 @@ use Rattle.canvas_model.specs.Ids.{root, same_id}
 use Rattle.canvas_model.specs.declared.Kind.{Kind}
 use Rattle.canvas_model.specs.Document.{Place, Name, name_cmp, Object, new_object, Doc, live, revise, with_prop, with_place, without}
 use Rattle.canvas_model.specs.Change.{Change, Create, Set, Move, Delete, object_of}
-use Rattle.canvas_model.specs.Overlay.{is_idle, over}
+use Rattle.canvas_model.specs.Overlay.{over}
 use Rattle.canvas_model.specs.State.{State, IsSound}
-use Rattle.canvas_model.specs.Log.{What, Join, Edit, Entry, effect}
+use Rattle.canvas_model.specs.Log.{What, Edit, Entry, effect}
 use Rattle.canvas_model.specs.Verdict.{Outcome, Created, WasSet, Moved, Removed, Refused, Verdict}
 
 abbrev pub same_name : Name → Name → Bool

@@ -1,7 +1,5 @@
 -- All nodes, the server and every message ever sent, and what one event does to them.
-use Rattle.std.specs.Prelude.{◌≡◌, ◌≢◌, ◌⊎◌, ◌&&◌, ◌||◌, ◌==◌, ℕ, zero, suc, ◌+◌, ◌-◌, ◌≤◌, ◌<◌, Bool, true, false, not, cond, List, [], ◌∷◌, ◌++◌, length, take, drop, Option, Some, None, IsTrue, is_some, slice_get, nat_lt, nat_le}
-use Rattle.std.specs.Option.{option_map, option_and_then, MatchOption}
-use Rattle.std.specs.FinMap as map
+use Rattle.std.specs.Prelude.{◌≡◌, ◌⊎◌, ◌&&◌, ◌||◌, ◌==◌, ℕ, zero, suc, ◌+◌, Bool, not, cond, List, [], ◌∷◌, ◌++◌, length, take, drop, Option, Some, None, is_some, slice_get, nat_lt, nat_le}
 use Rattle.canvas_model.specs.Document.{Doc, blank}
 use Rattle.canvas_model.specs.Change.{Change}
 use Rattle.canvas_model.specs.Overlay.{over}
@@ -189,9 +187,9 @@ Receives log c n (Tells v e) answer new =
     cond (nat_le v n.version) ((answer ≡ Old) × (new ≡ n))
     (cond (nat_lt (n.version + 1) v) ((answer ≡ Ahead) × (new ≡ n))
     (cond (is_own c e)
-      (((answer ≡ Took) × (e.seq ≡ n.acknowledged + 1) × IsEdit e.what (nth n.hand.edits (n.acknowledged + 1)) × (new ≡ stands_at n (at_version log v).doc v (n.acknowledged + 1)))
-        ⊎ ((answer ≡ NotForMe) × Foreign c n e × (new ≡ n)))
-      ((answer ≡ Took) × (new ≡ stands_at n (at_version log v).doc v n.acknowledged))))
+    (((answer ≡ Took) × (e.seq ≡ n.acknowledged + 1) × IsEdit e.what (nth n.hand.edits (n.acknowledged + 1)) × (new ≡ stands_at n (at_version log v).doc v (n.acknowledged + 1)))
+    ⊎ ((answer ≡ NotForMe) × Foreign c n e × (new ≡ n)))
+    ((answer ≡ Took) × (new ≡ stands_at n (at_version log v).doc v n.acknowledged))))
 Receives log c n (Copies v d copy) answer new =
     cond (nat_le v n.version) ((answer ≡ Old) × (new ≡ n))
     (cond (nat_lt d n.acknowledged || nat_lt (length n.hand.edits) d) ((answer ≡ NotForMe) × (new ≡ n))
