@@ -1,6 +1,11 @@
 pub mod Maps
 pub mod Searched
+pub mod Kept
 pub mod Copied
 pub mod Rooted
 pub mod Standing
 pub mod Nearer
+pub mod Revised
+pub mod Listed
+pub mod Rows
+pub mod Props

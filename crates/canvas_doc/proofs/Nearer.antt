@@ -4,9 +4,8 @@ use Rattle.std.specs.Cmp.Lexicographic.{nat_list_cmp_total}
 use Rattle.std.proofs.lemmas.List.{get_or_default}
 use Rattle.canvas_model.specs.declared.ObjId.{ObjId}
 use Rattle.canvas_model.specs.Document.{Object, Place, Pos}
-use Rattle.canvas_model.specs.Order.{IsBefore, IsAfter}
+use Rattle.canvas_model.specs.Order.{IsBefore, IsAfter, IsUnder}
 use Rattle.canvas_doc.specs.Entries.{StandsThere}
-use Rattle.canvas_model.specs.Order.{IsUnder}
 use Rattle.canvas_doc.specs.Nearest.{IsNearer, IsLeast, Nearest}
 
 place_pos : (p q : Place) → Some p ≡ Some q → p.pos ≡ q.pos

@@ -1,22 +1,23 @@
 -- What a binary search by key finds among entries that are in order.
-use Rattle.std.proofs.Common.{◌≡◌, ℕ, zero, suc, ◌+◌, ◌<◌, ◌≤◌, Bool, true, false, ◌&&◌, List, [], ◌∷◌, length, get_or, Some, None, Result, Ok, Err, IfOk, IfErr, T, refl, sym, ap, ◌∙◌, arith, add-one}
-use Rattle.std.specs.List.{insert, AllWithin}
+use Rattle.std.proofs.Common.{◌≡◌, ℕ, zero, suc, ◌+◌, ◌<◌, ◌≤◌, Bool, true, false, cond, ◌&&◌, List, [], ◌∷◌, length, get_or, Some, None, Result, Ok, Err, IfOk, IfErr, T, refl, sym, ap, subst, ◌∙◌, arith, add-one}
+use Rattle.std.specs.Prelude.{slice_set}
+use Rattle.std.specs.List.{insert, remove, AllWithin}
 use Rattle.std.specs.List.Sorted.{IsSearchInRange, IsBinarySearchResult, IsNonDecreasingBy, IsSortedBy}
 use Rattle.std.proofs.lemmas.List.Sorted.{searchable_from_sorted}
 use Rattle.std.proofs.lemmas.Cmp.{tied_back}
-use Rattle.std.specs.FinMap.Entries.{below_all}
+use Rattle.std.specs.FinMap.Entries.{below_all, where_key}
 use Rattle.std.specs.Cmp.{IsTotalOrder}
 use Rattle.std.specs.declared.cmp.Ordering.{Ordering}
 use Rattle.std.specs.declared.cmp.Ordering.TheVariants.{Less, Equal, Greater}
-use Rattle.std.specs.Ordering.{is_lt, ordering_index, ordering_reverse}
+use Rattle.std.specs.Ordering.{is_lt, is_eq, ordering_index, ordering_reverse}
 use Rattle.std.specs.FinMap.{is_sorted, find, put}
-use Rattle.canvas_doc.specs.Entries.{IsEntryAt, IsGapAt}
+use Rattle.canvas_doc.specs.Entries.{is_other, IsEntryAt, IsGapAt}
 
 first : (a b : Bool) → T (a && b) → T a
 first true b p = tt
 first false b p = p
 
-second : (a b : Bool) → T (a && b) → T b
+pub second : (a b : Bool) → T (a && b) → T b
 second true b p = p
 second false b p = absurd p
 
@@ -25,14 +26,14 @@ less Less p = refl
 less Equal p = absurd p
 less Greater p = absurd p
 
-greater : {K : Type 0} {R : K → K → Ordering} → IsTotalOrder R → (x y : K) → R x y ≡ Less → R y x ≡ Greater
+pub greater : {K : Type 0} {R : K → K → Ordering} → IsTotalOrder R → (x y : K) → R x y ≡ Less → R y x ≡ Greater
 greater o x y e = o.antisymm y x ∙ ap ordering_reverse e
 
 smaller_of : {K : Type 0} {R : K → K → Ordering} → IsTotalOrder R → (x y : K) → R x y ≡ Greater → R y x ≡ Less
 smaller_of o x y e = o.antisymm y x ∙ ap ordering_reverse e
 
 module _ {K X : Type 0} {R : K → K → Ordering} (o : IsTotalOrder R) where
-  abbrev below : K → List (K × X) → Type 0
+  abbrev pub below : K → List (K × X) → Type 0
   below x [] = Unit {0}
   below x (e ∷ es) = (R x e.0 ≡ Less) × below x es
 
@@ -45,7 +46,7 @@ module _ {K X : Type 0} {R : K → K → Ordering} (o : IsTotalOrder R) where
   below_at x (e ∷ es) h zero d lt = h.0
   below_at x (e ∷ es) h (suc i) d lt = below_at x es h.1 i d (omega arith)
 
-  head_below : (e : K × X) (es : List (K × X)) → T (is_sorted R (e ∷ es)) → below e.0 es
+  pub head_below : (e : K × X) (es : List (K × X)) → T (is_sorted R (e ∷ es)) → below e.0 es
   head_below e es h = below_from_test e.0 es (first _ _ h)
 
   -- neighbours are in order
@@ -92,8 +93,53 @@ module _ {K X : Type 0} {R : K → K → Ordering} (o : IsTotalOrder R) where
       (rw here rest.0, λ x. rw here (ap (λ es. e ∷ es) (rest.1 x)))
 
   pub searched : (es : List (K × X)) → T (is_sorted R es) → (k : K) (r : Result ℕ ℕ) → IsSearchInRange r (length es) → IsBinarySearchResult (λ e. R e.0 k) es r → IfOk r (IsEntryAt R es k) × IfErr r (IsGapAt R es k)
-  searched es h k (Ok i) within equal = (record { in_range = within; found = entry_at es h k i within equal }, tt)
+  searched es h k (Ok i) within equal = (record { in_range = within; tied = equal; found = entry_at es h k i within equal }, tt)
   searched es h k (Err i) within parted =
       let point = parted (rises es h k) in
       let gap = gap_at es k i within point.0 point.1 in
       (tt, record { in_range = within; absent = gap.0; put_there = gap.1 })
+
+  -- the entry of a key with another value
+  pub set_puts : (es : List (K × X)) → T (is_sorted R es) → (k : K) (i : ℕ) → i < length es → ((d : K × X) → R (get_or es i d).0 k ≡ Equal) → (d : K × X) (v : X) → slice_set es i ((get_or es i d).0, v) ≡ put R k v es
+  set_puts [] h k i lt tied d v = absurd (omega arith)
+  set_puts (e ∷ es) h k zero lt tied d v = rw (tied_back o _ _ (tied d)) refl
+  set_puts (e ∷ es) h k (suc i) lt tied d v =
+      let further = o.congr _ _ e.0 (tied d) in
+      let later = greater o _ _ (below_at e.0 es (head_below e es h) i d (omega arith)) in
+      rw (sym further ∙ later) (ap (λ es. e ∷ es) (set_puts es (second _ _ h) k i (omega arith) tied d v))
+
+  all_kept : (es : List (K × X)) (k : K) → ((i : ℕ) (d : K × X) → i < length es → is_eq (R (get_or es i d).0 k) ≡ false) → where_key R (is_other R k) es ≡ es
+  all_kept [] k h = refl
+  all_kept (e ∷ es) k h = rw (h 0 e (omega arith)) (ap (λ es. e ∷ es) (all_kept es k (λ i d lt. h (suc i) d (omega arith))))
+
+  removed : (es : List (K × X)) → T (is_sorted R es) → (k : K) (i : ℕ) → i < length es → ((d : K × X) → R (get_or es i d).0 k ≡ Equal) → remove es i ≡ where_key R (is_other R k) es
+  removed [] h k i lt tied = absurd (omega arith)
+  removed (e ∷ es) h k zero lt tied =
+      let later : (i : ℕ) (d : K × X) → i < length es → is_eq (R (get_or es i d).0 k) ≡ false = λ i d lt. ap is_eq (greater o k _ (sym (o.congr e.0 k _ (tied e)) ∙ below_at e.0 es (head_below e es h) i d lt)) in
+      rw (tied e) (sym (all_kept es k later))
+  removed (e ∷ es) h k (suc i) lt tied =
+      let further = o.congr _ _ e.0 (tied e) in
+      let later = greater o _ _ (below_at e.0 es (head_below e es h) i e (omega arith)) in
+      rw (smaller_of o _ _ (sym further ∙ later)) (ap (λ es. e ∷ es) (removed es (second _ _ h) k i (omega arith) tied))
+
+  not_there : (es : List (K × X)) (k : K) → find R k es ≡ None → where_key R (is_other R k) es ≡ es
+  not_there [] k none = refl
+  not_there (e ∷ es) k none =
+      elim (R k e.0) as (λ r. R k e.0 ≡ r → cond (is_eq r) (Some e.1) (find R k es) ≡ None → where_key R (is_other R k) (e ∷ es) ≡ e ∷ es) [
+        | Less ↦ λ is none. rw (greater o k e.0 is) (ap (λ es. e ∷ es) (not_there es k none))
+        | Equal ↦ λ is none. absurd (let f : Some e.1 ≡ None = none in cc)
+        | Greater ↦ λ is none. rw (smaller_of o k e.0 is) (ap (λ es. e ∷ es) (not_there es k none))
+      ] refl none
+
+  -- the entries without that of the key, where a slice of them was searched
+  module _ (es fs : List (K × X)) (h : T (is_sorted R es)) (same : fs ≡ es) (k : K) where
+    pub taken_out : (gs : List (K × X)) (i : ℕ) → IsEntryAt R fs k i → gs ≡ remove es i → gs ≡ where_key R (is_other R k) es
+    taken_out gs i found is = let at = subst (λ es. IsEntryAt R es k i) same found in is ∙ removed es h k i at.in_range at.tied
+
+    pub put_there : (i : ℕ) (v : X) (e : K × X) → IsEntryAt R fs k i → e ≡ get_or es i e → slice_set es i (e.0, v) ≡ put R k v es
+    put_there i v e found is =
+        let at = subst (λ es. IsEntryAt R es k i) same found in
+        ap (λ (x : K × X). slice_set es i (x.0, v)) is ∙ set_puts es h k i at.in_range at.tied e v
+
+    pub none_taken : (i : ℕ) → IsGapAt R fs k i → es ≡ where_key R (is_other R k) es
+    none_taken i gap = sym (not_there es k (ap (find R k) (sym same) ∙ gap.absent))

@@ -17,11 +17,11 @@ use Rattle.canvas_doc.specs.Nearest.{Nearest}
 use Rattle.canvas_doc.proofs.Searched.{entry_at}
 use Rattle.canvas_doc.proofs.Maps.{exact_ids, ids_total, get_is}
 
-some_is : {X : Type 0} (x y : X) → Some x ≡ Some y → x ≡ y
+pub some_is : {X : Type 0} (x y : X) → Some x ≡ Some y → x ≡ y
 some_is x y e = cc
 
 -- an entry of what is found
-listed : (es : List (ObjId × Object)) (q : ObjId) (x : Object) → map.find id_cmp q es ≡ Some x → (i : ℕ) × (i < length es) × ((d : ObjId × Object) → get_or es i d ≡ (q, x))
+pub listed : (es : List (ObjId × Object)) (q : ObjId) (x : Object) → map.find id_cmp q es ≡ Some x → (i : ℕ) × (i < length es) × ((d : ObjId × Object) → get_or es i d ≡ (q, x))
 listed [] q x e = absurd (let f : None ≡ Some x = e in cc)
 listed (f ∷ es) q x e =
     elim (id_cmp q f.0) as (λ r. id_cmp q f.0 ≡ r → cond (is_eq r) (Some f.1) (map.find id_cmp q es) ≡ Some x → (i : ℕ) × (i < length (f ∷ es)) × ((d : ObjId × Object) → get_or (f ∷ es) i d ≡ (q, x))) [

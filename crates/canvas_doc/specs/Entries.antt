@@ -1,15 +1,22 @@
 -- Entries in the order of their keys, and objects among them.
-use Rattle.std.specs.Prelude.{◌≡◌, ◌≢◌, ℕ, ◌<◌, ◌≤◌, List, length, slice_index_or, None, Some}
+use Rattle.std.specs.Prelude.{◌≡◌, ◌≢◌, ℕ, ◌<◌, ◌≤◌, Bool, not, List, length, slice_index_or, None, Some}
 use Rattle.std.specs.List.{insert}
 use Rattle.std.specs.declared.cmp.Ordering.{Ordering}
+use Rattle.std.specs.declared.cmp.Ordering.TheVariants.{Equal}
+use Rattle.std.specs.Ordering.{eq_by_cmp}
 use Rattle.std.specs.FinMap.{find, put}
 use Rattle.canvas_model.specs.declared.ObjId.{ObjId}
 use Rattle.canvas_model.specs.Document.{Object, Pos}
+
+-- whether the key is another one than k
+abbrev pub is_other : {K : Type 0} → (K → K → Ordering) → K → K → Bool
+is_other R k x = not (eq_by_cmp R x k)
 
 module _ {K X : Type 0} (R : K → K → Ordering) (es : List (K × X)) (k : K) where
   -- the key's entry is the one at this index
   pub record IsEntryAt (i : ℕ) : Type 0 where
     pub in_range : i < length es
+    pub tied : (d : K × X) → R (slice_index_or es i d).0 k ≡ Equal
     pub found : (d : K × X) → find R k es ≡ Some (slice_index_or es i d).1
 
   -- there is no entry of the key, and it would go there
@@ -18,6 +25,10 @@ module _ {K X : Type 0} (R : K → K → Ordering) (es : List (K × X)) (k : K) 
     pub absent : find R k es ≡ None
     pub put_there : (x : X) → insert es i (k, x) ≡ put R k x es
 
--- the entry is of an object other than `except`, which stands under this parent at this position
+-- the entry's object stands under this parent at this position
+abbrev pub IsUnderAt : ObjId → Pos → ObjId × Object → Type 0
+IsUnderAt parent pos e = e.1.place ≡ Some (record { parent = parent; pos = pos })
+
+-- the same, and it isn't `except`
 abbrev pub StandsThere : ObjId → ObjId → Pos → ObjId × Object → Type 0
-StandsThere parent except pos e = (e.0 ≢ except) × (e.1.place ≡ Some (record { parent = parent; pos = pos }))
+StandsThere parent except pos e = (e.0 ≢ except) × IsUnderAt parent pos e

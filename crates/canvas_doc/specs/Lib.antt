@@ -1,3 +1,4 @@
 pub mod Entries
 pub mod Nearest
 pub mod Seen
+pub mod ChildRows

@@ -1,25 +1,32 @@
 //! The document of a canvas: its live objects by their ids, and the changes that are asked of it.
 #![tactic(auto)]
 
-ghost use Rattle.std.specs.Prelude.{◌≡◌, ◌↔◌, false, IsTrue, IfOk, OnOk, OnErr};
-ghost use Rattle.std.specs.Option.{option_copied};
+ghost use Rattle.std.specs.Prelude.{◌≡◌, ◌≢◌, ◌↔◌, false, not, IsTrue, IfOk, OnOk, OnErr};
+ghost use Rattle.std.specs.List.{Contains, list_any};
+ghost use Rattle.std.specs.List.Sorted.{IsStrictlySortedBy};
+ghost use Rattle.std.specs.Option.{option_copied, option_map};
 ghost use Rattle.std.specs.FinMap as map;
-ghost use Rattle.canvas_model.specs.Document.{IsDocument, blank, live, new_object, revise};
+ghost use Rattle.canvas_model.specs.Ids.{id_cmp, root, same_id};
+ghost use Rattle.canvas_model.specs.Document.{IsDocument, blank, live, new_object, revise, with_place, with_prop, without};
 ghost use Rattle.canvas_model.specs.Document as document;
 ghost use Rattle.canvas_model.specs.Sibling.{IsTaken, IsNext};
+ghost use Rattle.canvas_model.specs.Children.{AreChildren};
 
 use canvas_pos::Pos;
 use std::alloc::{AllocError, Allocator, Global};
 use std::marker::Model;
 
 mod change;
+mod children;
 mod entries;
 mod object;
 mod place;
 
 pub use canvas_model::{Kind, ObjId};
+pub use canvas_value::{Name, TooDeep, Value};
 pub use change::{Change, ChangeNode};
-use entries::{add, value_of};
+use children::children_in;
+use entries::{index_of, put, take_out, value_of};
 pub use object::Object;
 use object::{nearer_sibling, same_entry, stands_there};
 pub use place::Place;
@@ -53,7 +60,7 @@ impl<A: Allocator + Copy> Doc<A> {
         ensures { IfOk result (λ d. d ≡ blank) }
     {
         let mut objects = Vec::new(alloc);
-        objects.push((ObjId::ROOT, Object::new(Kind::Document, None)))?;
+        objects.push((ObjId::ROOT, Object::new(alloc, Kind::Document, None)))?;
         Ok(Doc { objects })
     }
 
@@ -63,8 +70,21 @@ impl<A: Allocator + Copy> Doc<A> {
         ensures ok { OnOk result (self.new ≡ revise self.old id (Some (new_object kind (Some place)))) }
         ensures err { OnErr result (self.new ≡ self.old) }
     {
-        add(&mut self.objects, id, Object::new(kind, Some(place)))?;
+        let alloc = *self.objects.allocator();
+        put(&mut self.objects, id, Object::new(alloc, kind, Some(place)))?;
         Ok(())
+    }
+
+    /// The ids of the live objects whose place names this one, in the order of their positions, and of their ids where they
+    /// share one. The object itself may be gone. Walks all objects and sorts what it finds. Fails only where memory is refused.
+    pub fn children<B: Allocator + Copy>(
+        &self,
+        alloc: B,
+        id: ObjId,
+    ) -> Result<Vec<ObjId, B>, AllocError>
+        ensures { IfOk result (λ ids. AreChildren self.now id ids.items) }
+    {
+        children_in(alloc, &self.objects, id)
     }
 
     /// The same document under another allocator. Fails only where memory is refused.
@@ -96,6 +116,14 @@ impl<A: Allocator> Doc<A> {
         value_of(&self.objects, &id).is_some()
     }
 
+    /// The object, or none if it isn't live.
+    pub fn object(&self, id: ObjId) -> Option<&Object<A>>
+        ensures object { option_copied result ≡ map.get self.now id }
+        ensures document { IsDocument self.now }
+    {
+        value_of(&self.objects, &id)
+    }
+
     /// The kind of the object, or none if it isn't live.
     pub fn kind_of(&self, id: ObjId) -> Option<Kind>
         ensures { result ≡ document.kind_of self.now id }
@@ -110,6 +138,14 @@ impl<A: Allocator> Doc<A> {
     {
         let object = value_of(&self.objects, &id)?;
         object.place()
+    }
+
+    /// The value of a property of the object, or none if the object isn't live or hasn't the property.
+    pub fn get(&self, id: ObjId, name: &Name<A>) -> Option<&Value<A>>
+        ensures { option_copied result ≡ document.prop_of self.now id name.now }
+    {
+        let object = value_of(&self.objects, &id)?;
+        object.get(name)
     }
 
     /// Whether a child of `parent` other than `except` stands at this position. Walks all objects.
@@ -141,12 +177,68 @@ impl<A: Allocator> Doc<A> {
         least
     }
 
+    /// Moves an object, which must not be the root, to another place. Where it isn't live, nothing changes.
+    pub fn put_place(&mut self, id: ObjId, place: Place<A>)
+        requires { id ≢ root }
+        ensures { self.new ≡ revise self.old id (option_map (with_place place) (map.get self.old id)) }
+    {
+        if let Ok(at) = index_of(&self.objects, &id) {
+            self.objects[at].1.put_place(place);
+        }
+    }
+
+    /// Gives a property of an object this value, or takes the property away where there is none. Where the object isn't live,
+    /// nothing changes; nor where memory is refused.
+    pub fn put_prop(
+        &mut self,
+        id: ObjId,
+        name: Name<A>,
+        value: Option<Value<A>>,
+    ) -> Result<(), AllocError>
+        ensures ok { OnOk result (self.new ≡ revise self.old id (option_map (with_prop name value) (map.get self.old id))) }
+        ensures err { OnErr result (self.new ≡ self.old) }
+    {
+        if let Ok(at) = index_of(&self.objects, &id) {
+            self.objects[at].1.put_prop(name, value)?;
+        }
+        Ok(())
+    }
+
+    /// Removes an object, which must not be the root; what lies below it stays. Where it isn't live, nothing changes.
+    pub fn remove(&mut self, id: ObjId)
+        requires { id ≢ root }
+        ensures { self.new ≡ map.remove self.old id }
+    {
+        take_out(&mut self.objects, &id);
+    }
+
+    /// Removes these objects, of which some may not be live. The ids must stand in order, each once, and the root must not be
+    /// among them. Walks all objects, with a binary search in the ids at each.
+    pub fn remove_all(&mut self, ids: &[ObjId])
+        requires in_order { IsStrictlySortedBy id_cmp ids.now }
+        requires not_root { Contains ids.now root → ⊥ }
+        ensures { self.new ≡ without self.old ids.now }
+    {
+        self.objects.retain(
+            |entry: &(ObjId, Object<A>)| -> bool
+                ensures { IsStrictlySortedBy id_cmp ids.entry.now → result ≡ not (list_any (same_id entry.now.0) ids.entry.now) }
+            { !is_listed(ids, entry.0) },
+        );
+    }
+
     /// Whether two documents are the same.
     pub fn same<B: Allocator>(&self, other: &Doc<B>) -> bool
         ensures { IsTrue result ↔ (self.now ≡ other.now) }
     {
         same_entries(&self.objects, &other.objects)
     }
+}
+
+// Whether the id is one of these, where they stand in order.
+fn is_listed(ids: &[ObjId], id: ObjId) -> bool
+    ensures { IsStrictlySortedBy id_cmp ids.now → result ≡ list_any (same_id id) ids.now }
+{
+    ids.binary_search(&id).is_ok()
 }
 
 // Whether two lists of entries are the same.

@@ -1,43 +1,54 @@
 // What is kept of a live object.
-ghost use Rattle.std.specs.Prelude.{◌≡◌, ◌↔◌, IsTrue, IfOk, IfSome, IfNone};
+ghost use Rattle.std.specs.Prelude.{◌≡◌, ◌↔◌, IsTrue, IfOk, OnOk, OnErr, IfSome, IfNone};
 ghost use Rattle.std.specs.Option.{option_copied};
-ghost use Rattle.canvas_model.specs.Document.{new_object};
+ghost use Rattle.std.specs.FinMap as map;
+ghost use Rattle.canvas_model.specs.Document.{new_object, with_place, with_prop};
 ghost use Rattle.canvas_model.specs.Document as document;
-ghost use Rattle.canvas_model.specs.Order.{IsAfter};
-ghost use Rattle.canvas_doc.specs.Entries.{StandsThere};
-ghost use Rattle.canvas_model.specs.Order.{IsUnder};
+ghost use Rattle.canvas_model.specs.Order.{IsAfter, IsUnder};
+ghost use Rattle.canvas_doc.specs.Entries.{IsUnderAt, StandsThere};
 ghost use Rattle.canvas_doc.specs.Nearest.{IsLesser, IsNearer};
 
-use crate::{Kind, ObjId, Place};
+use crate::entries::{put, take_out, value_of};
+use crate::{Kind, Name, ObjId, Place, Value};
 use canvas_pos::Pos;
 use std::alloc::{AllocError, Allocator, Global};
 use std::cmp::Ordering;
 use std::marker::Model;
 
-/// What is kept of a live object: its kind, and its place unless it is the root.
+/// What is kept of a live object: its kind, its place unless it is the root, and its properties.
 #[derive(Drop)]
 pub struct Object<A: Allocator = Global> {
     kind: Kind,
     place: Option<Place<A>>,
+    props: Vec<(Name<A>, Value<A>), A>,
 }
 
 impl<A: Allocator> Model for Object<A> {
+    ghost use Rattle.std.specs.Prelude.{T};
+    ghost use Rattle.std.specs.FinMap as map;
     ghost use Rattle.canvas_model.specs.Document as document;
+    ghost use Rattle.canvas_model.specs.Document.{name_cmp};
     ghost use Rattle.canvas_model.specs.Codes.{object_code};
 
     ghost Value = { document.Object };
 
     ghost coded = { object_code };
 
-    ghost view = { λ o. document.new_object o.kind o.place };
+    ghost view = { λ o. record { kind = o.kind; place = o.place; props = map.from_sorted o.props.items } };
+
+    ghost invariant = { λ o. T (map.is_sorted name_cmp o.props.items) };
 }
 
 impl<A: Allocator> Object<A> {
     /// An object without properties.
-    pub fn new(kind: Kind, place: Option<Place<A>>) -> Self
+    pub fn new(alloc: A, kind: Kind, place: Option<Place<A>>) -> Self
         ensures { result ≡ new_object kind place }
     {
-        Object { kind, place }
+        Object {
+            kind,
+            place,
+            props: Vec::new(alloc),
+        }
     }
 
     /// What the object is.
@@ -54,6 +65,40 @@ impl<A: Allocator> Object<A> {
         self.place.as_ref()
     }
 
+    /// All properties in the order of their names.
+    pub fn props(&self) -> &[(Name<A>, Value<A>)]
+        ensures { result.now ≡ map.entries self.now.props }
+    {
+        &self.props
+    }
+
+    /// The value of the property, if the object has it.
+    pub fn get(&self, name: &Name<A>) -> Option<&Value<A>>
+        ensures { option_copied result ≡ map.get self.now.props name.now }
+    {
+        value_of(&self.props, name)
+    }
+
+    /// Moves the object to another place.
+    pub fn put_place(&mut self, place: Place<A>)
+        ensures { self.new ≡ with_place place self.old }
+    {
+        self.place = Some(place);
+    }
+
+    /// Gives a property this value, or takes the property away where there is none. Where memory is refused, nothing has
+    /// changed.
+    pub fn put_prop(&mut self, name: Name<A>, value: Option<Value<A>>) -> Result<(), AllocError>
+        ensures ok { OnOk result (self.new ≡ with_prop name value self.old) }
+        ensures err { OnErr result (self.new ≡ self.old) }
+    {
+        match value {
+            Some(value) => put(&mut self.props, name, value)?,
+            None => take_out(&mut self.props, &name),
+        }
+        Ok(())
+    }
+
     /// The same object under another allocator. Fails only where memory is refused.
     pub fn copy<B: Allocator + Copy>(&self, alloc: B) -> Result<Object<B>, AllocError>
         ensures { IfOk result (λ o. o ≡ self.now) }
@@ -62,14 +107,19 @@ impl<A: Allocator> Object<A> {
             Some(place) => Some(place.copy(alloc)?),
             None => None,
         };
-        Ok(Object::new(self.kind, place))
+        let props = copy_props(alloc, &self.props)?;
+        Ok(Object {
+            kind: self.kind,
+            place,
+            props,
+        })
     }
 
     /// Whether two objects are the same.
     pub fn same<B: Allocator>(&self, other: &Object<B>) -> bool
         ensures { IsTrue result ↔ (self.now ≡ other.now) }
     {
-        same_place(&self.place, &other.place) && self.kind == other.kind
+        stand_alike(self, other) && same_props(&self.props, &other.props)
     }
 
     // Whether it stands at this place.
@@ -81,6 +131,57 @@ impl<A: Allocator> Object<A> {
             None => false,
         }
     }
+}
+
+// Whether the two are of one kind and stand at one place.
+fn stand_alike<A: Allocator, B: Allocator>(object: &Object<A>, other: &Object<B>) -> bool
+    ensures { IsTrue result ↔ (object.now.place ≡ other.now.place) × (object.now.kind ≡ other.now.kind) }
+{
+    same_place(&object.place, &other.place) && object.kind == other.kind
+}
+
+// The same properties under another allocator.
+fn copy_props<A: Allocator, B: Allocator + Copy>(
+    alloc: B,
+    props: &[(Name<A>, Value<A>)],
+) -> Result<Vec<(Name<B>, Value<B>), B>, AllocError>
+    ensures { IfOk result (λ copies. copies.items ≡ props.now) }
+{
+    let mut copies = Vec::with_capacity(alloc, props.len())?;
+    for prop in props {
+        let name = prop.0.copy_in(alloc)?;
+        let value = prop.1.copy_in(alloc)?;
+        copies.push((name, value))?;
+    }
+    Ok(copies)
+}
+
+// Whether two lists of properties are the same.
+fn same_props<A: Allocator, B: Allocator>(
+    props: &[(Name<A>, Value<A>)],
+    others: &[(Name<B>, Value<B>)],
+) -> bool
+    ensures { IsTrue result ↔ (props.now ≡ others.now) }
+{
+    if props.len() != others.len() {
+        return false;
+    }
+    for (at, prop) in props.iter().enumerate() {
+        if !same_prop(prop, &others[at]) {
+            return false;
+        }
+    }
+    true
+}
+
+// Whether two properties are the same.
+fn same_prop<A: Allocator, B: Allocator>(
+    prop: &(Name<A>, Value<A>),
+    other: &(Name<B>, Value<B>),
+) -> bool
+    ensures { IsTrue result ↔ (prop.now ≡ other.now) }
+{
+    prop.0.bytes() == other.0.bytes() && prop.1.same(&other.1)
 }
 
 // Whether the two are the same place, or both none.
@@ -130,23 +231,22 @@ pub fn nearer_sibling<'a, A: Allocator>(
 ) -> Option<&'a Pos<A>>
     ensures { IsNearer parent except (option_copied after.entry) (option_copied least.entry) entry.now (option_copied result) }
 {
-    match position_under(entry, parent, except) {
+    if entry.0 == except {
+        return least;
+    }
+    match position_under(entry, parent) {
         Some(pos) => lesser(least, pos, after),
         None => least,
     }
 }
 
-// The position of the entry's object, if it is a child of `parent` other than `except`.
-fn position_under<A: Allocator>(
-    entry: &(ObjId, Object<A>),
-    parent: ObjId,
-    except: ObjId,
-) -> Option<&Pos<A>>
-    ensures some { IfSome result (λ pos. StandsThere parent except pos.now entry.now) }
-    ensures none { IfNone result ((pos : document.Pos) → StandsThere parent except pos entry.now → ⊥) }
+/// The position of the entry's object, if it is a child of `parent`.
+pub fn position_under<A: Allocator>(entry: &(ObjId, Object<A>), parent: ObjId) -> Option<&Pos<A>>
+    ensures some { IfSome result (λ pos. IsUnderAt parent pos.now entry.now) }
+    ensures none { IfNone result ((pos : document.Pos) → IsUnderAt parent pos entry.now → ⊥) }
 {
     let place = entry.1.place()?;
-    if entry.0 != except && place.parent == parent {
+    if place.parent == parent {
         Some(&place.pos)
     } else {
         None

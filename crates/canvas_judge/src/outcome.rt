@@ -1,6 +1,6 @@
 // What became of requests.
 ghost use Rattle.std.specs.Prelude.{◌≡◌};
-ghost use Rattle.canvas_model.specs.Verdict.{Created, Joined, Refused};
+ghost use Rattle.canvas_model.specs.Verdict.{Created, Joined, Moved, Refused, Removed, WasSet};
 ghost use Rattle.canvas_judge.specs.Seen.{seen_outcome};
 
 use canvas_doc::{ObjId, Place};
@@ -63,6 +63,33 @@ impl<A: Allocator> Outcome<A> {
     {
         Outcome {
             node: OutcomeNode::Created(place),
+        }
+    }
+
+    /// The outcome of an accepted change of a property: it was set or cleared.
+    pub fn was_set() -> Self
+        ensures { result ≡ WasSet }
+    {
+        Outcome {
+            node: OutcomeNode::WasSet,
+        }
+    }
+
+    /// The outcome of an accepted move: the object stands at this place now.
+    pub fn moved(place: Place<A>) -> Self
+        ensures { result ≡ Moved place }
+    {
+        Outcome {
+            node: OutcomeNode::Moved(place),
+        }
+    }
+
+    /// The outcome of an accepted deletion: these objects were removed, in id order.
+    pub fn removed(ids: Vec<ObjId, A>) -> Self
+        ensures { result ≡ Removed ids.items }
+    {
+        Outcome {
+            node: OutcomeNode::Removed(ids),
         }
     }
 

@@ -64,10 +64,10 @@ empty_good = record {
     none_at zero n e = absurd (cc)
     none_at (suc k) n e = absurd (cc)
 
-    no_letter : (k : ℕ) (n : Rattle.canvas_model.specs.World.Letter) → Rattle.canvas_model.specs.World.nth empty.letters k ≡ Some n → ⊥
+    no_letter : (k : ℕ) (n : Rattle.canvas_model.specs.World.Letter) → Rattle.canvas_model.specs.Client.nth empty.letters k ≡ Some n → ⊥
     no_letter zero n e = absurd (cc)
     no_letter (suc k) n e = absurd (cc)
 
-    no_entry : (k : ℕ) (n : Rattle.canvas_model.specs.Log.Entry) → Rattle.canvas_model.specs.World.nth empty.log k ≡ Some n → ⊥
+    no_entry : (k : ℕ) (n : Rattle.canvas_model.specs.Log.Entry) → Rattle.canvas_model.specs.Client.nth empty.log k ≡ Some n → ⊥
     no_entry zero n e = absurd (cc)
     no_entry (suc k) n e = absurd (cc)

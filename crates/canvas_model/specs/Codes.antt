@@ -13,6 +13,7 @@ use Rattle.canvas_model.specs.Value.{Value, number, truth, colour, text, list, V
 use Rattle.canvas_model.specs.Document.{Place, Object, Doc, name_cmp}
 use Rattle.canvas_model.specs.State.{State}
 
+-- an integer as a tree, and back
 abbrev of_integer : ℤ → Gv
 of_integer (pos n) = gnum n
 of_integer (negsuc n) = gcons gnil (gnum n)
@@ -28,6 +29,7 @@ integer_back : (n : ℤ) → integer (of_integer n) ≡ n
 integer_back (pos n) = refl
 integer_back (negsuc n) = refl
 
+-- a truth value as a tree, and back
 abbrev of_truth : Bool → Gv
 of_truth false = gnil
 of_truth true = gnum 0
@@ -41,6 +43,7 @@ truth_back : (b : Bool) → is_true (of_truth b) ≡ b
 truth_back true = refl
 truth_back false = refl
 
+-- bytes as a tree, and back
 abbrev of_bytes : List ℕ → Gv
 of_bytes [] = gnil
 of_bytes (b ∷ bs) = gcons (gnum b) (of_bytes bs)
@@ -59,6 +62,7 @@ bytes_back : (bs : List ℕ) → bytes_in (of_bytes bs) ≡ bs
 bytes_back [] = refl
 bytes_back (b ∷ bs) = ap (λ r. b ∷ r) (bytes_back bs)
 
+-- a value as a tree, and back
 abbrev mutual
   of_value : Value → Gv
   of_value (number n) = gcons (gnum 0) (of_integer n)
@@ -71,6 +75,7 @@ abbrev mutual
   of_values no_more = gnil
   of_values (more v vs) = gcons (of_value v) (of_values vs)
 
+-- the value of this kind, which is no list
 abbrev leaf : ℕ → Gv → Value
 leaf zero g = number (integer g)
 leaf (suc zero) g = truth (is_true g)
@@ -102,15 +107,19 @@ mutual
   values_back no_more = refl
   values_back (more v vs) = λ i. more (value_back v i) (values_back vs i)
 
+-- two values with one tree are one
 pub value_one : (v w : Value) → of_value v ≡ of_value w → v ≡ w
 value_one v w e = sym (value_back v) ∙ ap value_in e ∙ value_back w
 
+-- how a value is stored
 abbrev pub value_code : Coded Value
 value_code = record { code = of_value; inj = value_one }
 
+-- how an id is stored
 abbrev pub id_code : Coded ObjId
 id_code = code_by (ℕ × ℕ) (coded× coded_ℕ coded_ℕ) (λ i. (i.client, i.counter)) (λ p. record { client = p.0; counter = p.1 }) (λ _. refl)
 
+-- a kind as a number, and back
 abbrev kind_number : Kind → ℕ
 kind_number Document = 0
 kind_number Page = 1
@@ -132,25 +141,32 @@ kind_back Frame = refl
 kind_back Shape = refl
 kind_back Text = refl
 
+-- how a kind is stored
 abbrev pub kind_code : Coded Kind
 kind_code = code_by ℕ coded_ℕ kind_number number_kind kind_back
 
+-- how a place is stored
 abbrev pub place_code : Coded Place
 place_code = code_by (ObjId × List ℕ) (coded× id_code (coded_list coded_ℕ)) (λ p. (p.parent, p.pos)) (λ p. record { parent = p.0; pos = p.1 }) (λ _. refl)
 
+-- how the properties of an object are stored
 abbrev pub props_code : Coded (FinMap name_cmp Value)
 props_code = map.code (coded_list coded_ℕ) value_code
 
+-- how an object is stored
 abbrev pub object_code : Coded Object
 object_code =
     code_by (Kind × (Option Place × FinMap name_cmp Value)) (coded× kind_code (coded× (coded_option place_code) props_code))
     (λ o. (o.kind, (o.place, o.props))) (λ p. record { kind = p.0; place = p.1.0; props = p.1.1 }) (λ _. refl)
 
+-- how a document is stored
 abbrev pub doc_code : Coded Doc
 doc_code = map.code id_code object_code
 
+-- how the counts of a client are stored
 abbrev pub counts_code : Coded Counts
 counts_code = code_by (ℕ × ℕ) (coded× coded_ℕ coded_ℕ) (λ c. (c.done, c.used)) (λ p. record { done = p.0; used = p.1 }) (λ _. refl)
 
+-- how a state is stored
 abbrev pub state_code : Coded State
 state_code = code_by (Doc × List Counts) (coded× doc_code (coded_list counts_code)) (λ s. (s.doc, s.clients)) (λ p. record { doc = p.0; clients = p.1 }) (λ _. refl)

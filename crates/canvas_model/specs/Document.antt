@@ -37,6 +37,7 @@ pub record Place : Type 0 where
 abbrev pub Name : Type 0
 Name = List ℕ
 
+-- the order of names
 abbrev pub name_cmp : Name → Name → Ordering
 name_cmp = slice_cmp nat_cmp
 
@@ -46,9 +47,11 @@ pub record Object : Type 0 where
   pub place : Option Place
   pub props : FinMap name_cmp Value
 
+-- a document: which object lives under which id
 abbrev pub Doc : Type 0
 Doc = FinMap id_cmp Object
 
+-- the object is live
 abbrev pub live : Doc → ObjId → Bool
 live d q = is_some (map.get d q)
 
@@ -59,6 +62,10 @@ kind_of d q = option_map (λ o. o.kind) (map.get d q)
 -- the place of an object, if it is live and has one
 abbrev pub place_of : Doc → ObjId → Option Place
 place_of d q = option_and_then (λ o. o.place) (map.get d q)
+
+-- the value of a property of an object, if it is live and has it
+abbrev pub prop_of : Doc → ObjId → Name → Option Value
+prop_of d q name = option_and_then (λ o. map.get o.props name) (map.get d q)
 
 -- an object with no properties
 abbrev pub new_object : Kind → Option Place → Object
@@ -84,6 +91,7 @@ abbrev pub with_prop : Name → Option Value → Object → Object
 with_prop name None o = record o { props = map.remove o.props name }
 with_prop name (Some v) o = record o { props = map.insert o.props name v }
 
+-- the object at this place
 abbrev pub with_place : Place → Object → Object
 with_place place o = record o { place = Some place }
 

@@ -4,6 +4,7 @@ use Rattle.std.specs.Ordering.{nat_cmp, on, then_cmp, eq_by_cmp}
 use Rattle.std.specs.declared.cmp.Ordering.{Ordering}
 use Rattle.canvas_model.specs.declared.ObjId.{ObjId}
 
+-- the id of the root
 abbrev pub root : ObjId
 root = record { client = 0; counter = 0 }
 
@@ -11,5 +12,6 @@ root = record { client = 0; counter = 0 }
 abbrev pub id_cmp : ObjId → ObjId → Ordering
 id_cmp = then_cmp (on (λ i. i.client) nat_cmp) (on (λ i. i.counter) nat_cmp)
 
+-- the two ids are one
 abbrev pub same_id : ObjId → ObjId → Bool
 same_id = eq_by_cmp id_cmp

@@ -1,56 +1,104 @@
--- The laws of the model.
-use Rattle.std.specs.Prelude.{◌≡◌, ℕ, suc, cond, drop, take, map, None, ◌≤◌, ◌<◌, List, length, Option, Some}
+-- The laws of the model. Each is the contract of a function of empty body.
+use Rattle.std.specs.Prelude.{◌≡◌, ◌≢◌, ℕ, ◌+◌, ◌≤◌, ◌<◌, true, List, [], length, Some}
 use Rattle.canvas_model.specs.declared.ObjId.{ObjId}
-use Rattle.canvas_model.specs.declared.Kind.{Kind}
-use Rattle.canvas_model.specs.Document.{Place}
-use Rattle.canvas_model.specs.Change.{Change, Create, object_of}
+use Rattle.canvas_model.specs.Document.{Doc, live}
+use Rattle.canvas_model.specs.Chain.{IsCycle}
+use Rattle.canvas_model.specs.Change.{Change}
 use Rattle.canvas_model.specs.Overlay.{over}
-use Rattle.canvas_model.specs.State.{State, IsSound}
-use Rattle.canvas_model.specs.Log.{Entry, What, Join, Edit, Fits, effect, at_version}
-use Rattle.canvas_model.specs.Verdict.{Created}
-use Rattle.canvas_model.specs.World.{World, Node, Event, Answer, Step, nth, IsEdit, is_own, Tells, Copies}
-use Rattle.canvas_model.specs.View.{refreshed}
-use Rattle.std.specs.List.{filter}
-use Rattle.canvas_model.specs.Good.{IsGood, IsTrueOf, Holds}
+use Rattle.canvas_model.specs.State.{State, IsSound, done}
+use Rattle.canvas_model.specs.Log.{Entry, Fits, effect, at_version}
+use Rattle.canvas_model.specs.Client.{Client, nth}
+use Rattle.canvas_model.specs.Local.{EditRequest, Makes, edited}
+use Rattle.canvas_model.specs.Receive.{Message, Welcome, Tells, Copies, Received, Took, is_own, IsEdit, Receives, after_entry, after_copy}
+use Rattle.canvas_model.specs.Standing.{Stands, OwnsWaiting, HasVerdict, MeetsOwn}
+use Rattle.canvas_model.specs.World.{Node, World, state, node, Event, Answer, Step, Run, empty}
+use Rattle.canvas_model.specs.Good.{HoldsId, unacknowledged, IsTrueOf, IsGood}
 
 -- a verdict keeps a state sound
 abbrev pub EachVerdictIsSound : Type 0
 EachVerdictIsSound = (s : State) (e : Entry) → IsSound s → Fits s e → IsSound (effect s e)
 
--- an event keeps a good world good
-abbrev pub EachStepIsGood : Type 0
-EachStepIsGood = (old : World) (event : Event) (answer : Answer) (new : World) → IsGood old → Step old event answer new → IsGood new
+-- For every document on which the client stands: when it takes an entry that is a verdict of a sound state with that document,
+-- it stands on the document after the entry.
+abbrev pub EachEntryStands : Type 0
+EachEntryStands = (s : State) (old new : Client) (v : ℕ) (e : Entry) → IsSound s → HasVerdict s e → OwnsWaiting old → MeetsOwn old e
+    → Stands old s.doc → Receives old (Tells v e) Took new → Stands new (effect s e).doc
 
--- the next entry, where it creates the object of a waiting edit, is the node's own next edit
-abbrev pub EachTargetIsOwn : Type 0
-EachTargetIsOwn = (w : World) → IsGood w → (k c : ℕ) (n : Node) → Holds w.nodes k c n → (e : Entry) → nth w.log (suc n.version) ≡ Some e
-    → (id : ObjId) (kind : Kind) (ask got : Place) → e.what ≡ Edit (Create id kind ask) → e.outcome ≡ Created got
-    → (i : ℕ) (change : Change) → n.acknowledged < i → nth n.hand.edits i ≡ Some change → object_of change ≡ id
-    → (e.author ≡ c) × (e.seq ≡ suc n.acknowledged) × IsEdit e.what (nth n.hand.edits (suc n.acknowledged))
+-- For every document on which the client stands: it stands there after an edit of its own.
+abbrev pub EachEditStands : Type 0
+EachEditStands = (d : Doc) (old : Client) (request : EditRequest) (change : Change) → OwnsWaiting old → Stands old d → Makes old request change
+    → OwnsWaiting (edited old change) × Stands (edited old change) d
 
--- how many edits the node has acknowledged once it has taken this entry
-abbrev pub acknowledged_after : ℕ → Node → Entry → ℕ
-acknowledged_after c n e = cond (is_own c e) (suc n.acknowledged) n.acknowledged
+-- the document has no object of this client
+abbrev pub HasNoneOf : ℕ → Doc → Type 0
+HasNoneOf c d = (q : ObjId) → live d q ≡ true → q.client ≢ c
 
--- the next entry, taken row by row from the view, gives the document after it overlaid with the rest
-abbrev pub EachViewFollows : Type 0
-EachViewFollows = (w : World) → IsGood w → (k c : ℕ) (n : Node) → Holds w.nodes k c n → (e : Entry) → nth w.log (suc n.version) ≡ Some e
-    → refreshed (is_own c e) (drop (acknowledged_after c n e) n.hand.edits) e.what e.outcome n.hand.view ≡ over (at_version w.log (suc n.version)).doc (drop (acknowledged_after c n e) n.hand.edits)
+-- For every document on which the client stands and in which the new id has no object: it stands there with that id.
+abbrev pub EachWelcomeStands : Type 0
+EachWelcomeStands = (d : Doc) (old new : Client) (c : ℕ) → Stands old d → HasNoneOf c d → Receives old (Welcome c) Took new → Stands new d
 
--- a node with an id refuses no true entry and no true copy as not meant for it
-abbrev pub NoneIsMisled : Type 0
-NoneIsMisled = (w : World) → IsGood w → (k c : ℕ) (n : Node) → Holds w.nodes k c n → (v : ℕ) → n.version < v
-    → ((e : Entry) → IsTrueOf w k (Tells v e) → v ≡ suc n.version → e.author ≡ c → (e.seq ≡ suc n.acknowledged) × IsEdit e.what (nth n.hand.edits (suc n.acknowledged)))
-    × ((d : ℕ) (copy : Rattle.canvas_model.specs.Document.Doc) → IsTrueOf w k (Copies v d copy) → (n.acknowledged ≤ d) × (d ≤ length n.hand.edits))
+-- when a client takes a copy, its view is the copy with the edits that stay laid over it
+abbrev pub EachCopyShows : Type 0
+EachCopyShows = (d : Doc) (old new : Client) (v n : ℕ) → Receives old (Copies v n d) Took new → new.view ≡ over d new.waiting
 
-abbrev pub change_in : What → Option Change
-change_in Join = None
-change_in (Edit change) = Some change
+-- whatever reaches a client with an id, the objects that its waiting edits create stay its own
+abbrev pub EachMessageLeavesOwn : Type 0
+EachMessageLeavesOwn = (old new : Client) (c : ℕ) (message : Message) (answer : Received) → old.id ≡ Some c → OwnsWaiting old → Receives old message answer new → OwnsWaiting new
 
--- the client's entries in the log are its edits from the first on, in order; those among the first entries, up to the node's version, are the acknowledged ones
-pub record EntriesAreEdits (log : List Entry) (c : ℕ) (n : Node) : Type 0 where
-  pub acknowledged : n.acknowledged ≡ length (filter (is_own c) (take n.version log))
-  pub edits : map (λ e. change_in e.what) (filter (is_own c) log) ≡ map (λ x. Some x) (take (length (filter (is_own c) log)) n.hand.edits)
+-- P holds of every good world
+abbrev pub InEachGoodWorld : (World → Type 0) → Type 0
+InEachGoodWorld P = (w : World) → IsGood w → P w
 
-abbrev pub EachEntryIsEdit : Type 0
-EachEntryIsEdit = (w : World) → IsGood w → (k c : ℕ) (n : Node) → Holds w.nodes k c n → EntriesAreEdits w.log c n
+-- P holds after each of the 13 events, from every good world
+abbrev pub AfterEachStep : (World → Type 0) → Type 0
+AfterEachStep P = (old : World) (event : Event) (answer : Answer) (new : World) → IsGood old → Step old event answer new → P new
+
+-- P holds after every list of events
+abbrev pub AfterEachRun : (World → Type 0) → Type 0
+AfterEachRun P = (events : List Event) (w : World) → Run empty events w → P w
+
+-- the entry that comes next at a node, where it creates the object of a waiting edit, is the node's own next edit
+abbrev pub NodesMeetOwn : World → Type 0
+NodesMeetOwn w = (k c : ℕ) (n : Node) → HoldsId w.nodes k c n → (e : Entry) → nth w.log (n.client.version + 1) ≡ Some e → MeetsOwn n.client e
+
+-- each node with an id stands on the server's document at its version, and the objects that its waiting edits create are its own
+abbrev pub NodesStand : World → Type 0
+NodesStand w = (k c : ℕ) (n : Node) → HoldsId w.nodes k c n → OwnsWaiting n.client × Stands n.client (at_version w.log n.client.version).doc
+
+-- and after a copy of any other version it would stand on the document there
+abbrev pub NodesStandOnCopies : World → Type 0
+NodesStandOnCopies w = (k c : ℕ) (n : Node) → HoldsId w.nodes k c n → (v : ℕ) → n.client.version ≤ v → v ≤ length w.log
+    → Stands (after_copy n.client v (done (at_version w.log v) c) (at_version w.log v).doc) (at_version w.log v).doc
+
+-- the next entry, taken row by row from the view, leads to the document after it, with what stays unacknowledged laid over it
+abbrev pub NodesFollow : World → Type 0
+NodesFollow w = (k c : ℕ) (n : Node) → HoldsId w.nodes k c n → (e : Entry) → nth w.log (n.client.version + 1) ≡ Some e
+    → (after_entry (is_own c e) n.client (n.client.version + 1) e).view ≡ over (at_version w.log (n.client.version + 1)).doc (after_entry (is_own c e) n.client (n.client.version + 1) e).waiting
+
+-- the next true entry, and each true copy of a later version, is taken
+abbrev pub NodesTakeTruth : World → Type 0
+NodesTakeTruth w = (k c : ℕ) (n : Node) → HoldsId w.nodes k c n
+    → ((e : Entry) → IsTrueOf w k (Tells (n.client.version + 1) e) → Receives n.client (Tells (n.client.version + 1) e) Took (after_entry (is_own c e) n.client (n.client.version + 1) e))
+    × ((v d : ℕ) (copy : Doc) → IsTrueOf w k (Copies v d copy) → n.client.version < v → Receives n.client (Copies v d copy) Took (after_copy n.client v d copy))
+
+-- two nodes at one version with nothing unacknowledged show equal documents
+abbrev pub NodesAgree : World → Type 0
+NodesAgree w = (k j : ℕ) (n m : Node) → node w k ≡ Some n → node w j ≡ Some m → n.client.version ≡ m.client.version → unacknowledged n ≡ [] → unacknowledged m ≡ [] → n.client.view ≡ m.client.view
+
+-- the server's parents form no cycle
+abbrev pub HasNoCycle : World → Type 0
+HasNoCycle w = (q : ObjId) → IsCycle (state w).doc q → ⊥
+
+-- the entry of version v is the i-th edit of this node, of id c, and no other entry is
+pub record StandsOnce (w : World) (c : ℕ) (n : Node) (i v : ℕ) : Type 0 where
+  pub entry : Entry
+  pub published : v ≤ w.published
+  pub stands : nth w.log v ≡ Some entry
+  pub author : entry.author ≡ c
+  pub number : entry.seq ≡ i
+  pub what : IsEdit entry.what (nth n.edits i)
+  pub once : (u : ℕ) (other : Entry) → nth w.log u ≡ Some other → other.author ≡ c → other.seq ≡ i → u ≡ v
+
+-- each acknowledged edit stands in the log exactly once, in the published part
+abbrev pub KeepsAcknowledged : World → Type 0
+KeepsAcknowledged w = (k c i : ℕ) (n : Node) → HoldsId w.nodes k c n → 0 < i → i ≤ n.client.acknowledged → (v : ℕ) × StandsOnce w c n i v

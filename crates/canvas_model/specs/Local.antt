@@ -1,23 +1,32 @@
--- A client's own edits, what it accepts of messages, and the law of its view.
-use Rattle.std.specs.Prelude.{◌≡◌, ◌≢◌, ◌⊎◌, ℕ, ◌+◌, ◌^◌, ◌<◌, false, List, [], ◌∷◌, ◌++◌, length, Option, Some, None}
+-- A client's own edits: which it refuses and why, and what change it makes of the others.
+use Rattle.std.specs.Prelude.{◌≡◌, ◌⊎◌, ℕ, ◌+◌, ◌^◌, ◌<◌, [], ◌∷◌, ◌++◌, Option, Some, None}
+use Rattle.canvas_model.specs.declared.ObjId.{ObjId}
+use Rattle.canvas_model.specs.declared.Kind.{Kind}
+use Rattle.canvas_model.specs.Ids.{root}
 use Rattle.canvas_model.specs.Middle.{Middle}
 use Rattle.canvas_model.specs.Value.{Value}
-use Rattle.canvas_model.specs.declared.ObjId.{ObjId}
-use Rattle.canvas_model.specs.Ids.{root}
-use Rattle.canvas_model.specs.declared.Kind.{Kind}
-use Rattle.canvas_model.specs.Document.{may_stand, Pos, Name, Doc, kind_of}
-use Rattle.canvas_model.specs.Sibling.{IsSibling, IsNext}
+use Rattle.canvas_model.specs.Document.{Pos, Name, Doc, kind_of}
 use Rattle.canvas_model.specs.Chain.{Below, InTree}
+use Rattle.canvas_model.specs.Sibling.{IsSibling, IsNext}
 use Rattle.canvas_model.specs.Change.{Change}
 use Rattle.canvas_model.specs.Overlay.{lay}
+use Rattle.canvas_model.specs.Verdict.{MayNotStand}
+use Rattle.canvas_model.specs.Client.{Client, last_number}
 
-pub data Request : Type 0 where
-  Create : Kind → ObjId → Option ObjId → Request
-  Set : ObjId → Name → Value → Request
-  Clear : ObjId → Name → Request
-  Move : ObjId → ObjId → Option ObjId → Request
-  Delete : ObjId → Request
+-- where an object is to stand: its parent, and the child that it comes after, or none to come first
+pub record Spot : Type 0 where
+  pub parent : ObjId
+  pub after : Option ObjId
 
+-- what a user asks of a client
+pub data EditRequest : Type 0 where
+  Create : Kind → Spot → EditRequest
+  Set : ObjId → Name → Value → EditRequest
+  Clear : ObjId → Name → EditRequest
+  Move : ObjId → Spot → EditRequest
+  Delete : ObjId → EditRequest
+
+-- why a client refuses an edit
 pub data EditError : Type 0 where
   NotOpen : EditError
   IsRoot : EditError
@@ -29,7 +38,7 @@ pub data EditError : Type 0 where
   IdsSpent : EditError
   Full : EditError
 
--- in the order in which they are looked for
+-- the order in which the refusals are looked for
 abbrev pub rank : EditError → ℕ
 rank NotOpen = 0
 rank IsRoot = 1
@@ -41,95 +50,122 @@ rank Crowded = 6
 rank IdsSpent = 7
 rank Full = 8
 
--- the part of a client that its own edits read and change: its id, the last counter that it gave, and all edits that it made
-pub record Hand : Type 0 where
-  pub id : Option ℕ
-  pub counter : ℕ
-  pub edits : List Change
-  pub view : Doc
+-- the number by which a refusal is known
+abbrev pub error_number : EditError → ℕ
+error_number NotOpen = 1
+error_number NotShown = 2
+error_number ParentNotShown = 3
+error_number BadParent = 4
+error_number OwnDescendant = 5
+error_number Crowded = 6
+error_number IsRoot = 7
+error_number IdsSpent = 8
+error_number Full = 9
 
--- the object that a request moves, which is no sibling of itself (a new one has no id yet, and root stands for it)
-abbrev pub moved : Request → ObjId
-moved (Move id parent after) = id
+-- the object that the request names; one to be created has no id yet
+abbrev pub subject : EditRequest → Option ObjId
+subject (Create kind spot) = None
+subject (Set id name value) = Some id
+subject (Clear id name) = Some id
+subject (Move id spot) = Some id
+subject (Delete id) = Some id
+
+-- the spot that it asks for
+abbrev pub spot_asked : EditRequest → Option Spot
+spot_asked (Create kind spot) = Some spot
+spot_asked (Move id spot) = Some spot
+spot_asked _ = None
+
+-- the kind of what is to stand there
+abbrev pub kind_asked : Doc → EditRequest → Option Kind
+kind_asked view (Create kind spot) = Some kind
+kind_asked view (Move id spot) = kind_of view id
+kind_asked view _ = None
+
+-- the object that is no sibling of itself: the moved one, and for a new one the root, which is nobody's child
+abbrev pub moved : EditRequest → ObjId
+moved (Move id spot) = id
 moved _ = root
 
-abbrev pub wants : Request → Option (ObjId × Option ObjId)
-wants (Create kind parent after) = Some (parent, after)
-wants (Move id parent after) = Some (parent, after)
-wants _ = None
+-- there is one, and P is true of it
+abbrev pub Has : {X : Type 0} → Option X → (X → Type 0) → Type 0
+Has None P = ⊥
+Has (Some x) P = P x
 
-abbrev pub On : Option (ObjId × Option ObjId) → (ObjId → Option ObjId → Type 0) → Type 0
-On None P = ⊥
-On (Some (parent, after)) P = P parent after
+-- the request moves or deletes the root
+abbrev pub MovesRoot : EditRequest → Type 0
+MovesRoot (Move id spot) = id ≡ root
+MovesRoot (Delete id) = id ≡ root
+MovesRoot _ = ⊥
 
--- the position of the child after which the object is to stand, 0 at none
-abbrev pub IsAfterPos : Doc → ObjId → ObjId → Option ObjId → Option Pos → Type 0
-IsAfterPos d parent except None low = low ≡ None
-IsAfterPos d parent except (Some after) low = (pos : Pos) × (low ≡ Some pos) × IsSibling d parent except after pos
+-- the named object isn't in the view's tree
+abbrev pub IsHidden : Doc → EditRequest → Type 0
+IsHidden view r = Has (subject r) (λ id. InTree view id → ⊥)
 
--- the place that the request gets in this view, or none
-abbrev pub Lands : Doc → ObjId → ObjId → Option ObjId → Option Pos → Type 0
-Lands d except parent after got = (low : Option Pos) × (high : Option Pos) × IsAfterPos d parent except after low × IsNext d parent except low high × Middle low high got
+-- the child to come after is no other child of that parent
+abbrev pub ComesAfterNone : Doc → EditRequest → Type 0
+ComesAfterNone view r = Has (spot_asked r) (λ spot. Has spot.after (λ after. (pos : Pos) → IsSibling view spot.parent (moved r) after pos → ⊥))
 
--- the object that the request names isn't shown, or `after` is no other child of that parent
-abbrev pub Unshown : Doc → Request → Type 0
-Unshown d (Create kind parent None) = ⊥
-Unshown d (Create kind parent (Some after)) = (pos : Pos) → IsSibling d parent root after pos → ⊥
-Unshown d (Set id name value) = InTree d id → ⊥
-Unshown d (Clear id name) = InTree d id → ⊥
-Unshown d (Move id parent None) = InTree d id → ⊥
-Unshown d (Move id parent (Some after)) = (InTree d id → ⊥) ⊎ ((pos : Pos) → IsSibling d parent id after pos → ⊥)
-Unshown d (Delete id) = InTree d id → ⊥
+-- the new parent is the moved object or lies below it
+abbrev pub GoesBelowItself : Doc → EditRequest → Type 0
+GoesBelowItself view (Move id spot) = Below view spot.parent id
+GoesBelowItself view _ = ⊥
 
-abbrev pub kind_of_request : Doc → Request → Option Kind
-kind_of_request d (Create kind parent after) = Some kind
-kind_of_request d (Move id parent after) = kind_of d id
-kind_of_request d _ = None
+-- the position of the child to come after, or none to come first
+abbrev pub IsPosAfter : Doc → ObjId → ObjId → Option ObjId → Option Pos → Type 0
+IsPosAfter view parent except None low = low ≡ None
+IsPosAfter view parent except (Some after) low = (pos : Pos) × (low ≡ Some pos) × IsSibling view parent except after pos
 
-abbrev pub Unfit : Option Kind → Option Kind → Type 0
-Unfit (Some k) (Some p) = may_stand k p ≡ false
-Unfit (Some k) None = Unit {0}
-Unfit None p = Unit {0}
+-- the position at a spot: the middle between that child and the next, or none where there is no room
+abbrev pub Lands : Doc → ObjId → Spot → Option Pos → Type 0
+Lands view except spot got = (low : Option Pos) × (high : Option Pos) × IsPosAfter view spot.parent except spot.after low × IsNext view spot.parent except low high × Middle low high got
 
-abbrev pub OfRoot : Request → Type 0
-OfRoot (Move id parent after) = id ≡ root
-OfRoot (Delete id) = id ≡ root
-OfRoot _ = ⊥
+-- the request creates an object
+abbrev pub IsCreate : EditRequest → Type 0
+IsCreate (Create kind spot) = Unit {0}
+IsCreate _ = ⊥
 
-abbrev pub Creates : Request → Type 0
-Creates (Create kind parent after) = Unit {0}
-Creates _ = ⊥
+-- the refusal holds, whether or not an earlier one does
+abbrev pub Blocks : Client → EditRequest → EditError → Type 0
+Blocks client r NotOpen = client.id ≡ None
+Blocks client r IsRoot = MovesRoot r
+Blocks client r NotShown = IsHidden client.view r ⊎ ComesAfterNone client.view r
+Blocks client r ParentNotShown = Has (spot_asked r) (λ spot. InTree client.view spot.parent → ⊥)
+Blocks client r BadParent = Has (spot_asked r) (λ spot. MayNotStand (kind_asked client.view r) (kind_of client.view spot.parent))
+Blocks client r OwnDescendant = GoesBelowItself client.view r
+Blocks client r Crowded = Has (spot_asked r) (λ spot. Lands client.view (moved r) spot None)
+Blocks client r IdsSpent = IsCreate r × (client.counter ≡ 4294967295)
+Blocks client r Full = last_number client ≡ 2 ^ 62
 
--- the reason holds, whether or not an earlier one does
-abbrev pub Blocks : Hand → Request → EditError → Type 0
-Blocks h r NotOpen = h.id ≡ None
-Blocks h r IsRoot = OfRoot r
-Blocks h r NotShown = Unshown h.view r
-Blocks h r ParentNotShown = On (wants r) (λ parent after. InTree h.view parent → ⊥)
-Blocks h r BadParent = On (wants r) (λ parent after. Unfit (kind_of_request h.view r) (kind_of h.view parent))
-Blocks h r OwnDescendant = On (wants r) (λ parent after. (moved r ≢ root) × Below h.view parent (moved r))
-Blocks h r Crowded = On (wants r) (λ parent after. Lands h.view (moved r) parent after None)
-Blocks h r IdsSpent = Creates r × (h.counter ≡ 4294967295)
-Blocks h r Full = length h.edits ≡ 2 ^ 62
+-- the first refusal that holds
+abbrev pub Refuses : Client → EditRequest → EditError → Type 0
+Refuses client r error = Blocks client r error × ((earlier : EditError) → rank earlier < rank error → Blocks client r earlier → ⊥)
 
-abbrev pub Refuses : Hand → Request → EditError → Type 0
-Refuses h r e = Blocks h r e × ((earlier : EditError) → rank earlier < rank e → Blocks h r earlier → ⊥)
+-- the change that a request makes at a client of id c: a new object gets the next counter
+abbrev pub Becomes : Client → ℕ → EditRequest → Change → Type 0
+Becomes client c (Create kind spot) change =
+    (pos : Pos) × Lands client.view root spot (Some pos) × (change ≡ Change.Create (record { client = c; counter = client.counter + 1 }) kind (record { parent = spot.parent; pos = pos }))
+Becomes client c (Set id name value) change = change ≡ Change.Set id name (Some value)
+Becomes client c (Clear id name) change = change ≡ Change.Set id name None
+Becomes client c (Move id spot) change = (pos : Pos) × Lands client.view id spot (Some pos) × (change ≡ Change.Move id (record { parent = spot.parent; pos = pos }))
+Becomes client c (Delete id) change = change ≡ Change.Delete id
 
--- the change that the request makes
-abbrev pub Becomes : Hand → ℕ → Request → Change → Type 0
-Becomes h c (Create kind parent after) change = (pos : Pos) × Lands h.view root parent after (Some pos) × (change ≡ Change.Create (record { client = c; counter = h.counter + 1 }) kind (record { parent = parent; pos = pos }))
-Becomes h c (Set id name value) change = change ≡ Change.Set id name (Some value)
-Becomes h c (Clear id name) change = change ≡ Change.Set id name None
-Becomes h c (Move id parent after) change = (pos : Pos) × Lands h.view id parent after (Some pos) × (change ≡ Change.Move id (record { parent = parent; pos = pos }))
-Becomes h c (Delete id) change = change ≡ Change.Delete id
+-- no refusal holds, and this is the change
+abbrev pub Makes : Client → EditRequest → Change → Type 0
+Makes client r change = ((error : EditError) → Blocks client r error → ⊥) × (c : ℕ) × (client.id ≡ Some c) × Becomes client c r change
 
+-- a creation raises the counter
 abbrev pub counter_after : ℕ → Change → ℕ
 counter_after counter (Change.Create id kind place) = id.counter
 counter_after counter _ = counter
 
--- nothing speaks against the request, and the change is made
-abbrev pub Makes : Hand → Request → Change → Type 0
-Makes h r change = ((e : EditError) → Blocks h r e → ⊥) × (c : ℕ) × (h.id ≡ Some c) × Becomes h c r change
-
-abbrev pub hand_after : Hand → Change → Hand
-hand_after h change = record { id = h.id; counter = counter_after h.counter change; edits = h.edits ++ change ∷ []; view = lay h.view change }
+-- the client after an edit of its own: the change waits, and is laid over the view
+abbrev pub edited : Client → Change → Client
+edited client change = record {
+  id = client.id;
+  counter = counter_after client.counter change;
+  version = client.version;
+  acknowledged = client.acknowledged;
+  waiting = client.waiting ++ change ∷ [];
+  view = lay client.view change;
+}

@@ -2,10 +2,12 @@
 use Rattle.std.specs.Prelude.{◌≡◌, ℕ, ◌+◌, ◌*◌, ◌/◌, ◌^◌, ◌<◌, ◌≤◌, List, length, All, Option, Some, None, MatchOption}
 use Rattle.canvas_model.specs.Position.{IsDigitByte, IsPosition, IsSmaller, num}
 
+-- a fraction, by its top and its bottom
 pub record Fraction : Type 0 where
   pub top : ℕ
   pub bottom : ℕ
 
+-- the first fraction is less than the second
 abbrev pub IsLess : Fraction → Fraction → Type 0
 IsLess a b = a.top * b.bottom < b.top * a.bottom
 
@@ -32,10 +34,12 @@ pub record LiesBetween (lo hi : Option (List ℕ)) (n m : ℕ) : Type 0 where
   pub above : IsLess (lower lo) (record { top = m; bottom = 95 ^ n })
   pub below : IsLess (record { top = m; bottom = 95 ^ n }) (upper hi)
 
+-- m is the least number of which P is true
 pub record IsLeast (P : ℕ → Type 0) (m : ℕ) : Type 0 where
   pub holds : P m
   pub least : (k : ℕ) → P k → m ≤ k
 
+-- m is the greatest number of which P is true
 pub record IsGreatest (P : ℕ → Type 0) (m : ℕ) : Type 0 where
   pub holds : P m
   pub greatest : (k : ℕ) → P k → k ≤ m

@@ -5,6 +5,7 @@ use Rattle.std.specs.Cmp.Lexicographic.{slice_cmp}
 use Rattle.std.specs.declared.cmp.Ordering.TheVariants.{Less}
 use Rattle.canvas_model.specs.Position.{IsPosition}
 
+-- the first position comes before the second, byte by byte
 abbrev pub IsBefore : List ℕ → List ℕ → Type 0
 IsBefore p q = slice_cmp nat_cmp p q ≡ Less
 

@@ -10,6 +10,7 @@ use Rattle.canvas_model.specs.Document.{Place}
 abbrev pub id_text : ObjId → List ℕ
 id_text id = decimal id.client ++ codes ":" ++ decimal id.counter
 
+-- a kind is one word
 abbrev pub kind_word : Kind → List ℕ
 kind_word Document = codes "document"
 kind_word Page = codes "page"

@@ -4,6 +4,7 @@ use Rattle.std.specs.List.{flat_map}
 use Rattle.std.specs.FinMap as map
 use Rattle.canvas_model.specs.declared.ObjId.{ObjId}
 use Rattle.canvas_model.specs.Document.{Doc, Object, Place}
+use Rattle.canvas_tree.specs.Texts.{prop_line}
 use Rattle.canvas_model.specs.Text.{id_text, kind_word, place_text}
 
 -- a blank and the place, or nothing
@@ -15,9 +16,13 @@ stands_text (Some place) = codes " " ++ place_text place
 abbrev pub object_line : ObjId × Object → List ℕ
 object_line e = id_text e.0 ++ codes " " ++ kind_word e.1.kind ++ stands_text e.1.place ++ 10 ∷ []
 
+-- an object's line, and one level deeper those of its properties, in the order of their names
+abbrev pub entry_lines : ObjId × Object → List ℕ
+entry_lines e = object_line e ++ flat_map (prop_line 1) (map.entries e.1.props)
+
 -- the lines of all live objects, in id order
 abbrev pub object_lines : Doc → List ℕ
-object_lines d = flat_map object_line (map.entries d)
+object_lines d = flat_map entry_lines (map.entries d)
 
 -- the text ends with this
 abbrev pub EndsWith : List ℕ → List ℕ → Type 0

@@ -3,6 +3,6 @@ use Rattle.scene.specs.Spelling.{Asked, AskJoin, AskEdit}
 use Rattle.scene.specs.declared.requests.RequestNode.{RequestNode}
 use Rattle.scene.specs.declared.requests.RequestNode.TheVariants as node
 
-abbrev pub seen : {A : Type 0} → RequestNode A → Asked
+abbrev pub seen : RequestNode → Asked
 seen node.Join = AskJoin
 seen (node.Edit author change) = AskEdit author change

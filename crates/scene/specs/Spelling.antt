@@ -1,11 +1,17 @@
 -- How a request is written, and which inputs stand for which requests.
-use Rattle.std.specs.Prelude.{◌≡◌, ℕ, ◌-◌, ◌<◌, ◌≤◌, ◌^◌, List, [], ◌∷◌, ◌++◌, length, take, codes}
+use Rattle.std.specs.Prelude.{◌≡◌, ℕ, ◌-◌, ◌<◌, ◌≤◌, ◌^◌, List, [], ◌∷◌, ◌++◌, length, take, codes, Some, None}
+use Rattle.std.specs.Str.{IsUtf8}
 use Rattle.std.specs.Fmt.{decimal}
 use Rattle.canvas_model.specs.declared.ObjId.{ObjId}
 use Rattle.canvas_model.specs.Position.{IsPosition}
 use Rattle.canvas_model.specs.Document.{Place}
 use Rattle.canvas_model.specs.Text.{id_text, kind_word, place_text}
 use Rattle.canvas_model.specs.Change.{Change, Create, Set, Move, Delete}
+use Rattle.canvas_model.specs.Value.{Value, IsShallow}
+use Rattle.canvas_value.specs.Names.{IsName}
+use Rattle.canvas_value.specs.Text.{Spells}
+use Rattle.scene.specs.declared.words.Verb.{Verb}
+use Rattle.scene.specs.Verbs.{verb_word, verb_of}
 use Rattle.scene.specs.Lines.{lines_of, told}
 
 -- what a line asks for: an id for a new client, or a change by this author
@@ -20,12 +26,25 @@ IsId id = (id.client < 2 ^ 32) × (id.counter < 2 ^ 32)
 abbrev pub IsPlace : Place → Type 0
 IsPlace place = IsId place.parent × IsPosition place.pos
 
--- the text asks for this change; the position is the rest of the line, blanks included
+-- the text is UTF-8, and JSON of this value
+abbrev pub IsValueText : List ℕ → Value → Type 0
+IsValueText text value = IsUtf8 text × Spells text value
+
+-- what follows the verb; a position and the JSON of a value are the rest of the line, blanks included
+abbrev pub SaysRest : List ℕ → Change → Type 0
+SaysRest rest (Create id kind place) = IsId id × IsPlace place × (rest ≡ id_text id ++ codes " " ++ kind_word kind ++ codes " " ++ place_text place)
+SaysRest rest (Set id name (Some value)) = IsId id × IsName name × IsShallow value × (text : List ℕ) × IsValueText text value × (rest ≡ id_text id ++ codes " " ++ name ++ codes " " ++ text)
+SaysRest rest (Set id name None) = IsId id × IsName name × (rest ≡ id_text id ++ codes " " ++ name)
+SaysRest rest (Move id place) = IsId id × IsPlace place × (rest ≡ id_text id ++ codes " " ++ place_text place)
+SaysRest rest (Delete id) = IsId id × (rest ≡ id_text id)
+
+-- the verb and what follows it ask for this change
+abbrev pub Asks : Verb → List ℕ → Change → Type 0
+Asks verb rest change = (verb_of change ≡ verb) × SaysRest rest change
+
+-- the text asks for this change: its verb, a blank and the rest
 abbrev pub SaysChange : List ℕ → Change → Type 0
-SaysChange text (Create id kind place) = IsId id × IsPlace place × (text ≡ codes "create " ++ id_text id ++ codes " " ++ kind_word kind ++ codes " " ++ place_text place)
-SaysChange text (Set id name value) = ⊥
-SaysChange text (Move id place) = ⊥
-SaysChange text (Delete id) = ⊥
+SaysChange text change = (rest : List ℕ) × (text ≡ verb_word (verb_of change) ++ codes " " ++ rest) × SaysRest rest change
 
 -- the line asks for this
 abbrev pub Says : List ℕ → Asked → Type 0

@@ -5,14 +5,10 @@ ghost use Rattle.scene.specs.Answers.{answer_line, carried_text, outcome_text, r
 
 use canvas_doc::Place;
 use canvas_judge::{Outcome, OutcomeNode, Reason};
-use std::alloc::{AllocError, Allocator};
+use std::alloc::{AllocError, Global};
 
 /// The line that answers a request which became the log's entry of this version.
-pub fn answer_line<A: Allocator + Copy>(
-    alloc: A,
-    version: u64,
-    outcome: &Outcome<A>,
-) -> Result<String<A>, AllocError>
+pub fn answer_line(alloc: Global, version: u64, outcome: &Outcome) -> Result<String, AllocError>
     ensures { IfOk result (λ line. string_bytes line ≡ answer_line version outcome.now) }
 {
     let outcome = outcome_text(alloc, outcome)?;
@@ -20,10 +16,7 @@ pub fn answer_line<A: Allocator + Copy>(
 }
 
 // What became of a request.
-fn outcome_text<A: Allocator + Copy>(
-    alloc: A,
-    outcome: &Outcome<A>,
-) -> Result<String<A>, AllocError>
+fn outcome_text(alloc: Global, outcome: &Outcome) -> Result<String, AllocError>
     ensures { IfOk result (λ text. string_bytes text ≡ outcome_text outcome.now) }
 {
     match outcome.node() {
@@ -70,10 +63,7 @@ fn reason_word(reason: Reason) -> &'static str
 }
 
 // The place that a refusal carries.
-fn carried_text<A: Allocator + Copy>(
-    alloc: A,
-    stands: &Option<Place<A>>,
-) -> Result<String<A>, AllocError>
+fn carried_text(alloc: Global, stands: &Option<Place>) -> Result<String, AllocError>
     ensures { IfOk result (λ text. string_bytes text ≡ carried_text stands.now) }
 {
     match stands {
@@ -86,7 +76,7 @@ fn carried_text<A: Allocator + Copy>(
 }
 
 /// The parent's id, a blank and the position.
-pub fn place_text<A: Allocator + Copy>(alloc: A, place: &Place<A>) -> Result<String<A>, AllocError>
+pub fn place_text(alloc: Global, place: &Place) -> Result<String, AllocError>
     ensures { IfOk result (λ t. string_bytes t ≡ text.place_text place.now) }
 {
     let parent = place.parent;

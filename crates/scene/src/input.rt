@@ -3,7 +3,7 @@ ghost use Rattle.std.specs.Prelude.{◌≡◌, ◌≤◌, ◌^◌, IfErr, IfOk, 
 ghost use Rattle.std.specs.Io.KnownBytes.{Appends, Consumes, IsAtEnd};
 ghost use Rattle.scene.specs.Faults.{HasRead, IsFaultStatus};
 
-use std::alloc::{AllocError, AllocFailed, Allocator};
+use std::alloc::{AllocError, AllocFailed, Global};
 use std::io::{self, ErrorKind, Read, Write};
 use thiserror::Error;
 
@@ -52,10 +52,7 @@ impl Fault {
 }
 
 /// All bytes of the input. A read that was interrupted is tried again.
-pub fn read_input<A: Allocator + Copy, R: Read>(
-    alloc: A,
-    input: &mut R,
-) -> Result<Vec<u8, A>, Fault>
+pub fn read_input<R: Read>(alloc: Global, input: &mut R) -> Result<Vec<u8>, Fault>
     ensures size { IfOk result (λ text. vec_len text ≤ 2 ^ 30) }
     ensures bytes { IfOk result (λ text. Consumes (R.remaining input.old) (R.remaining input.new) text.items) }
     ensures end { OnOk result (IsAtEnd (R.remaining input.new)) }
@@ -70,7 +67,7 @@ pub fn read_input<A: Allocator + Copy, R: Read>(
 }
 
 // Adds what one read gives. Whether there may be more.
-fn read_more<A: Allocator, R: Read>(input: &mut R, text: &mut Vec<u8, A>) -> Result<bool, Fault>
+fn read_more<R: Read>(input: &mut R, text: &mut Vec<u8>) -> Result<bool, Fault>
     requires { vec_len text.old ≤ 2 ^ 30 }
     ensures size { OnOk result (vec_len text.new ≤ 2 ^ 30) }
     ensures bytes { OnOk result (HasRead (R.remaining input.old) (R.remaining input.new) text.old.items text.new.items) }

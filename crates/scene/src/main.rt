@@ -8,12 +8,13 @@ ghost use Rattle.scene.specs.Results.{IsErrorOf, IsLogOf, IsPlayed, IsStatus};
 ghost use Rattle.scene.specs.Runs.{IsFold};
 ghost use Rattle.scene.specs.Spelling.{IsBadLine};
 
-use std::alloc::{AllocError, Allocator};
+use std::alloc::{AllocError, Global};
 use std::io::{Read, Write};
 use std::process::ExitCode;
 use thiserror::Error;
 
 mod answers;
+mod block;
 mod input;
 mod lines;
 mod play;
@@ -21,6 +22,7 @@ mod report;
 mod requests;
 mod words;
 
+pub use block::block;
 use input::{Fault, read_input, tell, write_out};
 pub use play::LogRun;
 use play::play;
@@ -49,19 +51,15 @@ impl From<AllocError> for SceneError {
 }
 
 /// Plays the requests of an input on an empty server. To `out` it adds a line that answers each request, then the version and a line
-/// for each live object.
+/// for each live object, each followed by one for each of its properties.
 ///
-/// The lines are UTF-8 and end with a line feed, which the last may lack. Empty lines and lines that begin with `#` are passed
-/// over. The first other line is `log`, and each later one a request: `join`, or `C create ID KIND PARENT POS`, where C is the author's
-/// id.
+/// The lines end with a line feed, which the last may lack. Empty lines and lines that begin with `#` are passed over. The first other
+/// line is `log`, and each later one a request: `join`, or one of these, where C is the author's id and VALUE the JSON of a value (RFC 8259):
+/// `C create ID KIND PARENT POS`, `C set ID NAME VALUE`, `C clear ID NAME`, `C move ID PARENT POS`, `C delete ID`.
 ///
 /// The errors: `BadLine`, where a line can't be read, with the answers to the lines before it in `out`; `Memory`, only where a growth was
 /// refused, and then `out` may have grown.
-pub fn log_run<A: Allocator + Copy>(
-    alloc: A,
-    input: &[u8],
-    out: &mut Vec<u8, A>,
-) -> Result<LogRun<A>, SceneError>
+pub fn log_run(alloc: Global, input: &[u8], out: &mut Vec<u8>) -> Result<LogRun, SceneError>
     ensures log { IfOk result (λ run. IsLogOf input.now run.entries.items) }
     ensures fold { IfOk result (λ run. IsFold run.entries.items run.state) }
     ensures report { IfOk result (λ run. EndsWith out.new.items (object_lines run.state.doc)) }
@@ -79,11 +77,7 @@ pub fn log_run<A: Allocator + Copy>(
 }
 
 // Writes the version and the objects of a log's end.
-fn write_report<A: Allocator + Copy>(
-    alloc: A,
-    run: &LogRun<A>,
-    out: &mut Vec<u8, A>,
-) -> Result<(), AllocError>
+fn write_report(alloc: Global, run: &LogRun, out: &mut Vec<u8>) -> Result<(), AllocError>
     ensures { OnOk result (EndsWith out.new.items (object_lines run.now.state.doc)) }
 {
     let version = run.version();
@@ -94,8 +88,8 @@ fn write_report<A: Allocator + Copy>(
 
 /// Reads a scene, plays it, and writes its answers and report. What it answers is the program's status: 0; 2 where a line can't be read, which
 /// is told on `faults`; 3 for want of memory; 4 where a read or write failed, or the input has more than 2^30 bytes or takes more than 2^31 reads.
-pub fn run<A: Allocator + Copy, R: Read, W: Write, F: Write>(
-    alloc: A,
+pub fn run<R: Read, W: Write, F: Write>(
+    alloc: Global,
     input: &mut R,
     output: &mut W,
     faults: &mut F,
@@ -113,11 +107,7 @@ pub fn run<A: Allocator + Copy, R: Read, W: Write, F: Write>(
 }
 
 // Reads, plays and writes. Where a line can't be read, the answers to those before it are written.
-fn play_input<A: Allocator + Copy, R: Read, W: Write>(
-    alloc: A,
-    input: &mut R,
-    output: &mut W,
-) -> Result<(), Fault>
+fn play_input<R: Read, W: Write>(alloc: Global, input: &mut R, output: &mut W) -> Result<(), Fault>
     ensures { OnOk result (IsPlayed (R.remaining input.old) (R.remaining input.new) (W.contents output.old) (W.contents output.new)) }
 {
     let text = read_input(alloc, input)?;

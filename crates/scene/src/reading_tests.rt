@@ -34,7 +34,9 @@ fn parts_of_an_edit(rt: HostRuntime) -> Result<(), Fail> {
     let RequestNode::Edit { author, change } = reading.requests[1].node() else {
         return Err(Fail::from("the second request is no edit"));
     };
-    let ChangeNode::Create { id, kind, place } = change.node();
+    let ChangeNode::Create { id, kind, place } = change.node() else {
+        return Err(Fail::from("the edit is no creation"));
+    };
     assert!(rt; *author == 7);
     assert!(rt;
         *id == ObjId {
@@ -70,6 +72,61 @@ fn good_inputs(rt: HostRuntime) -> Result<(), Fail> {
     Ok(())
 }
 
+// As many lists in one another, the innermost empty.
+fn with_lists(alloc: Global, lists: usize) -> Result<Vec<u8>, Fail> {
+    let mut input = Vec::from_slice(alloc, b"log\n1 set 1:1 x ")?;
+    for _ in 1..lists {
+        input.extend_from_slice(b"[\"list\",")?;
+    }
+    input.extend_from_slice(b"[\"list\"")?;
+    for _ in 0..lists {
+        input.push(b']')?;
+    }
+    Ok(input)
+}
+
+#[test]
+fn values_and_names(rt: HostRuntime) -> Result<(), Fail> {
+    assert!(rt;
+        is_read(
+            rt.alloc(),
+            b"log\n1 set 1:1 fill_2 [\"rgba\", 255 ] \n1 set 0:0 x \" a b\"",
+            2
+        )?
+    );
+    assert!(rt;
+        is_read(
+            rt.alloc(),
+            b"log\n1 clear 1:1 x\n1 set 1:1 x -9223372036854775808\n",
+            2
+        )?
+    );
+    assert!(rt; is_read(rt.alloc(), &with_lists(rt.alloc(), 16)?, 1)?);
+    assert!(rt; is_bad(rt.alloc(), &with_lists(rt.alloc(), 17)?, 0, 2)?);
+    Ok(())
+}
+
+#[test]
+fn bad_values_and_names(rt: HostRuntime) -> Result<(), Fail> {
+    assert!(rt; is_bad(rt.alloc(), b"log\n1 set 1:1 x 9223372036854775808\n", 0, 2)?);
+    assert!(rt;
+        is_bad(
+            rt.alloc(),
+            b"log\n1 set 1:1 x [\"rgba\",4294967296]\n",
+            0,
+            2
+        )?
+    );
+    assert!(rt; is_bad(rt.alloc(), b"log\n1 set 1:1 x 1.0\n", 0, 2)?);
+    assert!(rt; is_bad(rt.alloc(), b"log\n1 set 1:1 x null\n", 0, 2)?);
+    assert!(rt; is_bad(rt.alloc(), b"log\n1 set 1:1 x \"\xff\"\n", 0, 2)?);
+    assert!(rt; is_bad(rt.alloc(), b"log\n1 set 1:1 x\n", 0, 2)?);
+    assert!(rt; is_bad(rt.alloc(), b"log\n1 set 1:1 X 1\n", 0, 2)?);
+    assert!(rt; is_bad(rt.alloc(), b"log\n1 clear 1:1\n", 0, 2)?);
+    assert!(rt; is_bad(rt.alloc(), b"log\n1 clear 1:1 x 1\n", 0, 2)?);
+    Ok(())
+}
+
 #[test]
 fn bad_words(rt: HostRuntime) -> Result<(), Fail> {
     assert!(rt; is_bad(rt.alloc(), b"join\n", 0, 1)?);
@@ -79,10 +136,10 @@ fn bad_words(rt: HostRuntime) -> Result<(), Fail> {
     assert!(rt; is_bad(rt.alloc(), b"log\r\njoin\n", 0, 1)?);
     assert!(rt; is_bad(rt.alloc(), b"log\njoin\r\n", 0, 2)?);
     assert!(rt; is_bad(rt.alloc(), b"log\n\xff\xfe\n", 0, 2)?);
-    assert!(rt; is_bad(rt.alloc(), b"log\n1 set 1:1 name 5\n", 0, 2)?);
-    assert!(rt; is_bad(rt.alloc(), b"log\n1 clear 1:1 name\n", 0, 2)?);
-    assert!(rt; is_bad(rt.alloc(), b"log\n1 move 1:1 0:0 O\n", 0, 2)?);
-    assert!(rt; is_bad(rt.alloc(), b"log\n1 delete 1:1\n", 0, 2)?);
+    assert!(rt; is_bad(rt.alloc(), b"log\n1 reset 1:1 name 5\n", 0, 2)?);
+    assert!(rt; is_bad(rt.alloc(), b"log\n1 move 1:1 0:0\n", 0, 2)?);
+    assert!(rt; is_bad(rt.alloc(), b"log\n1 delete 1:1 1:2\n", 0, 2)?);
+    assert!(rt; is_bad(rt.alloc(), b"log\n1 delete\n", 0, 2)?);
     Ok(())
 }
 

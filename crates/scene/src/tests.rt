@@ -1,4 +1,4 @@
-use crate::run;
+use crate::{block, log_run, run};
 use std::alloc::Global;
 use std::io::{self, Error, ErrorKind, Read, Write};
 use std::test::Fail;
@@ -116,6 +116,61 @@ fn refusals(rt: HostRuntime) {
     let output =
         b"1 joined 1\n2 joined 2\n3 refused 1 IsRoot\n4 refused 2 BadId\n5 created 0:0 O\n6 refused 5 BadParent\nversion 6\n0:0 document\n1:1 page 0:0 O\n";
     assert!(rt; prints(rt.alloc(), input, output));
+}
+
+#[test]
+fn values(rt: HostRuntime) {
+    let input =
+        b"log\njoin\n1 create 1:1 page 0:0 O\n1 set 1:1 fill [\"rgba\",255]\n1 set 1:1 name \"A\"\n1 clear 1:1 none\n1 set 1:2 x 1\n2 set 1:1 x 1\n1 set 0:0 t [\"list\",1,[\"list\"]]\n";
+    let output =
+        b"1 joined 1\n2 created 0:0 O\n3 set\n4 set\n5 set\n6 refused 3 Gone\nstranger\n7 set\nversion 7\n0:0 document\n  .t [\"list\",1,[\"list\"]]\n1:1 page 0:0 O\n  .fill [\"rgba\",255]\n  .name \"A\"\n";
+    assert!(rt; prints(rt.alloc(), input, output));
+}
+
+#[test]
+fn moves_among_siblings(rt: HostRuntime) {
+    let input =
+        b"log\njoin\n1 create 1:1 page 0:0 O\n1 create 1:2 frame 1:1 O\n1 create 1:3 frame 1:1 O\n1 create 1:4 shape 1:1 O\n1 move 1:2 1:1 g\n";
+    let output =
+        b"1 joined 1\n2 created 0:0 O\n3 created 1:1 O\n4 created 1:1 g\n5 created 1:1 [\n6 moved 1:1 s\nversion 6\n0:0 document\n1:1 page 0:0 O\n1:2 frame 1:1 s\n1:3 frame 1:1 g\n1:4 shape 1:1 [\n";
+    assert!(rt; prints(rt.alloc(), input, output));
+}
+
+#[test]
+fn what_lies_below_goes_too(rt: HostRuntime) {
+    let input =
+        b"log\njoin\n1 create 1:1 page 0:0 O\n1 create 1:2 frame 1:1 O\n1 create 1:3 frame 1:2 O\n1 create 1:4 text 1:1 g\n1 delete 1:2\n1 move 1:3 1:1 a\n";
+    let output =
+        b"1 joined 1\n2 created 0:0 O\n3 created 1:1 O\n4 created 1:2 O\n5 created 1:1 g\n6 removed 1:2 1:3\n7 refused 3 Gone\nversion 7\n0:0 document\n1:1 page 0:0 O\n1:4 text 1:1 g\n";
+    assert!(rt; prints(rt.alloc(), input, output));
+}
+
+#[test]
+fn creations(rt: HostRuntime) {
+    let input =
+        b"log\njoin\n1 create 1:1 page 0:0 O\n1 create 1:2 frame 1:1 O\n1 create 1:3 shape 1:2 g\n1 create 1:3 shape 1:2 7\n1 create 1:4 shape 9:9 7";
+    let output =
+        b"1 joined 1\n2 created 0:0 O\n3 created 1:1 O\n4 created 1:2 g\n5 refused 2 BadId\n6 refused 4 ParentGone\nversion 6\n0:0 document\n1:1 page 0:0 O\n1:2 frame 1:1 O\n1:3 shape 1:2 g\n";
+    assert!(rt; prints(rt.alloc(), input, output));
+}
+
+// What a block of this input's last document is.
+fn shown(alloc: Global, input: &[u8]) -> Result<Vec<u8>, Fail> {
+    let mut out = Vec::new(alloc);
+    let run = log_run(alloc, input, &mut out)?;
+    out.clear();
+    block(alloc, b"server", run.state.doc(), &mut out)?;
+    Ok(out)
+}
+
+#[test]
+fn blocks(rt: HostRuntime) -> Result<(), Fail> {
+    let input =
+        b"log\njoin\n1 create 1:1 page 0:0 O\n1 create 1:2 frame 1:1 O\n1 create 1:3 text 1:2 O\n1 create 1:4 shape 1:1 7\n1 set 1:1 name \"A\"\n1 set 0:0 t [\"list\",1,[\"list\"]]\n";
+    let output =
+        b"server\n  0:0 document\n    .t [\"list\",1,[\"list\"]]\n    1:1 page O\n      .name \"A\"\n      1:4 shape 7\n      1:2 frame O\n        1:3 text O\n";
+    assert!(rt; shown(rt.alloc(), input)?.as_slice() == output.as_slice());
+    Ok(())
 }
 
 // A reader that gives a few bytes, and then fails.

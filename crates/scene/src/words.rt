@@ -1,19 +1,26 @@
 // The words of a line.
-ghost use Rattle.std.specs.Prelude.{◌≡◌, ℕ, ◌<◌, ◌^◌, ◌↔◌, length, slice_index, IfOk, IfSome, IfNone, IsTrue};
+ghost use Rattle.std.specs.Prelude.{◌≡◌, ℕ, ◌<◌, ◌^◌, ◌↔◌, length, slice_index, Some, None, IfOk, IfSome, IfNone, IsTrue};
+ghost use Rattle.std.specs.Str.{IsUtf8};
 ghost use Rattle.std.specs.Fmt.{decimal};
 ghost use Rattle.canvas_model.specs.declared.ObjId.{ObjId};
 ghost use Rattle.canvas_model.specs.declared.Kind.{Kind};
 ghost use Rattle.canvas_model.specs.Document as document;
 ghost use Rattle.canvas_model.specs.Position.{IsPosition};
 ghost use Rattle.canvas_model.specs.Text.{id_text, kind_word, place_text};
-ghost use Rattle.scene.specs.Spelling.{IsId, IsPlace};
+ghost use Rattle.canvas_model.specs.Value.{Value as PlainValue};
+ghost use Rattle.canvas_value.specs.Names.{IsName};
+ghost use Rattle.serde_json.specs.Read.{read};
+ghost use Rattle.serde_json.specs.View.{view};
+ghost use Rattle.scene.specs.Spelling.{IsId, IsPlace, IsValueText};
 ghost use Rattle.scene.specs.Verbs.{verb_word};
 ghost use Rattle.scene.specs.Words.{IsCut, Lacks};
 ghost use Rattle.scene.specs.declared.words.Verb.{Verb};
 
-use canvas_doc::{Kind, ObjId, Place};
+use canvas_doc::{Kind, Name, ObjId, Place, Value};
 use canvas_pos::{Pos, PosError};
-use std::alloc::{AllocError, Allocator};
+use canvas_value::{JsonFault, NameError};
+use serde_json::Value as Json;
+use std::alloc::{AllocError, Global};
 
 /// What stands before the first such byte, and what follows it. `None` where the byte isn't there.
 pub fn cut(bytes: &[u8], mark: u8) -> Option<(&[u8], &[u8])>
@@ -97,6 +104,14 @@ pub fn kind(bytes: &[u8]) -> Option<Kind>
 pub enum Verb {
     /// Makes it, at a place.
     Create,
+    /// Gives it a property.
+    Set,
+    /// Takes a property away.
+    Clear,
+    /// Puts it at another place.
+    Move,
+    /// Removes it, with all that lies below it.
+    Delete,
 }
 
 /// The verb that is spelled so.
@@ -106,12 +121,16 @@ pub fn read_verb(bytes: &[u8]) -> Option<Verb>
 {
     match bytes {
         b"create" => Some(Verb::Create),
+        b"set" => Some(Verb::Set),
+        b"clear" => Some(Verb::Clear),
+        b"move" => Some(Verb::Move),
+        b"delete" => Some(Verb::Delete),
         _ => None,
     }
 }
 
 /// The place that is spelled so: the parent's id, a blank, and the rest as the position. The error is want of memory.
-pub fn place<A: Allocator>(alloc: A, bytes: &[u8]) -> Result<Option<Place<A>>, AllocError>
+pub fn place(alloc: Global, bytes: &[u8]) -> Result<Option<Place>, AllocError>
     ensures some { IfOk result (λ r. IfSome r (λ place. IsPlace place × (bytes.now ≡ place_text place))) }
     ensures none { IfOk result (λ r. IfNone r ((place : document.Place) → IsPlace place → bytes.now ≡ place_text place → ⊥)) }
 {
@@ -128,7 +147,7 @@ pub fn place<A: Allocator>(alloc: A, bytes: &[u8]) -> Result<Option<Place<A>>, A
 }
 
 // The bytes as a position. The error is want of memory.
-fn position<A: Allocator>(alloc: A, bytes: &[u8]) -> Result<Option<Pos<A>>, AllocError>
+fn position(alloc: Global, bytes: &[u8]) -> Result<Option<Pos>, AllocError>
     ensures some { IfOk result (λ r. IfSome r (λ pos. IsPosition pos × (bytes.now ≡ pos))) }
     ensures none { IfOk result (λ r. IfNone r (IsPosition bytes.now → ⊥)) }
 {
@@ -138,5 +157,53 @@ fn position<A: Allocator>(alloc: A, bytes: &[u8]) -> Result<Option<Pos<A>>, Allo
             PosError::Memory => Err(AllocError),
             _ => Ok(None),
         },
+    }
+}
+
+/// The name that is spelled so. The error is want of memory.
+pub fn name(alloc: Global, bytes: &[u8]) -> Result<Option<Name>, AllocError>
+    ensures some { IfOk result (λ r. IfSome r (λ name. IsName name × (bytes.now ≡ name))) }
+    ensures none { IfOk result (λ r. IfNone r (IsName bytes.now → ⊥)) }
+{
+    match Name::read(alloc, bytes) {
+        Ok(name) => Ok(Some(name)),
+        Err(error) => match error {
+            NameError::Memory => Err(AllocError),
+            _ => Ok(None),
+        },
+    }
+}
+
+/// The value whose JSON the text is, however deep. The error is want of memory.
+pub fn value(alloc: Global, text: &[u8]) -> Result<Option<Value>, AllocError>
+    ensures some { IfOk result (λ r. IfSome r (IsValueText text.now)) }
+    ensures none { IfOk result (λ r. IfNone r ((v : PlainValue) → IsValueText text.now v → ⊥)) }
+{
+    let Some(json) = json(alloc, text)? else {
+        return Ok(None);
+    };
+    match Value::from_json(alloc, &json) {
+        Ok(value) => Ok(Some(value)),
+        Err(fault) => match fault {
+            JsonFault::Memory => Err(AllocError),
+            _ => Ok(None),
+        },
+    }
+}
+
+// The tree whose JSON the text is. The error is want of memory.
+fn json(alloc: Global, text: &[u8]) -> Result<Option<Json>, AllocError>
+    ensures some { IfOk result (λ r. IfSome r (λ json. IsUtf8 text.now × (read text.now ≡ Some (view json)))) }
+    ensures none { IfOk result (λ r. IfNone r (IsUtf8 text.now → read text.now ≡ None)) }
+{
+    match Json::from_slice(alloc, text) {
+        Ok(json) => Ok(Some(json)),
+        Err(error) => {
+            if error.is_memory() {
+                Err(AllocError)
+            } else {
+                Ok(None)
+            }
+        }
     }
 }

@@ -1,17 +1,13 @@
-use Rattle.std.proofs.Common.{sym, subst, ◌∙◌}
+use Rattle.std.proofs.Common.{subst}
 use Rattle.canvas_model.specs.Document.{IsDocument}
-use Rattle.canvas_doc.proofs.Maps.{get_is}
 use Rattle.canvas_doc.proofs.Rooted.{more_sorted, more_inserted, more_document, nothing_there}
 use Rattle.canvas_doc.proofs.Doc.put_object.Goals as goal
 
-pub add-requires-clause-absent : goal.add-requires-clause-absent
-add-requires-clause-absent g c = sym (get_is _ _ _ c.self.invariant.sorted c.self.view_is) ∙ nothing_there _ _ c.requires
-
 pub invariant_of-self-2 : goal.invariant_of-self-2
 invariant_of-self-2 g c = record {
-  sorted = more_sorted _ _ _ _ _ _ _ c.self.invariant.sorted c.self.view_is c.new.ensures c.in_ok-add.ensures.ok;
-  document = more_document _ _ _ _ _ _ _ c.self.invariant.sorted c.self.view_is c.new.ensures c.in_ok-add.ensures.ok (subst IsDocument c.self.view_is c.self.invariant.document) (nothing_there _ _ c.requires);
+  sorted = more_sorted _ _ _ _ _ _ _ c.self.invariant.sorted c.self.view_is c.new.ensures c.in_ok-put.ensures.ok;
+  document = more_document _ _ _ _ _ _ _ c.self.invariant.sorted c.self.view_is c.new.ensures c.in_ok-put.ensures.ok (subst IsDocument c.self.view_is c.self.invariant.document) (nothing_there _ _ c.requires);
 }
 
 pub returns-clause-ok : goal.returns-clause-ok
-returns-clause-ok g c = more_inserted _ _ _ _ _ _ _ c.self.invariant.sorted c.self.view_is c.new.ensures c.in_ok-add.ensures.ok
+returns-clause-ok g c = more_inserted _ _ _ _ _ _ _ c.self.invariant.sorted c.self.view_is c.new.ensures c.in_ok-put.ensures.ok

@@ -5,4 +5,4 @@ use Rattle.scene.proofs.Joined.{version_line}
 use Rattle.scene.proofs.answers.answer_line.Goals as goal
 
 pub returns : goal.returns
-returns g c = IfOk-weaker c.format.result _ _ (λ s h. h ∙ version_line (decimal c.args.version) _ _ c.in_ok-outcome.ensures) c.format.ensures.ok
+returns c = IfOk-weaker c.format.result _ _ (λ s h. h ∙ version_line (decimal c.args.version) _ _ c.in_ok-outcome.ensures) c.format.ensures.ok

@@ -8,6 +8,6 @@ use Rattle.scene.proofs.Joined.{refused_parts}
 use Rattle.scene.proofs.answers.outcome_text.Goals as goal
 
 pub returns-in_ok-carried-in-Refused : goal.returns-in_ok-carried-in-Refused
-returns-in_ok-carried-in-Refused g c =
+returns-in_ok-carried-in-Refused c =
     let is = ap seen_outcome (sym c.in-Refused.is) ∙ c.node.ensures in
     IfOk-weaker c.format-in-Refused.result _ _ (λ s h. h ∙ refused_parts (codes "refused ") _ _ _ _ _ _ (ap decimal c.number-number.ensures) c.reason_word-word.ensures c.in_ok-carried-in-Refused.ensures ∙ ap outcome_text is) c.format-in-Refused.ensures.ok

@@ -5,4 +5,4 @@ use Rattle.canvas_model.specs.Text.{id_text}
 use Rattle.scene.proofs.answers.outcome_text.Given as goal
 
 abbrev pub invariant-loop-id : goal.invariant-loop-id
-invariant-loop-id g l = string_bytes l.text ≡ codes "removed" ++ flat_map (λ id. codes " " ++ id_text id) (take l.id-index l.id-items)
+invariant-loop-id l = string_bytes l.text ≡ codes "removed" ++ flat_map (λ id. codes " " ++ id_text id) (take l.id-index l.id-items)

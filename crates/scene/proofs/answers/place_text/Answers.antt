@@ -5,6 +5,6 @@ use Rattle.scene.proofs.Joined.{place_parts}
 use Rattle.scene.proofs.answers.place_text.Goals as goal
 
 pub returns : goal.returns
-returns g c =
+returns c =
     rw (← c.place.view_is)
     (IfOk-weaker c.format.result _ _ (λ s h. h ∙ ap (λ (p : List ℕ). id_text c.place.inside.parent ++ 32 ∷ p) c.as_str-pos.ensures ∙ place_parts _ c.place.inside.pos) c.format.ensures.ok)

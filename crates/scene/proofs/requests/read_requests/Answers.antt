@@ -3,7 +3,7 @@ use Rattle.scene.proofs.Told.{next_left, passed_on, read_on, stopped, whole}
 use Rattle.scene.proofs.requests.read_requests.Goals as goal
 
 pub loop-line-preserved-then-is_passed : goal.loop-line-preserved-then-is_passed
-loop-line-preserved-then-is_passed g c =
+loop-line-preserved-then-is_passed c =
     let left = c.loop-line.invariant.left ∙ c.in-Some.ensures.some in
     record {
       left = next_left c.loop-line.line_number _ _ _ left;
@@ -12,7 +12,7 @@ loop-line-preserved-then-is_passed g c =
     }
 
 pub loop-line-preserved : goal.loop-line-preserved
-loop-line-preserved g c =
+loop-line-preserved c =
     let left = c.loop-line.invariant.left ∙ c.in-Some.ensures.some in
     record {
       left = next_left c.loop-line.line_number _ _ _ left;
@@ -21,10 +21,10 @@ loop-line-preserved g c =
     }
 
 pub returns-clause-whole : goal.returns-clause-whole
-returns-clause-whole g c = whole c.loop-line.started c.args.input.now c.loop-line.line_number c.loop-line.requests.items c.loop-line.invariant.read c.loop-line.rest.now c.loop-line.invariant.left c.in_default.ensures.none
+returns-clause-whole c = whole c.loop-line.started c.args.input.now c.loop-line.line_number c.loop-line.requests.items c.loop-line.invariant.read c.loop-line.rest.now c.loop-line.invariant.left c.in_default.ensures.none
 
 pub returns-then-not-is_read-clause-bad : goal.returns-then-not-is_read-clause-bad
-returns-then-not-is_read-clause-bad g c =
+returns-then-not-is_read-clause-bad c =
     let left = c.loop-line.invariant.left ∙ c.in-Some.ensures.some in
     let unread = c.in_ok-is_read.ensures.unread (search rules) in
     stopped c.loop-line.started c.args.input.now c.loop-line.line_number c.loop-line.requests.items c.loop-line.invariant.read _ _ left (sym c.is_passed.ensures ∙ c.if-is_passed.false) unread.0

@@ -1,0 +1,111 @@
+-- Documents of which some objects were moved or removed.
+use Rattle.std.proofs.Common.{◌≡◌, ◌≢◌, ℕ, Bool, true, false, cond, List, get_or, T, Some, None, refl, sym, ap, subst, ◌∙◌}
+use Rattle.std.specs.Prelude.{not, is_some, slice_set}
+use Rattle.std.specs.List.{Contains, list_any}
+use Rattle.std.specs.Option.{option_map, option_and_then}
+use Rattle.std.specs.FinMap as map
+use Rattle.std.specs.FinMap.Entries.{where_key}
+use Rattle.std.proofs.lemmas.Map.Views.{Contains-from_any}
+use Rattle.canvas_model.specs.declared.ObjId.{ObjId}
+use Rattle.canvas_model.specs.Ids.{id_cmp, root, same_id}
+use Rattle.canvas_model.specs.Document.{Doc, Object, Place, place_of, revise, without, IsDocument}
+use Rattle.canvas_doc.specs.Entries.{is_other, IsEntryAt, IsGapAt}
+use Rattle.canvas_doc.proofs.Maps.{exact_ids, ids_total, get_is, put_sorted, put_inserts, differ, same_exact}
+use Rattle.canvas_doc.proofs.Kept.{get_removed, nothing_removed, kept_sorted, kept_is, removed_is}
+use Rattle.canvas_doc.proofs.Rooted.{dead_there, document_put, document_set}
+use Rattle.std.proofs.lemmas.List.{set-get_or}
+use Rattle.canvas_doc.proofs.Searched.{set_puts}
+
+-- a document of which some objects but not the root were removed
+document_kept : (p : ObjId → Bool) (d n : Doc) → ((q : ObjId) → map.get n q ≡ cond (p q) (map.get d q) None) → p root ≡ true → IsDocument d → IsDocument n
+document_kept p d n got root_kept h =
+    let at_root : map.get n root ≡ map.get d root = got root ∙ ap (λ b. cond b (map.get d root) None) root_kept in
+    record {
+      root_kind = ap (option_map (λ o. o.kind)) at_root ∙ h.root_kind;
+      root_place = ap (option_and_then (λ o. o.place)) at_root ∙ h.root_place;
+      others = λ q ne alive. elim (p q) as (λ b. p q ≡ b → (place : Place) × (place_of n q ≡ Some place)) [
+        | true ↦ λ e.
+            let same : map.get n q ≡ map.get d q = got q ∙ ap (λ b. cond b (map.get d q) None) e in
+            let found = h.others q ne (sym (ap is_some same) ∙ alive) in
+            (found.0, ap (option_and_then (λ o. o.place)) same ∙ found.1)
+        | false ↦ λ e.
+            let gone : map.get n q ≡ None = got q ∙ ap (λ b. cond b (map.get d q) None) e in
+            let dead = dead_there n q gone in
+            absurd (cc)
+      ] refl;
+    }
+
+-- the entries without that of one id
+module _ (es fs : List (ObjId × Object)) (d : Doc) (id : ObjId) (sorted : T (map.is_sorted id_cmp es)) (view : map.from_sorted es ≡ d) (kept : fs ≡ where_key id_cmp (is_other id_cmp id) es) where
+  pub removed_sorted : T (map.is_sorted id_cmp fs)
+  removed_sorted = kept_sorted id_cmp (is_other id_cmp id) es fs sorted kept
+
+  pub removed_doc : map.from_sorted fs ≡ map.remove d id
+  removed_doc = removed_is ids_total exact_ids es fs d id sorted view kept
+
+  pub removed_document : id ≢ root → IsDocument d → IsDocument (map.from_sorted {R = id_cmp} fs)
+  removed_document ne h = subst IsDocument (sym removed_doc) (document_kept (is_other id_cmp id) d (map.remove d id) (get_removed ids_total exact_ids d id) (ap not (differ root id (λ e. ne (sym e)))) h)
+
+-- the entries without those of some ids
+abbrev pub stays : List ObjId → ObjId → Bool
+stays ids q = not (list_any (same_id q) ids)
+
+module _ (es fs : List (ObjId × Object)) (d : Doc) (ids : List ObjId) (sorted : T (map.is_sorted id_cmp es)) (view : map.from_sorted es ≡ d) (kept : fs ≡ where_key id_cmp (stays ids) es) where
+  get_without : (q : ObjId) → map.get (without d ids) q ≡ cond (stays ids q) (map.get d q) None
+  get_without q = map.get-retain_keys d (stays ids) q (λ x tied. ap (stays ids) (sym (exact_ids q x tied)))
+
+  root_stays : (Contains ids root → ⊥) → stays ids root ≡ true
+  root_stays absent = elim (list_any (same_id root) ids) as (λ b. list_any (same_id root) ids ≡ b → not b ≡ true) [
+    | true ↦ λ e. absurd (absent (Contains-from_any same_exact root ids e))
+    | false ↦ λ e. refl
+  ] refl
+
+  pub without_sorted : T (map.is_sorted id_cmp fs)
+  without_sorted = kept_sorted id_cmp (stays ids) es fs sorted kept
+
+  pub without_is : map.from_sorted fs ≡ without d ids
+  without_is = kept_is ids_total exact_ids (stays ids) es fs d (without d ids) sorted kept view get_without
+
+  pub without_document : (Contains ids root → ⊥) → IsDocument d → IsDocument (map.from_sorted {R = id_cmp} fs)
+  without_document absent h = subst IsDocument (sym without_is) (document_kept (stays ids) d (without d ids) get_without (root_stays absent) h)
+
+-- the entries of which one has another object
+module _ (f : Object → Object) (es fs : List (ObjId × Object)) (d : Doc) (id : ObjId) (i : ℕ) (e : ObjId × Object) (o : Object) (sorted : T (map.is_sorted id_cmp es)) (view : map.from_sorted es ≡ d) (same : fs ≡ es) (found : IsEntryAt id_cmp fs id i) (is : e ≡ get_or es i e) (changed : o ≡ f e.1) where
+  found_in : IsEntryAt id_cmp es id i
+  found_in = subst (λ es. IsEntryAt id_cmp es id i) same found
+
+  changed_entries : slice_set es i (e.0, o) ≡ map.put id_cmp id (f e.1) es
+  changed_entries =
+      ap (λ o. slice_set es i (e.0, o)) changed
+      ∙ ap (λ (x : ObjId × Object). slice_set es i (x.0, f e.1)) is
+      ∙ set_puts ids_total es sorted id i found_in.in_range found_in.tied e (f e.1)
+
+  there : map.get d id ≡ Some e.1
+  there = get_is es d id sorted view ∙ found_in.found e ∙ ap (λ (x : ObjId × Object). Some x.1) (sym is)
+
+  inserted : map.from_sorted (slice_set es i (e.0, o)) ≡ map.insert d id (f e.1)
+  inserted = put_inserts ids_total es _ d id (f e.1) sorted view changed_entries
+
+  pub changed_sorted : T (map.is_sorted id_cmp (slice_set es i (e.0, o)))
+  changed_sorted = put_sorted ids_total es _ id (f e.1) sorted changed_entries
+
+  pub changed_is : map.from_sorted (slice_set es i (e.0, o)) ≡ revise d id (option_map f (map.get d id))
+  changed_is = inserted ∙ sym (ap (λ x. revise d id (option_map f x)) there)
+
+  -- it stands somewhere, and isn't the root
+  pub moved_document : (place : Place) → (f e.1).place ≡ Some place → id ≢ root → IsDocument d → IsDocument (map.from_sorted {R = id_cmp} (slice_set es i (e.0, o)))
+  moved_document place stands ne h = subst IsDocument (sym inserted) (document_put d id (f e.1) place stands (λ e. ne (sym e)) h)
+
+  -- its kind and its place are as before
+  pub set_document : (f e.1).kind ≡ e.1.kind → (f e.1).place ≡ e.1.place → IsDocument d → IsDocument (map.from_sorted {R = id_cmp} (slice_set es i (e.0, o)))
+  set_document kind place h = subst IsDocument (sym inserted) (document_set d id e.1 (f e.1) there kind place h)
+
+-- the entries of which one was written back as it was
+pub written_back : (es : List (ObjId × Object)) (i : ℕ) (e : ObjId × Object) (o : Object) → e ≡ get_or es i e → o ≡ e.1 → slice_set es i (e.0, o) ≡ es
+written_back es i e o is same = ap (λ o. slice_set es i (e.0, o)) same ∙ ap (slice_set es i) is ∙ set-get_or es i e
+
+-- a change of what isn't there changes nothing
+pub not_changed : (f : Object → Object) (es fs : List (ObjId × Object)) (d : Doc) (id : ObjId) (i : ℕ) → T (map.is_sorted id_cmp es) → map.from_sorted es ≡ d → fs ≡ es → IsGapAt id_cmp fs id i → d ≡ revise d id (option_map f (map.get d id))
+not_changed f es fs d id i sorted view same gap =
+    let none : map.get d id ≡ None = get_is es d id sorted view ∙ ap (map.find id_cmp id) (sym same) ∙ gap.absent in
+    nothing_removed ids_total exact_ids d id none ∙ sym (ap (λ x. revise d id (option_map f x)) none)

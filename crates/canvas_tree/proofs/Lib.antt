@@ -1,0 +1,12 @@
+pub mod Members
+pub mod Ordered
+pub mod Climbs
+pub mod Rows
+pub mod One
+pub mod Some
+pub mod Stands
+pub mod Once
+pub mod Ways
+pub mod Reading
+pub mod Grown
+pub mod Lines

@@ -1,0 +1,7 @@
+pub mod Shapes
+pub mod Stored
+pub mod Trees
+pub mod Chains
+pub mod Reads
+pub mod Texts
+pub mod Laws

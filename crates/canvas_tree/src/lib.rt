@@ -1,0 +1,12 @@
+//! Page trees: what a document shows, as a tree under any allocator.
+#![tactic(auto)]
+
+mod growing;
+mod laws;
+mod props;
+mod texts;
+mod tree;
+
+pub use growing::grow;
+pub use laws::{one_tree, reads_tree, stands_in_tree};
+pub use tree::Tree;

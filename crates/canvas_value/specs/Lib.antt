@@ -1,0 +1,13 @@
+pub mod Sizes
+pub mod Seen
+pub mod Falls
+pub mod Names
+pub mod NameErrors
+pub mod Shape
+pub mod Codec
+pub mod Parts
+pub mod ReadList
+pub mod Json
+pub mod Faults
+pub mod Text
+pub mod Laws

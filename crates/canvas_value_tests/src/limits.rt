@@ -1,0 +1,82 @@
+//! What names and depths are refused.
+use canvas_value::{Name, NameError, TooDeep, Value, ValueNode};
+use std::alloc::{AllocError, Global};
+use std::cmp::Ordering;
+use std::test::Fail;
+
+// An empty list in lists, so many lists in all.
+fn nested(alloc: Global, lists: u32) -> Result<Value, AllocError> {
+    let mut value = Value::list(Vec::new(alloc));
+    for _ in 1..lists {
+        let mut items = Vec::new(alloc);
+        items.push(value)?;
+        value = Value::list(items);
+    }
+    Ok(value)
+}
+
+// The depth of a value of so many lists, and whether it passes.
+fn judged(alloc: Global, lists: u32) -> Result<(u32, Result<(), TooDeep>), AllocError> {
+    let value = nested(alloc, lists)?;
+    Ok((value.depth(), value.check()))
+}
+
+#[test]
+fn depths(rt: HostRuntime) -> Result<(), Fail> {
+    assert_eq!(rt; judged(rt.alloc(), 1)?, (1, Ok(())));
+    assert_eq!(rt; judged(rt.alloc(), 16)?, (16, Ok(())));
+    assert_eq!(rt; judged(rt.alloc(), 17)?, (17, Err(TooDeep)));
+    assert_eq!(rt; depth_of_truth(), 0);
+    Ok(())
+}
+
+fn depth_of_truth() -> u32 {
+    Value::<Global>::truth(false).depth()
+}
+
+// The number at the top of a colour, none at the top of a value of another kind.
+fn colour_at(value: &Value) -> Option<u32> {
+    match value.node() {
+        ValueNode::Colour(c) => Some(*c),
+        _ => None,
+    }
+}
+
+fn colour_back(c: u32) -> Option<u32> {
+    colour_at(&Value::colour(c))
+}
+
+#[test]
+fn nodes(rt: HostRuntime) -> Result<(), Fail> {
+    assert_eq!(rt; colour_back(7), Some(7));
+    Ok(())
+}
+
+fn fault_of(alloc: Global, bytes: &[u8]) -> Option<NameError> {
+    Name::read(alloc, bytes).err()
+}
+
+#[test]
+fn names(rt: HostRuntime) -> Result<(), Fail> {
+    let long = vec![in rt.alloc(); b'a'; 33]?;
+    assert_eq!(rt; fault_of(rt.alloc(), b""), Some(NameError::Empty));
+    assert_eq!(rt; fault_of(rt.alloc(), &long), Some(NameError::TooLong));
+    assert_eq!(rt; fault_of(rt.alloc(), &long[1..]), None);
+    for byte in [b'X', b' ', b'-', b'`', b'{', b'/', b':', 195] {
+        assert_eq!(rt;
+            fault_of(rt.alloc(), &[b'a', byte]),
+            Some(NameError::BadByte),
+            "at {byte}"
+        );
+    }
+    Ok(())
+}
+
+#[test]
+fn order(rt: HostRuntime) -> Result<(), Fail> {
+    let one = Name::read(rt.alloc(), b"a_")?;
+    let other = Name::read(rt.alloc(), b"aa")?;
+    assert_eq!(rt; one.cmp(&other), Ordering::Less);
+    assert!(rt; one != other);
+    Ok(())
+}
