@@ -1,6 +1,6 @@
 -- The order of ids, and what maps by it answer.
 use Rattle.std.proofs.Common.{◌≡◌, refl, ap, sym, ◌∙◌}
-use Rattle.std.specs.Prelude.{Bool, true, false, cond, not, Option, Some, None, List}
+use Rattle.std.specs.Prelude.{is_some, Bool, true, false, cond, not, Option, Some, None, List}
 use Rattle.std.specs.Ordering.{nat_cmp, is_eq, ordering_then}
 use Rattle.std.specs.declared.cmp.Ordering.{Ordering}
 use Rattle.std.specs.declared.cmp.Ordering.TheVariants.{Less, Equal, Greater}
@@ -10,7 +10,7 @@ use Rattle.std.specs.FinMap as map
 use Rattle.std.specs.List.{list_any}
 use Rattle.canvas_model.specs.declared.ObjId.{ObjId}
 use Rattle.canvas_model.specs.Ids.{id_cmp, same_id}
-use Rattle.canvas_model.specs.Document.{Object, Doc, revise, without}
+use Rattle.canvas_model.specs.Document.{Object, Doc, live, revise, without}
 
 pub id_total : IsTotalOrder id_cmp
 id_total = then_total (on_total (λ i. i.client) nat_cmp_total) (on_total (λ i. i.counter) nat_cmp_total)
@@ -23,7 +23,7 @@ id_apart x y e = go (nat_cmp x.client y.client) refl e
     go Equal p q = let a = nat_cmp-IsAntisymmetric x.client y.client p in let b = nat_cmp-IsAntisymmetric x.counter y.counter q in λ i. record { client = a i; counter = b i }
     go Greater p q = absurd (cc)
 
-equal_of : (r : Ordering) → is_eq r ≡ true → r ≡ Equal
+pub equal_of : (r : Ordering) → is_eq r ≡ true → r ≡ Equal
 equal_of Less e = absurd (cc)
 equal_of Equal e = refl
 equal_of Greater e = absurd (cc)
@@ -53,3 +53,11 @@ id_dec x y = go (same_id x y) refl
     go : (b : Bool) → same_id x y ≡ b → Dec (x ≡ y)
     go true e = yes (same_id_true x y e)
     go false e = no (λ p. let a : same_id x y ≡ true = ap (λ z. same_id x z) (sym p) ∙ id_itself x in cc)
+
+-- nothing stands where nothing is live
+pub dead_none : (d : Doc) (id : ObjId) → live d id ≡ false → map.get d id ≡ None
+dead_none d id h = go (map.get d id) h
+  where
+    go : (x : Option Object) → is_some x ≡ false → x ≡ None
+    go None e = refl
+    go (Some o) e = absurd (cc)

@@ -1,5 +1,5 @@
 -- The opening state is sound, and the empty world good.
-use Rattle.std.proofs.Common.{◌≡◌, ◌⊎◌, ℕ, zero, suc, refl, ap, sym, ◌∙◌, subst, arith}
+use Rattle.std.proofs.Common.{◌≡◌, ◌⊎◌, refl, ap, sym, ◌∙◌, subst, arith}
 use mathlib.Core.Logic.{inl, inr}
 use Rattle.std.specs.Prelude.{Bool, true, false, cond, Some, None, is_some}
 use Rattle.std.specs.Option.{option_map, option_and_then}
@@ -13,6 +13,7 @@ use Rattle.canvas_model.specs.Chain.{Below, itself}
 use Rattle.canvas_model.specs.State.{opening, IsSound}
 use Rattle.canvas_model.specs.World.{empty}
 use Rattle.canvas_model.specs.Good.{IsGood}
+use Rattle.canvas_model.proofs.Lists.{nth-none}
 use Rattle.canvas_model.proofs.Ids.{id_total, same_id_true, id_itself}
 
 pub get-blank : (q : ObjId) → map.get blank q ≡ cond (same_id q root) (Some (new_object Document None)) None
@@ -32,7 +33,7 @@ no_place q = go (blank_at q)
     go (inl h) = ap (λ x. option_and_then (λ (o : Object). o.place) x) h.1
     go (inr h) = ap (λ x. option_and_then (λ (o : Object). o.place) x) h
 
-only_root : (q : ObjId) → live blank q ≡ true → q ≡ root
+pub only_root : (q : ObjId) → live blank q ≡ true → q ≡ root
 only_root q h = go (blank_at q)
   where
     go : ((q ≡ root) × (map.get blank q ≡ Some (new_object Document None))) ⊎ (map.get blank q ≡ None) → q ≡ root
@@ -55,19 +56,7 @@ empty_good = record {
   askers = refl;
   legal = record { fits = tt; short = omega arith };
   sound = opening_sound;
-  nodes = λ k n is. absurd (none_at k n is);
-  letters = λ m letter is. absurd (no_letter m letter is);
-  owned = λ v e change is what. absurd (no_entry v e is);
+  nodes = λ k n is. absurd (nth-none k n is);
+  letters = λ m letter is. absurd (nth-none m letter is);
+  owned = λ v e change is what. absurd (nth-none v e is);
 }
-  where
-    none_at : (k : ℕ) (n : Rattle.canvas_model.specs.World.Node) → Rattle.canvas_model.specs.World.node empty k ≡ Some n → ⊥
-    none_at zero n e = absurd (cc)
-    none_at (suc k) n e = absurd (cc)
-
-    no_letter : (k : ℕ) (n : Rattle.canvas_model.specs.World.Letter) → Rattle.canvas_model.specs.Client.nth empty.letters k ≡ Some n → ⊥
-    no_letter zero n e = absurd (cc)
-    no_letter (suc k) n e = absurd (cc)
-
-    no_entry : (k : ℕ) (n : Rattle.canvas_model.specs.Log.Entry) → Rattle.canvas_model.specs.Client.nth empty.log k ≡ Some n → ⊥
-    no_entry zero n e = absurd (cc)
-    no_entry (suc k) n e = absurd (cc)

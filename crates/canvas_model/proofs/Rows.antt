@@ -8,8 +8,6 @@ use Rattle.std.specs.Cmp.{tied_itself}
 use Rattle.std.specs.Cmp.Lexicographic.{nat_list_cmp_total}
 use Rattle.std.specs.FinMap.{same_map, get-insert, get-remove, slice_cmp-IsAntisymmetric, nat_cmp-IsAntisymmetric}
 use Rattle.std.specs.FinMap as map
-use Rattle.std.specs.declared.cmp.Ordering.{Ordering}
-use Rattle.std.specs.declared.cmp.Ordering.TheVariants.{Less, Equal, Greater}
 use Rattle.canvas_model.specs.Value.{Value}
 use Rattle.canvas_model.specs.declared.ObjId.{ObjId}
 use Rattle.canvas_model.specs.Ids.{root, same_id}
@@ -17,28 +15,25 @@ use Rattle.canvas_model.specs.Document.{Place, Name, name_cmp, Object, new_objec
 use Rattle.canvas_model.specs.Change.{Change, Create, Set, Move, Delete}
 use Rattle.canvas_model.specs.Overlay.{laid, is_idle}
 use Rattle.canvas_model.specs.View.{same_name, creates_it, sets_it, moves_it, deletes_it, is_about}
+use Rattle.std.proofs.lemmas.Bool.{or_parts}
+use Rattle.canvas_model.proofs.Ids.{equal_of}
 use Rattle.canvas_model.proofs.Overlay.{lay_at, over_at}
 
 -- the rows of one object's properties
-prop_of : (o : Object) (name : Name) (value : Option Value) (q : Name) → map.get (with_prop name value o).props q ≡ cond (same_name q name) value (map.get o.props q)
+pub prop_of : (o : Object) (name : Name) (value : Option Value) (q : Name) → map.get (with_prop name value o).props q ≡ cond (same_name q name) value (map.get o.props q)
 prop_of o name None q = get-remove nat_list_cmp_total o.props name q
 prop_of o name (Some v) q = get-insert nat_list_cmp_total o.props name v q
 
 same_object : (o p : Object) → o.kind ≡ p.kind → o.place ≡ p.place → ((q : Name) → map.get o.props q ≡ map.get p.props q) → o ≡ p
 same_object o p k l m = let e = same_map nat_list_cmp_total (slice_cmp-IsAntisymmetric nat_cmp-IsAntisymmetric) o.props p.props m in λ i. record { kind = k i; place = l i; props = e i }
 
-kind_kept : (name : Name) (value : Option Value) (o : Object) → (with_prop name value o).kind ≡ o.kind
+pub kind_kept : (name : Name) (value : Option Value) (o : Object) → (with_prop name value o).kind ≡ o.kind
 kind_kept name None o = refl
 kind_kept name (Some v) o = refl
 
-place_kept : (name : Name) (value : Option Value) (o : Object) → (with_prop name value o).place ≡ o.place
+pub place_kept : (name : Name) (value : Option Value) (o : Object) → (with_prop name value o).place ≡ o.place
 place_kept name None o = refl
 place_kept name (Some v) o = refl
-
-equal_of : (r : Ordering) → is_eq r ≡ true → r ≡ Equal
-equal_of Less e = absurd (cc)
-equal_of Equal e = refl
-equal_of Greater e = absurd (cc)
 
 pub same_name_true : (x y : Name) → same_name x y ≡ true → x ≡ y
 same_name_true x y e = slice_cmp-IsAntisymmetric nat_cmp-IsAntisymmetric x y (equal_of (name_cmp x y) e)
@@ -84,16 +79,8 @@ both_ways false x = refl
 -- what isn't there stays away, unless it is created
 pub none_stays : (q : ObjId) (changes : List Change) → list_any (creates_it q) changes ≡ false → over_at q changes None ≡ None
 none_stays q [] h = refl
-none_stays q (change ∷ changes) h = ap (over_at q changes) (one change (or_first (creates_it q change) (list_any (creates_it q) changes) h)) ∙ none_stays q changes (or_second (creates_it q change) (list_any (creates_it q) changes) h)
+none_stays q (change ∷ changes) h = ap (over_at q changes) (one change (or_parts _ _ h).0) ∙ none_stays q changes (or_parts _ _ h).1
   where
-    or_first : (a b : Bool) → (a || b) ≡ false → a ≡ false
-    or_first true b h = absurd (cc)
-    or_first false b h = refl
-
-    or_second : (a b : Bool) → (a || b) ≡ false → b ≡ false
-    or_second true b h = absurd (cc)
-    or_second false b h = h
-
     one : (change : Change) → creates_it q change ≡ false → lay_at q change None ≡ None
     one (Create id kind place) h = ap (cond (same_id id root) None) (ap (λ b. cond b (Some (new_object kind (Some place))) None) h) ∙ both_ways (same_id id root) None
     one (Set id name value) h = both_ways (same_id q id) None
@@ -106,16 +93,8 @@ module _ (q : ObjId) (f : Object → Object) (writes : Change → Bool)
   where
     pub row_over : (changes : List Change) → list_any (creates_it q) changes ≡ false → (x : Option Object) → over_at q changes (option_map f x) ≡ cond (list_any writes changes) (over_at q changes x) (option_map f (over_at q changes x))
     row_over [] h x = refl
-    row_over (change ∷ changes) h x = ap (over_at q changes) (step change (any_first (creates_it q change) (list_any (creates_it q) changes) h) x) ∙ go (writes change) (row_over changes (any_second (creates_it q change) (list_any (creates_it q) changes) h) (lay_at q change x))
+    row_over (change ∷ changes) h x = ap (over_at q changes) (step change (or_parts _ _ h).0 x) ∙ go (writes change) (row_over changes (or_parts _ _ h).1 (lay_at q change x))
       where
-        any_first : (a b : Bool) → (a || b) ≡ false → a ≡ false
-        any_first true b h = absurd (cc)
-        any_first false b h = refl
-
-        any_second : (a b : Bool) → (a || b) ≡ false → b ≡ false
-        any_second true b h = absurd (cc)
-        any_second false b h = h
-
         go : (b : Bool) → over_at q changes (option_map f (lay_at q change x)) ≡ cond (list_any writes changes) (over_at q changes (lay_at q change x)) (option_map f (over_at q changes (lay_at q change x)))
             → over_at q changes (cond b (lay_at q change x) (option_map f (lay_at q change x))) ≡ cond (b || list_any writes changes) (over_at q changes (lay_at q change x)) (option_map f (over_at q changes (lay_at q change x)))
         go true ih = refl
@@ -217,29 +196,13 @@ untouched_step q change x h = ap (cond (is_idle change) x) (ap (λ b. cond b (la
 
 pub untouched : (q : ObjId) (changes : List Change) (x : Option Object) → list_any (is_about q) changes ≡ false → over_at q changes x ≡ x
 untouched q [] x h = refl
-untouched q (change ∷ changes) x h = ap (over_at q changes) (untouched_step q change x (any_first (is_about q change) (list_any (is_about q) changes) h)) ∙ untouched q changes x (any_second (is_about q change) (list_any (is_about q) changes) h)
-  where
-    any_first : (a b : Bool) → (a || b) ≡ false → a ≡ false
-    any_first true b h = absurd (cc)
-    any_first false b h = refl
-
-    any_second : (a b : Bool) → (a || b) ≡ false → b ≡ false
-    any_second true b h = absurd (cc)
-    any_second false b h = h
+untouched q (change ∷ changes) x h = ap (over_at q changes) (untouched_step q change x (or_parts _ _ h).0) ∙ untouched q changes x (or_parts _ _ h).1
 
 -- and so none deletes or creates it
 pub untouched_writes : (q : ObjId) (changes : List Change) → list_any (is_about q) changes ≡ false → (list_any (deletes_it q) changes ≡ false) × (list_any (creates_it q) changes ≡ false)
 untouched_writes q [] h = (refl, refl)
-untouched_writes q (change ∷ changes) h = go change (untouched_writes q changes (any_second (is_about q change) (list_any (is_about q) changes) h)) (any_first (is_about q change) (list_any (is_about q) changes) h)
+untouched_writes q (change ∷ changes) h = go change (untouched_writes q changes (or_parts _ _ h).1) (or_parts _ _ h).0
   where
-    any_first : (a b : Bool) → (a || b) ≡ false → a ≡ false
-    any_first true b h = absurd (cc)
-    any_first false b h = refl
-
-    any_second : (a b : Bool) → (a || b) ≡ false → b ≡ false
-    any_second true b h = absurd (cc)
-    any_second false b h = h
-
     go : (change : Change) → (list_any (deletes_it q) changes ≡ false) × (list_any (creates_it q) changes ≡ false) → is_about q change ≡ false → ((deletes_it q change || list_any (deletes_it q) changes) ≡ false) × ((creates_it q change || list_any (creates_it q) changes) ≡ false)
     go (Create id kind place) r h = (r.0, ap (λ b. b || list_any (creates_it q) changes) h ∙ r.1)
     go (Set id name value) r h = r

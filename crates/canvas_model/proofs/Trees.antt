@@ -1,12 +1,22 @@
 -- Chains of parents.
-use Rattle.std.proofs.Common.{◌≡◌, refl, subst}
-use Rattle.std.specs.Prelude.{true, Some, None}
+use Rattle.std.proofs.Common.{◌≡◌, refl, ap, subst}
+use Rattle.std.specs.Prelude.{true, Option, Some, None, is_some}
+use Rattle.std.specs.Option.{option_and_then}
+use Rattle.std.specs.FinMap as map
 use Rattle.canvas_model.specs.declared.ObjId.{ObjId}
 use Rattle.canvas_model.specs.Ids.{root}
-use Rattle.canvas_model.specs.Document.{Doc, live, place_of, Place}
+use Rattle.canvas_model.specs.Document.{Doc, Object, live, place_of, Place}
 use Rattle.canvas_model.specs.Chain.{Below, itself, through, IsCycle}
 use Rattle.canvas_model.specs.State.{State, IsSound}
-use Rattle.canvas_model.proofs.Making.{below_live}
+
+-- what has a chain is live
+pub live_of_place : (d : Doc) (q : ObjId) (place : Place) (x : Option Object) → map.get d q ≡ x → place_of d q ≡ Some place → live d q ≡ true
+live_of_place d q place None e h = absurd (let a = ap (λ y. option_and_then (λ (o : Object). o.place) y) e in cc)
+live_of_place d q place (Some o) e h = ap is_some e
+
+pub below_live : {d : Doc} {q o : ObjId} → Below d q o → live d q ≡ true
+below_live (itself h) = h
+below_live {d} {q} (through place is up) = live_of_place d q place (map.get d q) refl is
 
 pub below_trans : {d : Doc} {q o r : ObjId} → Below d q o → Below d o r → Below d q r
 below_trans (itself h) b = b

@@ -112,6 +112,20 @@ CountersRise n = (i j : ℕ) (id other : ObjId) → i < j → IsCreation (nth n.
 abbrev pub TracksObjects : World → Type 0
 TracksObjects w = (k : ℕ) (n : Node) → node w k ≡ Some n → KnowsObjects w.log n × CountersRise n
 
+-- a node's waiting edits are its edits after the acknowledged ones
+abbrev pub WaitsForRest : World → Type 0
+WaitsForRest w = (k : ℕ) (n : Node) → node w k ≡ Some n → n.client.waiting ≡ unacknowledged n
+
+-- floor, published, synced and length don't fall below one another
+pub record InOrder (floor published synced length : ℕ) : Type 0 where
+  pub told : floor ≤ published
+  pub shown : published ≤ synced
+  pub kept : synced ≤ length
+
+-- the server's counts are in order
+abbrev pub HasCountsInOrder : World → Type 0
+HasCountsInOrder w = InOrder w.floor w.published w.synced (length w.log)
+
 -- all that is claimed of a world
 pub record HasClaims (w : World) : Type 0 where
   pub legal : HasLegalLog w
@@ -122,6 +136,8 @@ pub record HasClaims (w : World) : Type 0 where
   pub acknowledged : CountsAcknowledged w
   pub views : ShowsOverlays w
   pub objects : TracksObjects w
+  pub waiting : WaitsForRest w
+  pub counts : HasCountsInOrder w
 
 -- what holds of a node with the id c
 pub record IsMember (log : List Entry) (askers : List ℕ) (published k c : ℕ) (n : Node) : Type 0 where
@@ -154,15 +170,9 @@ pub record IsGoodNode (log : List Entry) (askers : List ℕ) (published k : ℕ)
   pub reached : n.client.version ≤ published
   pub member : IsNodeOf log askers published k n.client.id n
 
--- floor, published, synced and length don't fall below one another
-pub record InOrder (floor published synced length : ℕ) : Type 0 where
-  pub told : floor ≤ published
-  pub shown : published ≤ synced
-  pub kept : synced ≤ length
-
 -- the good world: every event keeps it good
 pub record IsGood (w : World) : Type 0 where
-  pub counts : InOrder w.floor w.published w.synced (length w.log)
+  pub counts : HasCountsInOrder w
   pub askers : length w.askers ≡ length w.log
   pub legal : IsLegal opening w.log
   pub sound : IsSound (state w)

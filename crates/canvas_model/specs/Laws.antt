@@ -1,12 +1,12 @@
 -- The laws of the model. Each is the contract of a function of empty body.
-use Rattle.std.specs.Prelude.{◌≡◌, ◌≢◌, ℕ, ◌+◌, ◌≤◌, ◌<◌, true, List, [], length, Some}
+use Rattle.std.specs.Prelude.{◌≡◌, ◌≢◌, ℕ, ◌+◌, ◌≤◌, ◌<◌, true, List, [], length, take, Some, IsTrue}
 use Rattle.canvas_model.specs.declared.ObjId.{ObjId}
 use Rattle.canvas_model.specs.Document.{Doc, live}
 use Rattle.canvas_model.specs.Chain.{IsCycle}
 use Rattle.canvas_model.specs.Change.{Change}
 use Rattle.canvas_model.specs.Overlay.{over}
-use Rattle.canvas_model.specs.State.{State, IsSound, done}
-use Rattle.canvas_model.specs.Log.{Entry, Fits, effect, at_version}
+use Rattle.canvas_model.specs.State.{State, opening, IsSound, joined, done}
+use Rattle.canvas_model.specs.Log.{Entry, Fits, IsLegal, effect, at_version}
 use Rattle.canvas_model.specs.Client.{Client, nth}
 use Rattle.canvas_model.specs.Local.{EditRequest, Makes, edited}
 use Rattle.canvas_model.specs.Receive.{Message, Welcome, Tells, Copies, Received, Took, is_own, IsEdit, Receives, after_entry, after_copy}
@@ -17,6 +17,14 @@ use Rattle.canvas_model.specs.Good.{HoldsId, unacknowledged, IsTrueOf, IsGood}
 -- a verdict keeps a state sound
 abbrev pub EachVerdictIsSound : Type 0
 EachVerdictIsSound = (s : State) (e : Entry) → IsSound s → Fits s e → IsSound (effect s e)
+
+-- the state at each version of a legal log is sound
+abbrev pub EachVersionIsSound : Type 0
+EachVersionIsSound = (log : List Entry) → IsLegal opening log → (v : ℕ) → IsSound (at_version log v)
+
+-- at each version of a legal log, no client has more judged edits than there are entries
+abbrev pub EachDoneIsWithin : Type 0
+EachDoneIsWithin = (log : List Entry) → IsLegal opening log → (v c : ℕ) → done (at_version log v) c ≤ v
 
 -- For every document on which the client stands: when it takes an entry that is a verdict of a sound state with that document,
 -- it stands on the document after the entry.
@@ -53,6 +61,16 @@ InEachGoodWorld P = (w : World) → IsGood w → P w
 abbrev pub AfterEachStep : (World → Type 0) → Type 0
 AfterEachStep P = (old : World) (event : Event) (answer : Answer) (new : World) → IsGood old → Step old event answer new → P new
 
+-- no event takes or changes a synced entry
+abbrev pub EachStepKeepsSynced : Type 0
+EachStepKeepsSynced = (old : World) (event : Event) (answer : Answer) (new : World) → IsGood old → Step old event answer new
+    → take old.synced new.log ≡ take old.synced old.log
+
+-- nor a published one, and what is published stays so
+abbrev pub EachStepKeepsPublished : Type 0
+EachStepKeepsPublished = (old : World) (event : Event) (answer : Answer) (new : World) → IsGood old → Step old event answer new
+    → (take old.published new.log ≡ take old.published old.log) × (old.published ≤ new.published)
+
 -- P holds after every list of events
 abbrev pub AfterEachRun : (World → Type 0) → Type 0
 AfterEachRun P = (events : List Event) (w : World) → Run empty events w → P w
@@ -81,6 +99,14 @@ NodesTakeTruth w = (k c : ℕ) (n : Node) → HoldsId w.nodes k c n
     → ((e : Entry) → IsTrueOf w k (Tells (n.client.version + 1) e) → Receives n.client (Tells (n.client.version + 1) e) Took (after_entry (is_own c e) n.client (n.client.version + 1) e))
     × ((v d : ℕ) (copy : Doc) → IsTrueOf w k (Copies v d copy) → n.client.version < v → Receives n.client (Copies v d copy) Took (after_copy n.client v d copy))
 
+-- each entry of the log is a verdict of some sound state
+abbrev pub EntriesAreVerdicts : World → Type 0
+EntriesAreVerdicts w = (v : ℕ) (e : Entry) → nth w.log v ≡ Some e → (s : State) × IsSound s × HasVerdict s e
+
+-- each id that a node holds has joined
+abbrev pub HoldersJoined : World → Type 0
+HoldersJoined w = (k c : ℕ) (n : Node) → HoldsId w.nodes k c n → IsTrue (joined (state w) c)
+
 -- two nodes at one version with nothing unacknowledged show equal documents
 abbrev pub NodesAgree : World → Type 0
 NodesAgree w = (k j : ℕ) (n m : Node) → node w k ≡ Some n → node w j ≡ Some m → n.client.version ≡ m.client.version → unacknowledged n ≡ [] → unacknowledged m ≡ [] → n.client.view ≡ m.client.view
@@ -93,6 +119,7 @@ HasNoCycle w = (q : ObjId) → IsCycle (state w).doc q → ⊥
 pub record StandsOnce (w : World) (c : ℕ) (n : Node) (i v : ℕ) : Type 0 where
   pub entry : Entry
   pub published : v ≤ w.published
+  pub reached : v ≤ n.client.version
   pub stands : nth w.log v ≡ Some entry
   pub author : entry.author ≡ c
   pub number : entry.seq ≡ i

@@ -4,7 +4,6 @@ pub mod Order
 pub mod Ids
 pub mod Value
 pub mod Document
-pub mod Text
 pub mod Chain
 pub mod Sibling
 pub mod Children
@@ -12,6 +11,8 @@ pub mod Change
 pub mod Overlay
 pub mod State
 pub mod Verdict
+pub mod Words
+pub mod Text
 pub mod Log
 pub mod Client
 pub mod Local
@@ -21,5 +22,6 @@ pub mod Standing
 pub mod World
 pub mod Good
 pub mod Laws
+pub mod Storable
 pub mod Example
 pub mod Codes
