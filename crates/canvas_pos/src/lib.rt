@@ -1,15 +1,20 @@
-//! The positions of an object's children: fractions strictly between 0 and 1, and the fraction half way between two of them.
+//! The positions of an object's children: fractions strictly between 0 and 1, and the fraction half
+//! way between two of them.
 //!
-//! A position is the digits of its fraction in base 95, after the point: the bytes from space to `~` stand for 0 to 94. It doesn't end in a 0, so a
-//! fraction has one spelling, and the order of the bytes is the order of the fractions. The article "Realtime editing of ordered sequences" (2017)
-//! publishes this order, with fractions of any length in base 95; here a position has at most 128 bytes.
+//! A position is the digits of its fraction in base 95, after the point: the bytes from space to
+//! `~` stand for 0 to 94. It doesn't end in a 0, so a fraction has one spelling, and the order of
+//! the bytes is the order of the fractions. The article "Realtime editing of ordered sequences"
+//! (2017) publishes this order, with fractions of any length in base 95; here a position has at
+//! most 128 bytes.
 #![tactic(auto)]
 
-ghost use Rattle.std.specs.Prelude.{◌≡◌, ◌↔◌, ℕ, ◌+◌, ◌*◌, ◌<◌, ◌≤◌, length, nat_eq, refl, All, IfOk, IfErr, IfSome, IfNone, IsTrue, Some};
+ghost use Rattle.std.specs.Prelude.{◌≡◌, ◌↔◌, ℕ, ◌+◌, ◌*◌, ◌<◌, ◌≤◌, length, nat_eq, refl, All};
+ghost use Rattle.std.specs.Prelude.{IfOk, IfErr, IfSome, IfNone, IsTrue, Some};
 ghost use Rattle.std.specs.Option.{option_copied};
 ghost use Rattle.std.specs.Ordering.{nat_cmp};
 ghost use Rattle.std.specs.Cmp.{partial_equiv_from_equiv};
-ghost use Rattle.std.specs.Cmp.Lexicographic.{pointwise, slice_cmp, nat_list_eq_equiv, nat_list_cmp_total, texts_po, texts_ties};
+ghost use Rattle.std.specs.Cmp.Lexicographic.{pointwise, slice_cmp, nat_list_eq_equiv};
+ghost use Rattle.std.specs.Cmp.Lexicographic.{nat_list_cmp_total, texts_po, texts_ties};
 ghost use Rattle.std.specs.Cmp.Rules.{hashing};
 ghost use Rattle.std.specs.Fmt.{debug_str};
 ghost use Rattle.std.specs.Hash as fed;
@@ -20,8 +25,10 @@ ghost use Rattle.canvas_model.specs.Order.{AreApart, FitsBetween};
 ghost use Rattle.canvas_pos.specs.Ends.{IsEnd, floor, ceiling, Opens};
 ghost use Rattle.canvas_pos.specs.Fault.{IsFault};
 ghost use Rattle.canvas_pos.specs.Laws.{ComparesAsFractions, IsOnlyMiddle, NoneFits};
-ghost use Rattle.canvas_pos.specs.Laws.{BytesCompareAsFractions, BeforeIffSmaller, ApartIffInOrder, FitsIffInside, SmallerIsTransitive};
-ghost use Rattle.canvas_pos.specs.Laws.{EachMiddleIsPosition, EachMiddleIsInside, EachMiddleIsOnly, EachMiddleIsShort, ShutEndsHoldNone, MiddleOfAll};
+ghost use Rattle.canvas_pos.specs.Laws.{BytesCompareAsFractions, BeforeIffSmaller, ApartIffInOrder};
+ghost use Rattle.canvas_pos.specs.Laws.{FitsIffInside, SmallerIsTransitive, EachMiddleIsPosition};
+ghost use Rattle.canvas_pos.specs.Laws.{EachMiddleIsInside, EachMiddleIsOnly, EachMiddleIsShort};
+ghost use Rattle.canvas_pos.specs.Laws.{ShutEndsHoldNone, MiddleOfAll};
 
 use std::alloc::{AllocError, Allocator, Global};
 use std::cmp::Ordering;
@@ -76,8 +83,10 @@ impl<A: Allocator> Model for Pos<A> {
 impl<A: Allocator> Pos<A> {
     /// Reads a position, as a copy of the bytes.
     ///
-    /// It accepts exactly the positions: 1 to 128 bytes from space to `~`, the last of which isn't a space. Of anything else it gives the first
-    /// of `Empty`, `TooLong`, `BadByte` and `TrailingZero` that holds. `Memory` comes only where the bytes are a position and memory was refused.
+    /// It accepts exactly the positions: 1 to 128 bytes from space to `~`, the last of which isn't
+    /// a space. Of anything else it gives the first of `Empty`, `TooLong`, `BadByte` and
+    /// `TrailingZero` that holds. `Memory` comes only where the bytes are a position and memory was
+    /// refused.
     pub fn read(alloc: A, bytes: &[u8]) -> Result<Pos<A>, PosError>
         ensures ok { IfOk result (λ p. p ≡ bytes.now) }
         ensures position { IfOk result IsPosition }
@@ -131,6 +140,21 @@ impl<A: Allocator> Pos<A> {
         let bytes = Vec::from_slice(alloc, self.bytes())?;
         Ok(Pos { bytes })
     }
+
+    /// Whether two positions are the same, whichever allocators hold them. It takes no memory.
+    pub fn same<B: Allocator>(&self, other: &Pos<B>) -> bool
+        ensures { IsTrue result ↔ (self.now ≡ other.now) }
+    {
+        self.bytes() == other.bytes()
+    }
+
+    /// The order of two positions, whichever allocators hold them. It takes no memory.
+    pub fn compare<B: Allocator>(&self, other: &Pos<B>) -> Ordering
+        ensures value { result ≡ slice_cmp nat_cmp self.now other.now }
+        ensures order { ComparesAsFractions result self.now other.now }
+    {
+        self.bytes().cmp(other.bytes())
+    }
 }
 
 impl<A: Allocator> PartialEq for Pos<A> {
@@ -142,7 +166,7 @@ impl<A: Allocator> PartialEq for Pos<A> {
         ensures value { result ≡ pointwise nat_eq self.now other.now }
         ensures same { IsTrue result ↔ (self.now ≡ other.now) }
     {
-        self.bytes() == other.bytes()
+        self.same(other)
     }
 }
 
@@ -173,7 +197,7 @@ impl<A: Allocator> Ord for Pos<A> {
         ensures value { result ≡ slice_cmp nat_cmp self.now other.now }
         ensures order { ComparesAsFractions result self.now other.now }
     {
-        self.bytes().cmp(other.bytes())
+        self.compare(other)
     }
 }
 
@@ -205,8 +229,8 @@ impl<A: Allocator> fmt::Debug for Pos<A> {
     }
 }
 
-/// The laws of the order: bytes decide it as the fractions do, for positions and for ends that may be missing. It does nothing when it runs: call it
-/// where a proof needs the laws.
+/// The laws of the order: bytes decide it as the fractions do, for positions and for ends that may
+/// be missing. It does nothing when it runs: call it where a proof needs the laws.
 pub fn byte_order()
     ensures compare { BytesCompareAsFractions }
     ensures less { BeforeIffSmaller }
@@ -215,8 +239,9 @@ pub fn byte_order()
     ensures transitive { SmallerIsTransitive }
 {}
 
-/// The laws of the middle between two ends: it is a position strictly between them, the only middle, and at most one byte longer than the longer
-/// end; and where there is none, no position is strictly between them. It does nothing when it runs: call it where a proof needs the laws.
+/// The laws of the middle between two ends: it is a position strictly between them, the only
+/// middle, and at most one byte longer than the longer end; and where there is none, no position is
+/// strictly between them. It does nothing when it runs: call it where a proof needs the laws.
 pub fn every_middle()
     ensures position { EachMiddleIsPosition }
     ensures inside { EachMiddleIsInside }
@@ -226,13 +251,15 @@ pub fn every_middle()
     ensures alone { MiddleOfAll }
 {}
 
-/// The position half way between two ends, where a missing lower end is 0 and a missing upper end is 1. The lower end has to be below the upper.
+/// The position half way between two ends, where a missing lower end is 0 and a missing upper end
+/// is 1. The lower end has to be smaller than the upper.
 ///
-/// Of the fractions between the ends that have the fewest digits, it is half way between the least and the greatest, rounded down. So it is at most
-/// one byte longer than the longer end. It is `None` only where no position lies between the ends, since a position has at most 128 bytes.
+/// Of the fractions between the ends that have the fewest digits, it is half way between the least
+/// and the greatest, rounded down. So it is at most one byte longer than the longer end. It is
+/// `None` only where no position lies between the ends, since a position has at most 128 bytes.
 ///
-/// The time is linear in the longer end. Memory is asked for once, for the answer, and not at all where that is `None`; the error is that it was
-/// refused.
+/// The time is linear in the longer end. Memory is asked for once, for the answer, and not at all
+/// where that is `None`; the error is that it was refused.
 pub fn between<A: Allocator, B: Allocator, C: Allocator>(
     alloc: A,
     lo: Option<&Pos<B>>,
@@ -240,9 +267,12 @@ pub fn between<A: Allocator, B: Allocator, C: Allocator>(
 ) -> Result<Option<Pos<A>>, AllocError>
     requires { AreApart (option_copied lo) (option_copied hi) }
     ensures middle { IfOk result (Middle (option_copied lo.entry) (option_copied hi.entry)) }
-    ensures only { IfOk result (λ r. IfSome r (IsOnlyMiddle (option_copied lo.entry) (option_copied hi.entry))) }
-    ensures fits { IfOk result (λ r. IfSome r (FitsBetween (option_copied lo.entry) (option_copied hi.entry))) }
-    ensures none { IfOk result (λ r. IfNone r (NoneFits (option_copied lo.entry) (option_copied hi.entry))) }
+    ensures only { IfOk result
+        (λ r. IfSome r (IsOnlyMiddle (option_copied lo.entry) (option_copied hi.entry))) }
+    ensures fits { IfOk result
+        (λ r. IfSome r (FitsBetween (option_copied lo.entry) (option_copied hi.entry))) }
+    ensures none { IfOk result
+        (λ r. IfNone r (NoneFits (option_copied lo.entry) (option_copied hi.entry))) }
 {
     let lo = bytes_of(lo);
     let hi = bytes_of(hi);
@@ -253,7 +283,8 @@ pub fn between<A: Allocator, B: Allocator, C: Allocator>(
     Ok(Some(middle))
 }
 
-// Where something first lies between two ends: what is half way there is so many of the lower end's digits, and then one more.
+// Where something first lies between two ends: what is half way there is so many of the lower end's
+// digits, and then one more.
 #[derive(Clone, Copy)]
 struct Gap {
     before: usize,
@@ -279,8 +310,10 @@ fn first_gap(lo: Option<&[u8]>, hi: Option<&[u8]>) -> Option<Gap>
     requires low { IsEnd (option_copied lo) }
     requires high { IsEnd (option_copied hi) }
     requires order { AreInOrder (option_copied lo) (option_copied hi) }
-    ensures shut { IfNone result ((n : ℕ) → n ≤ 128 → IsShut (option_copied lo.entry) (option_copied hi.entry) n) }
-    ensures opens { IfSome result (λ gap. Opens (option_copied lo.entry) (option_copied hi.entry) gap.before gap.last) }
+    ensures shut { IfNone result
+        ((n : ℕ) → n ≤ 128 → IsShut (option_copied lo.entry) (option_copied hi.entry) n) }
+    ensures opens { IfSome result
+        (λ gap. Opens (option_copied lo.entry) (option_copied hi.entry) gap.before gap.last) }
 {
     for i in 0..MAX_LEN {
         let low = low_digit(lo, i);
@@ -298,7 +331,8 @@ fn first_gap(lo: Option<&[u8]>, hi: Option<&[u8]>) -> Option<Gap>
 // The digit of the lower end at an index.
 fn low_digit(lo: Option<&[u8]>, i: usize) -> u8
     requires { IsEnd (option_copied lo) }
-    ensures value { floor (option_copied lo.entry) (i + 1) ≡ 95 * floor (option_copied lo.entry) i + result }
+    ensures value { floor (option_copied lo.entry) (i + 1)
+        ≡ 95 * floor (option_copied lo.entry) i + result }
     ensures range { result < 95 }
 {
     match lo {
@@ -311,7 +345,8 @@ fn low_digit(lo: Option<&[u8]>, i: usize) -> u8
 fn high_digit(hi: Option<&[u8]>, i: usize) -> u8
     requires index { i < 128 }
     requires end { IsEnd (option_copied hi) }
-    ensures value { ceiling (option_copied hi.entry) (i + 1) + 95 ≡ 95 * ceiling (option_copied hi.entry) i + result }
+    ensures value { ceiling (option_copied hi.entry) (i + 1) + 95
+        ≡ 95 * ceiling (option_copied hi.entry) i + result }
     ensures range { result ≤ 95 }
 {
     match hi {
@@ -345,7 +380,8 @@ fn half_way<A: Allocator>(alloc: A, lo: Option<&[u8]>, gap: Gap) -> Result<Pos<A
     requires { IsEnd (option_copied lo) }
     ensures len { IfOk result (λ p. length p ≡ gap.before + 1) }
     ensures digits { IfOk result (All IsDigitByte) }
-    ensures value { IfOk result (λ p. num p (gap.before + 1) ≡ 95 * floor (option_copied lo.entry) gap.before + gap.last) }
+    ensures value { IfOk result (λ p. num p (gap.before + 1)
+        ≡ 95 * floor (option_copied lo.entry) gap.before + gap.last) }
 {
     let mut bytes = Vec::with_capacity(alloc, gap.before + 1)?;
     for i in 0..gap.before {

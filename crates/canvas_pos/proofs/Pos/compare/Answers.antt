@@ -2,7 +2,7 @@ use Rattle.std.proofs.Common.{◌≡◌, rules}
 use Rattle.std.specs.Ordering.{nat_cmp}
 use Rattle.std.specs.Cmp.Lexicographic.{slice_cmp}
 use Rattle.canvas_pos.proofs.Order.{order-positions}
-use Rattle.canvas_pos.proofs.PosOrd.cmp.Goals as goal
+use Rattle.canvas_pos.proofs.Pos.compare.Goals as goal
 
 pub returns-clause-order : goal.returns-clause-order
 returns-clause-order g c =
