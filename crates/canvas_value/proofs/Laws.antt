@@ -9,8 +9,8 @@ use Rattle.canvas_value.specs.Codec.{IsCodec, StandsFor}
 use Rattle.canvas_value.specs.Parts.{is_within, whole_in, with_fit}
 use Rattle.canvas_value.specs.Json.{json, jsons, read, read_all, colour_in, fits, all_fit, value_form}
 use Rattle.canvas_value.specs.Faults.{Refuses, IsJsonFault}
-use Rattle.canvas_value.specs.declared.json.JsonFault.{JsonFault}
-use Rattle.canvas_value.specs.declared.json.JsonFault.TheVariants.{NotAValue, OutOfRange, Memory}
+use Rattle.canvas_value.specs.declared.json_fault.JsonFault.{JsonFault}
+use Rattle.canvas_value.specs.declared.json_fault.JsonFault.TheVariants.{NotAValue, OutOfRange, Memory}
 use Rattle.canvas_value.proofs.Forms.{first, second, both_hold, both_true, some_mapped, out_of_range, no_shape}
 
 -- ---- what was read in range is in range, and the tree is its own

@@ -9,3 +9,4 @@ pub mod Writing
 pub mod JsonOne
 pub mod Ended
 pub mod Texts
+pub mod Copied

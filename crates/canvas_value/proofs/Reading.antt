@@ -10,8 +10,8 @@ use Rattle.canvas_value.specs.Parts.{with_fit}
 use Rattle.canvas_value.specs.Json.{read, read_all, colour_in}
 use Rattle.canvas_value.specs.Parts.{head_word}
 use Rattle.canvas_value.specs.Faults.{RefusesShape}
-use Rattle.canvas_value.specs.declared.json.JsonFault.{JsonFault}
-use Rattle.canvas_value.specs.declared.json.JsonFault.TheVariants.{NotAValue, OutOfRange, Memory}
+use Rattle.canvas_value.specs.declared.json_fault.JsonFault.{JsonFault}
+use Rattle.canvas_value.specs.declared.json_fault.JsonFault.TheVariants.{NotAValue, OutOfRange, Memory}
 use Rattle.canvas_value.proofs.ReadLists.{read_list-none}
 
 abbrev pub read_value : Json → Option (Value × Bool)

@@ -10,5 +10,5 @@ jsons_are : (ps : List Value) → items_of (map json ps) ≡ jsons (values_of ps
 jsons_are [] = refl
 jsons_are (p ∷ ps) = ap (item (json p)) (jsons_are ps)
 
-pub list_tree : (written : List Json) (members : List Value) → map view written ≡ (string (codes "list") ∷ []) ++ map json members → array (items_view written) ≡ json (list (values_of members))
+pub list_tree : (written : List Json) (members : List Value) → map view written ≡ string (codes "list") ∷ map json members → array (items_view written) ≡ json (list (values_of members))
 list_tree written members e = ap (λ ds. array (items_of ds)) e ∙ ap (λ ds. array (item (string (codes "list")) ds)) (jsons_are members)

@@ -3,8 +3,8 @@ use Rattle.std.specs.Prelude.{◌≡◌, Bool, false, Option, Some, None}
 use Rattle.serde_json.specs.Data.{Data}
 use Rattle.canvas_value.specs.Codec.{HasShape, IsOutOfRange}
 use Rattle.canvas_value.specs.Json.{value_form}
-use Rattle.canvas_value.specs.declared.json.JsonFault.{JsonFault}
-use Rattle.canvas_value.specs.declared.json.JsonFault.TheVariants.{NotAValue, OutOfRange, Memory}
+use Rattle.canvas_value.specs.declared.json_fault.JsonFault.{JsonFault}
+use Rattle.canvas_value.specs.declared.json_fault.JsonFault.TheVariants.{NotAValue, OutOfRange, Memory}
 
 -- each fault, by what it says of the tree: want of memory can be met at any
 abbrev pub IsJsonFault : Data → JsonFault → Type 0

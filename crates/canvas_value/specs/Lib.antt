@@ -8,6 +8,7 @@ pub mod Codec
 pub mod Parts
 pub mod ReadList
 pub mod Json
+pub mod Props
 pub mod Faults
 pub mod Text
 pub mod Laws

@@ -1,71 +1,40 @@
 //! Values as JSON, both ways.
-ghost use Rattle.std.specs.Prelude.{map, ◌++◌, OnOk, ◌≡◌, ◌≤◌, true, Some, IfOk, IfErr, string_bytes};
+ghost use Rattle.std.specs.Prelude.{◌≡◌, ◌≤◌, true, Some, IfOk, IfErr, string_bytes};
 ghost use Rattle.serde_json.specs.Data.{array};
 ghost use Rattle.serde_json.specs.View.{view, number_view, items_view};
 ghost use Rattle.serde_json.specs.Read.{read as read_text};
-ghost use Rattle.canvas_model.specs.Value.{Value as PlainValue, values_of, depth, max_depth};
+ghost use Rattle.canvas_model.specs.Value.{Value as PlainValue, colour, list};
+ghost use Rattle.canvas_model.specs.Value.{values_of, depth, max_depth};
 ghost use Rattle.canvas_value.specs.Codec.{StandsFor, IsCodec};
-ghost use Rattle.canvas_value.specs.Json.{json as tree, fits, value_form, integer_in, colour_in, read as meant, read_all as all_meant};
+ghost use Rattle.canvas_value.specs.Json.{json as tree, fits, value_form, integer_in, colour_in};
+ghost use Rattle.canvas_value.specs.Json.{read as meant, read_all as all_meant};
 ghost use Rattle.canvas_value.specs.Text.{json_text};
 ghost use Rattle.canvas_value.specs.Laws.{TreesAreOfOne, TextsSpellOne, NamesPassTest};
 ghost use Rattle.canvas_value.specs.Faults.{RefusesShape, Refuses, IsJsonFault};
 
 use crate::parts::{split_word, whole};
-use crate::{Value, ValueNode};
+use crate::{JsonFault, Value, ValueVariant};
 use serde_json::{Number, Value as Json};
-use std::alloc::{AllocError, AllocFailed, Allocator, Global};
-use thiserror::Error;
-
-/// Why [`Value::from_json`] gives no value: the first reason that holds, in this order. But want of memory can be met before the tree is read whole.
-#[derive(Clone, Copy, Debug, PartialEq, Eq, Error)]
-pub enum JsonFault {
-    /// The tree isn't that of a value, whatever its whole numbers: it has `null`, an object, another array, or a number that isn't a whole number
-    /// of 64 bits.
-    #[error("the tree isn't that of a value")]
-    NotAValue,
-    /// The tree is that of a value but for a number past the signed 64 bits, or a colour that isn't one of 0 to 4294967295.
-    #[error("a number is out of range")]
-    OutOfRange,
-    /// Memory was refused.
-    #[error("out of memory")]
-    Memory,
-}
-
-impl From<AllocError> for JsonFault {
-    ghost use Rattle.canvas_value.specs.Faults.{IsMemory};
-
-    ghost from_gives = { λ _ f. IsMemory f };
-
-    fn from(_error: AllocError) -> JsonFault {
-        JsonFault::Memory
-    }
-}
-
-impl<T: Drop> From<AllocFailed<T>> for JsonFault {
-    ghost use Rattle.canvas_value.specs.Faults.{IsMemory};
-
-    ghost from_gives = { λ _ f. IsMemory f };
-
-    fn from(_error: AllocFailed<T>) -> JsonFault {
-        JsonFault::Memory
-    }
-}
+use std::alloc::{AllocError, Allocator, Global};
 
 impl<A: Allocator> Value<A> {
-    /// The JSON of a value: a number, `true` or `false`, a string, `["rgba",n]` for a colour, and `["list",value,..]`
-    /// for a list. The tree stands in the machine's memory.
+    /// The JSON of a value: a number, `true` or `false`, a string, `["rgba",n]` for a colour, and
+    /// `["list",value,..]` for a list. The tree stands under the global allocator.
     pub fn to_json(&self, alloc: Global) -> Result<Json, AllocError>
-        ensures { IfOk result (λ j. view j ≡ tree self.now) }
+        ensures tree { IfOk result (λ j. view j ≡ tree self.now) }
+        ensures range { fits self.now ≡ true }
     {
         write(alloc, self)
     }
 
-    /// The JSON text of a value, with no blank outside its texts. The error is that memory was refused.
+    /// The JSON text of a value, with no space outside its texts. The error is that memory was
+    /// refused.
     ///
     /// Read as JSON, the text of a value that passes [`Value::check`] gives its tree again.
     pub fn json_text(&self, alloc: Global) -> Result<String, AllocError>
         ensures text { IfOk result (λ s. string_bytes s ≡ json_text self.now) }
-        ensures reads_back { depth self.now ≤ max_depth → IfOk result (λ s. read_text (string_bytes s) ≡ Some (tree self.now)) }
+        ensures reads_back { depth self.now ≤ max_depth
+            → IfOk result (λ s. read_text (string_bytes s) ≡ Some (tree self.now)) }
     {
         self.to_json(alloc)?.to_string(alloc)
     }
@@ -74,22 +43,24 @@ impl<A: Allocator> Value<A> {
 impl<A: Allocator + Copy> Value<A> {
     /// The value of which this is the JSON. How deep it nests is left to [`Value::check`].
     ///
-    /// `NotAValue` for any other tree, as one with a number that isn't a whole number of 64 bits. `OutOfRange` where the
-    /// tree is that of a value but for a number past the signed 64 bits, or a colour past 32 bits. `Memory` can be
-    /// answered in place of each of these.
+    /// `NotAValue` for any other tree, as one with a number that isn't a whole number of 64 bits.
+    /// `OutOfRange` where the tree is that of a value but for a number past the signed 64 bits, or
+    /// a colour past 32 bits. `Memory` can be answered in place of each of these.
     pub fn from_json(alloc: A, json: &Json) -> Result<Value<A>, JsonFault>
         ensures ok { IfOk result (λ v. tree v ≡ view json.now) }
         ensures range { IfOk result (λ v. fits v ≡ true) }
         ensures only { IfOk result (λ v. (w : PlainValue) → tree w ≡ view json.now → w ≡ v) }
 
         // The tree of a value whose numbers are in range is refused for want of memory alone.
-        ensures only_memory { (w : PlainValue) → StandsFor value_form (view json.now) w → IfErr result (λ e. e ≡ JsonFault.Memory) }
+        ensures only_memory { (w : PlainValue) → StandsFor value_form (view json.now) w
+            → IfErr result (λ e. e ≡ JsonFault.Memory) }
         ensures fault { IfErr result (IsJsonFault (view json.now)) }
     {
         judge(alloc, json)
     }
 }
 
+// The value of which this is the JSON: what was read, if each number in it was in range.
 fn judge<A: Allocator + Copy>(alloc: A, json: &Json) -> Result<Value<A>, JsonFault>
     ensures ok { IfOk result (λ v. meant (view json.now) ≡ Some (v, true)) }
     ensures fault { IfErr result (Refuses (meant (view json.now))) }
@@ -104,7 +75,8 @@ fn judge<A: Allocator + Copy>(alloc: A, json: &Json) -> Result<Value<A>, JsonFau
 
 /// The value that a tree is read as, and whether each number in it was in range.
 ///
-/// `NotAValue` for a tree that isn't that of a value, whatever its whole numbers; `OutOfRange` is never answered.
+/// `NotAValue` for a tree that isn't that of a value, whatever its whole numbers; `OutOfRange` is
+/// never answered.
 #[cycle(read)]
 pub fn read<A: Allocator + Copy>(alloc: A, json: &Json) -> Result<(Value<A>, bool), JsonFault>
     ensures ok { IfOk result (λ r. meant (view json.now) ≡ Some r) }
@@ -123,6 +95,7 @@ pub fn read<A: Allocator + Copy>(alloc: A, json: &Json) -> Result<(Value<A>, boo
     }
 }
 
+// The signed number of 64 bits, and whether it is one: none where it isn't a whole number.
 fn integer(n: &Number) -> Option<(i64, bool)>
     ensures { result ≡ integer_in (number_view n.now) }
 {
@@ -132,6 +105,7 @@ fn integer(n: &Number) -> Option<(i64, bool)>
     }
 }
 
+// The value that an array is read as: a colour or a list, by its first member.
 #[cycle(read)]
 fn read_array<A: Allocator + Copy>(alloc: A, items: &[Json]) -> Result<(Value<A>, bool), JsonFault>
     ensures ok { IfOk result (λ r. meant (array (items_view items.now)) ≡ Some r) }
@@ -152,6 +126,7 @@ fn read_array<A: Allocator + Copy>(alloc: A, items: &[Json]) -> Result<(Value<A>
     }
 }
 
+// The colour that the members after the word are read as.
 fn read_colour<A: Allocator>(items: &[Json]) -> Result<(Value<A>, bool), JsonFault>
     ensures ok { IfOk result (λ r. colour_in (items_view items.now) ≡ Some r) }
     ensures fault { IfErr result (RefusesShape (colour_in (items_view items.now))) }
@@ -165,12 +140,14 @@ fn read_colour<A: Allocator>(items: &[Json]) -> Result<(Value<A>, bool), JsonFau
     }
 }
 
+// The values that the members after the word are read as.
 #[cycle(read)]
 fn read_items<A: Allocator + Copy>(
     alloc: A,
     items: &[Json],
 ) -> Result<(Vec<Value<A>, A>, bool), JsonFault>
-    ensures ok { IfOk result (λ r. all_meant (items_view items.now) ≡ Some (values_of r.0.items, r.1)) }
+    ensures ok { IfOk result
+        (λ r. all_meant (items_view items.now) ≡ Some (values_of r.0.items, r.1)) }
     ensures fault { IfErr result (RefusesShape (all_meant (items_view items.now))) }
 {
     let mut found = Vec::with_capacity(alloc, items.len())?;
@@ -183,45 +160,47 @@ fn read_items<A: Allocator + Copy>(
     Ok((found, all_fit))
 }
 
+// The JSON of a value.
 #[cycle(write)]
 fn write<A: Allocator>(alloc: Global, value: &Value<A>) -> Result<Json, AllocError>
-    ensures { IfOk result (λ j. view j ≡ tree value.now) }
+    ensures tree { IfOk result (λ j. view j ≡ tree value.now) }
+    ensures range { fits value.now ≡ true }
 {
-    match value.node() {
-        ValueNode::Number(n) => Ok(Json::from(*n)),
-        ValueNode::Truth(b) => Ok(Json::from(*b)),
-        ValueNode::Colour(c) => {
-            let mut items = Vec::with_capacity(alloc, 2)?;
-            items.push(Json::try_from_str(alloc, "rgba")?)?;
-            items.push(Json::from(*c))?;
-            Ok(Json::from(items))
-        }
-        ValueNode::Text(s) => Json::try_from_str(alloc, s.as_str()),
-        ValueNode::List(members) => {
-            let mut items = Vec::with_capacity(alloc, 1)?;
-            items.push(Json::try_from_str(alloc, "list")?)?;
-            write_items(alloc, members, &mut items)?;
-            Ok(Json::from(items))
-        }
+    match value.variant() {
+        ValueVariant::Number(n) => Ok(Json::from(*n)),
+        ValueVariant::Truth(b) => Ok(Json::from(*b)),
+        ValueVariant::Colour(c) => write_colour(alloc, *c),
+        ValueVariant::Text(s) => Json::try_from_str(alloc, s.as_str()),
+        ValueVariant::List(members) => write_list(alloc, members),
     }
 }
 
-#[cycle(write)]
-fn write_items<A: Allocator>(
-    alloc: Global,
-    members: &Vec<Value<A>, A>,
-    items: &mut Vec<Json>,
-) -> Result<(), AllocError>
-    ensures { OnOk result (map view items.new.items ≡ map view items.old.items ++ map tree members.now.items) }
+// The JSON of a colour.
+fn write_colour(alloc: Global, c: u32) -> Result<Json, AllocError>
+    ensures { IfOk result (λ j. view j ≡ tree (colour c)) }
 {
+    let mut items = Vec::with_capacity(alloc, 2)?;
+    items.push(Json::try_from_str(alloc, "rgba")?)?;
+    items.push(Json::from(c))?;
+    Ok(Json::from(items))
+}
+
+// The JSON of a list.
+#[cycle(write)]
+fn write_list<A: Allocator>(alloc: Global, members: &[Value<A>]) -> Result<Json, AllocError>
+    ensures { IfOk result (λ j. view j ≡ tree (list (values_of members.now))) }
+{
+    let mut items = Vec::with_capacity(alloc, members.len().saturating_add(1))?;
+    items.push(Json::try_from_str(alloc, "list")?)?;
     for member in members {
         items.push(write(alloc, member)?)?;
     }
-    Ok(())
+    Ok(Json::from(items))
 }
 
-/// The laws of the JSON of values and names: a tree is that of one value at most, and a text spells one at most; values have a form, and names are the
-/// texts of theirs. It does nothing when it runs: call it where a proof needs the laws.
+/// The laws of the JSON of values and names: a tree is that of one value at most, and a text spells
+/// one at most; values have a form, and names are the texts of theirs. It does nothing when it
+/// runs: call it where a proof needs the laws.
 pub fn every_spelling()
     ensures tree { TreesAreOfOne }
     ensures text { TextsSpellOne }

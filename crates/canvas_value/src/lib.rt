@@ -1,19 +1,24 @@
 //! Values of properties, names of properties, and their JSON.
 //!
-//! Contracts see a value as the plain tree of `canvas_model`, which knows no allocator, and a name as its bytes. So they
-//! can say that two values under different allocators are the same.
+//! Contracts see a value as the plain tree of `canvas_model`, which knows no allocator, and a name
+//! as its bytes. So they can say that two values under different allocators are the same.
 #![tactic(auto)]
 
-ghost use Rattle.std.specs.Prelude.{◌≡◌, ◌≤◌, ◌↔◌, min, IsTrue, IsOk, IfOk, string_bytes};
-ghost use Rattle.canvas_model.specs.Value.{number, truth, colour, text, list, values_of, depth, members_depth, max_depth};
+ghost use Rattle.std.specs.Prelude.{◌≡◌, ◌≤◌, ◌↔◌, min, true, IsTrue, IsOk, IfOk, string_bytes};
+ghost use Rattle.canvas_model.specs.Value.{number, truth, colour, text, list, values_of};
+ghost use Rattle.canvas_model.specs.Value.{depth, members_depth, max_depth};
+ghost use Rattle.canvas_value.specs.Json.{fits, all_fit};
 ghost use Rattle.canvas_value.specs.Seen.{seen};
 
 pub mod json;
-pub mod names;
+mod json_fault;
+mod names;
 pub mod parts;
+mod props;
 
-pub use crate::json::JsonFault;
-pub use crate::names::{Name, NameError};
+pub use crate::json_fault::JsonFault;
+pub use crate::names::{MAX_NAME_LEN, Name, NameError};
+pub use crate::props::{copy_props, copy_value, every_prop, same_props, same_value};
 use std::alloc::{AllocError, Allocator, Global};
 use std::marker::Model;
 use thiserror::Error;
@@ -23,17 +28,18 @@ pub const MAX_DEPTH: u32 = 16;
 
 /// The value of a property: a finite tree, whose texts and lists stand under one allocator.
 ///
-/// A contract sees it as the plain tree, without the allocator.
+/// A contract sees it as the plain tree, without the allocator. Its numbers are in range, at any
+/// depth: they are what their variants hold.
 #[cycle(value)]
 #[derive(Drop)]
 pub struct Value<A: Allocator = Global> {
-    node: ValueNode<A>,
+    variant: ValueVariant<A>,
 }
 
 /// What stands at the top of a value.
 #[cycle(value)]
 #[derive(Drop)]
-pub enum ValueNode<A: Allocator = Global> {
+pub enum ValueVariant<A: Allocator = Global> {
     /// A whole number of 64 bits, signed.
     Number(i64),
     /// A truth value.
@@ -57,13 +63,18 @@ impl<A: Allocator> Model for Value<A> {
 
     ghost use Rattle.canvas_value.specs.Seen.{seen};
 
-    ghost view = { λ v. seen v.node };
+    ghost view = { λ v. seen v.variant };
+
+    ghost use Rattle.std.specs.Prelude.{◌≡◌, true};
+    ghost use Rattle.canvas_value.specs.Json.{fits};
+
+    ghost invariant = { λ v. fits (seen v.variant) ≡ true };
 
     ghost size = { value_size };
 
     ghost use Rattle.canvas_value.specs.Falls.{depth_le_size};
 
-    ghost size_decreases = { λ a h. depth_le_size A.Allocator a.node };
+    ghost size_decreases = { λ a h. depth_le_size A.Allocator a.variant };
 }
 
 /// Why [`Value::check`] refuses a value: its lists nest more than 16 deep.
@@ -77,7 +88,7 @@ impl<A: Allocator> Value<A> {
         ensures { result ≡ number n }
     {
         Value {
-            node: ValueNode::Number(n),
+            variant: ValueVariant::Number(n),
         }
     }
 
@@ -86,7 +97,7 @@ impl<A: Allocator> Value<A> {
         ensures { result ≡ truth b }
     {
         Value {
-            node: ValueNode::Truth(b),
+            variant: ValueVariant::Truth(b),
         }
     }
 
@@ -95,7 +106,7 @@ impl<A: Allocator> Value<A> {
         ensures { result ≡ colour c }
     {
         Value {
-            node: ValueNode::Colour(c),
+            variant: ValueVariant::Colour(c),
         }
     }
 
@@ -104,7 +115,7 @@ impl<A: Allocator> Value<A> {
         ensures { result ≡ text (string_bytes s) }
     {
         Value {
-            node: ValueNode::Text(s),
+            variant: ValueVariant::Text(s),
         }
     }
 
@@ -112,23 +123,37 @@ impl<A: Allocator> Value<A> {
     pub fn list(items: Vec<Value<A>, A>) -> Value<A>
         ensures { result ≡ list (values_of items.items) }
     {
+        every_number(&items);
         Value {
-            node: ValueNode::List(items),
+            variant: ValueVariant::List(items),
         }
     }
 
     /// What stands at the top, to be matched on.
-    pub fn node(&self) -> &ValueNode<A>
-        ensures { seen result.now ≡ self.now }
+    pub fn variant(&self) -> &ValueVariant<A>
+        ensures value { seen result.now ≡ self.now }
+
+        // Each number, at any depth, has 64 bits and a sign, and each colour 32 bits.
+        ensures range { fits self.now ≡ true }
     {
-        &self.node
+        &self.variant
     }
 
-    /// The same value under another allocator. The error is that memory was refused, and then nothing is left behind.
+    /// What stands at the top, by value.
+    pub fn into_variant(self) -> ValueVariant<A>
+        ensures value { seen result ≡ self }
+        ensures range { fits self ≡ true }
+    {
+        let Value { variant } = self;
+        variant
+    }
+
+    /// The same value under another allocator. The error is that memory was refused, and then
+    /// nothing is left behind.
     pub fn copy_in<B: Allocator + Copy>(&self, alloc: B) -> Result<Value<B>, AllocError>
         ensures { IfOk result (λ v. v ≡ self.now) }
     {
-        copy(self, alloc)
+        copy(alloc, self)
     }
 
     /// Whether two values are the same, whichever allocators hold them. It takes no memory.
@@ -138,16 +163,16 @@ impl<A: Allocator> Value<A> {
         alike(self, other)
     }
 
-    /// How deep lists nest: 0 for what is no list, and for a list one more than for its deepest member, so 1 for an
-    /// empty list. It takes no memory.
+    /// How deep lists nest: 0 for what is no list, and for a list one more than for its deepest
+    /// member, so 1 for an empty list. It takes no memory.
     ///
     /// Nothing bounds how deep a value nests, so past `u32::MAX` the answer stays `u32::MAX`.
     #[cycle(depth)]
     pub fn depth(&self) -> u32
         ensures { result ≡ min (depth self.now) 4294967295 }
     {
-        match &self.node {
-            ValueNode::List(items) => deepest(items).saturating_add(1),
+        match &self.variant {
+            ValueVariant::List(items) => deepest(items).saturating_add(1),
             _ => 0,
         }
     }
@@ -164,87 +189,87 @@ impl<A: Allocator> Value<A> {
     }
 }
 
-#[cycle(copy)]
-fn copy<A: Allocator, B: Allocator + Copy>(
-    value: &Value<A>,
-    alloc: B,
-) -> Result<Value<B>, AllocError>
-    ensures { IfOk result (λ v. v ≡ value.now) }
+// The numbers of each value are in range. It does nothing when it runs: the proof of a list needs
+// it.
+fn every_number<A: Allocator>(items: &[Value<A>])
+    ensures { all_fit (values_of items.now) ≡ true }
 {
-    match &value.node {
-        ValueNode::Number(n) => Ok(Value::number(*n)),
-        ValueNode::Truth(b) => Ok(Value::truth(*b)),
-        ValueNode::Colour(c) => Ok(Value::colour(*c)),
-        ValueNode::Text(text) => Ok(Value::text(String::from_str(alloc, text.as_str())?)),
-        ValueNode::List(items) => Ok(Value::list(copy_items(items, alloc)?)),
+    for item in items {
+        let _variant = item.variant();
     }
 }
 
+// The same value under another allocator.
+#[cycle(copy)]
+fn copy<A: Allocator, B: Allocator + Copy>(
+    alloc: B,
+    value: &Value<A>,
+) -> Result<Value<B>, AllocError>
+    ensures { IfOk result (λ copy. copy ≡ value.now) }
+{
+    match &value.variant {
+        ValueVariant::Number(n) => Ok(Value::number(*n)),
+        ValueVariant::Truth(b) => Ok(Value::truth(*b)),
+        ValueVariant::Colour(c) => Ok(Value::colour(*c)),
+        ValueVariant::Text(text) => Ok(Value::text(String::from_str(alloc, text.as_str())?)),
+        ValueVariant::List(items) => Ok(Value::list(copy_items(alloc, items)?)),
+    }
+}
+
+// The same values under another allocator.
 #[cycle(copy)]
 fn copy_items<A: Allocator, B: Allocator + Copy>(
-    items: &Vec<Value<A>, A>,
     alloc: B,
+    items: &[Value<A>],
 ) -> Result<Vec<Value<B>, B>, AllocError>
-    ensures { IfOk result (λ v. v.items ≡ items.now.items) }
+    ensures { IfOk result (λ copies. copies.items ≡ items.now) }
 {
     let mut copies = Vec::with_capacity(alloc, items.len())?;
     for item in items {
-        copies.push(copy(item, alloc)?)?;
+        copies.push(copy(alloc, item)?)?;
     }
     Ok(copies)
 }
 
+// Whether the two values are the same.
+#[cycle(alike)]
+fn alike<A: Allocator, B: Allocator>(value: &Value<A>, other: &Value<B>) -> bool
+    ensures { IsTrue result ↔ (value.now ≡ other.now) }
+{
+    match (&value.variant, &other.variant) {
+        (ValueVariant::Number(m), ValueVariant::Number(n)) => *m == *n,
+        (ValueVariant::Truth(b), ValueVariant::Truth(c)) => *b == *c,
+        (ValueVariant::Colour(c), ValueVariant::Colour(d)) => *c == *d,
+        (ValueVariant::Text(s), ValueVariant::Text(t)) => s.as_str() == t.as_str(),
+        (ValueVariant::List(items), ValueVariant::List(others)) => alike_items(items, others),
+        _ => false,
+    }
+}
+
+// Whether the values are the same, in the same order.
+#[cycle(alike)]
+fn alike_items<A: Allocator, B: Allocator>(items: &[Value<A>], others: &[Value<B>]) -> bool
+    ensures { IsTrue result ↔ (items.now ≡ others.now) }
+{
+    if items.len() != others.len() {
+        return false;
+    }
+    for (at, item) in items.iter().enumerate() {
+        if !alike(item, &others[at]) {
+            return false;
+        }
+    }
+    true
+}
+
 // The depth of the deepest item, 0 where there is none.
 #[cycle(depth)]
-fn deepest<A: Allocator>(items: &Vec<Value<A>, A>) -> u32
-    ensures { result ≡ min (members_depth (values_of items.now.items)) 4294967295 }
+fn deepest<A: Allocator>(items: &[Value<A>]) -> u32
+    ensures { result ≡ min (members_depth (values_of items.now)) 4294967295 }
 {
     let mut most = 0u32;
     for item in items {
         most = most.max(item.depth());
     }
     most
-}
-
-#[cycle(alike)]
-fn alike<A: Allocator, B: Allocator>(one: &Value<A>, other: &Value<B>) -> bool
-    ensures { IsTrue result ↔ (one.now ≡ other.now) }
-{
-    match &one.node {
-        ValueNode::Number(m) => match &other.node {
-            ValueNode::Number(n) => *m == *n,
-            _ => false,
-        },
-        ValueNode::Truth(b) => match &other.node {
-            ValueNode::Truth(c) => *b == *c,
-            _ => false,
-        },
-        ValueNode::Colour(c) => match &other.node {
-            ValueNode::Colour(d) => *c == *d,
-            _ => false,
-        },
-        ValueNode::Text(s) => match &other.node {
-            ValueNode::Text(t) => s.as_str() == t.as_str(),
-            _ => false,
-        },
-        ValueNode::List(xs) => match &other.node {
-            ValueNode::List(ys) => alike_items(xs, ys),
-            _ => false,
-        },
-    }
-}
-
-#[cycle(alike)]
-fn alike_items<A: Allocator, B: Allocator>(xs: &Vec<Value<A>, A>, ys: &Vec<Value<B>, B>) -> bool
-    ensures { IsTrue result ↔ (xs.now.items ≡ ys.now.items) }
-{
-    if xs.len() != ys.len() {
-        return false;
-    }
-    for i in 0..xs.len() {
-        if !alike(&xs[i], &ys[i]) {
-            return false;
-        }
-    }
-    true
 }

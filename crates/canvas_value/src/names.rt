@@ -2,18 +2,24 @@
 ghost use Rattle.std.specs.Prelude.{◌≡◌, ◌↔◌, IfOk, IfErr, IsTrue, Some, nat_eq, refl};
 ghost use Rattle.std.specs.List.{list_all};
 ghost use Rattle.std.specs.Cmp.{on_equiv, partial_equiv_from_equiv};
-ghost use Rattle.std.specs.Cmp.Lexicographic.{pointwise, slice_cmp, nat_list_eq_equiv, nat_list_cmp_total, texts_po, texts_ties};
+ghost use Rattle.std.specs.Cmp.Lexicographic.{pointwise, nat_list_eq_equiv};
+ghost use Rattle.std.specs.Cmp.Lexicographic.{nat_list_cmp_total, texts_po, texts_ties};
+ghost use Rattle.std.specs.Cmp.Rules.{hashing};
+ghost use Rattle.std.specs.Fmt.{debug_str};
+ghost use Rattle.std.specs.Hash as fed;
+ghost use Rattle.std.proofs.Common.{rules};
 ghost use Rattle.canvas_model.specs.Document.{name_cmp};
 ghost use Rattle.canvas_value.specs.Names.{IsName, is_name_byte};
 
 use std::alloc::{AllocError, Allocator, Global};
 use std::cmp::Ordering;
+use std::hash::{Hash, Hasher};
 use std::marker::Model;
-use std::str;
+use std::{fmt, str};
 use thiserror::Error;
 
 /// The most bytes that a name has.
-pub const MAX_LEN: usize = 32;
+pub const MAX_NAME_LEN: usize = 32;
 
 /// Why [`Name::read`] gives no name: the first reason that holds, in this order.
 #[derive(Clone, Copy, Debug, PartialEq, Eq, Error)]
@@ -32,7 +38,8 @@ pub enum NameError {
     Memory,
 }
 
-/// The name of a property: 1 to 32 bytes of `a` to `z`, `0` to `9` and `_`. Names are ordered by their bytes.
+/// The name of a property: 1 to 32 bytes of `a` to `z`, `0` to `9` and `_`. Names are ordered by
+/// their bytes.
 ///
 /// A contract sees it as its bytes.
 #[derive(Drop)]
@@ -51,12 +58,14 @@ impl<A: Allocator> Model for Name<A> {
     ghost invariant = { λ n. IsName n.bytes.items };
 }
 
+// Whether a name may have the byte.
 fn is_name_byte(b: u8) -> bool
     ensures { result ≡ is_name_byte b }
 {
     b.is_ascii_lowercase() || b.is_ascii_digit() || b == b'_'
 }
 
+// Whether a name may have each of the bytes.
 fn are_name_bytes(bytes: &[u8]) -> bool
     ensures { result ≡ list_all is_name_byte bytes.now }
 {
@@ -68,8 +77,8 @@ impl<A: Allocator> Name<A> {
 
     /// Reads a name, as a copy of the bytes.
     ///
-    /// It accepts exactly the names. Of anything else it gives the first of `Empty`, `TooLong` and `BadByte` that holds. `Memory` comes only
-    /// where the bytes are a name and memory was refused.
+    /// It accepts exactly the names. Of anything else it gives the first of `Empty`, `TooLong` and
+    /// `BadByte` that holds. `Memory` comes only where the bytes are a name and memory was refused.
     pub fn read(alloc: A, bytes: &[u8]) -> Result<Name<A>, NameError>
         ensures ok { IfOk result (λ n. n ≡ bytes.now) }
         ensures name { IfOk result IsName }
@@ -81,7 +90,7 @@ impl<A: Allocator> Name<A> {
         if bytes.is_empty() {
             return Err(NameError::Empty);
         }
-        if bytes.len() > MAX_LEN {
+        if bytes.len() > MAX_NAME_LEN {
             return Err(NameError::TooLong);
         }
         if !are_name_bytes(bytes) {
@@ -116,6 +125,13 @@ impl<A: Allocator> Name<A> {
         ensures { IsTrue result ↔ (self.now ≡ other.now) }
     {
         self.bytes() == other.bytes()
+    }
+
+    /// The order of two names by their bytes, whichever allocators hold them. It takes no memory.
+    pub fn compare<B: Allocator>(&self, other: &Name<B>) -> Ordering
+        ensures { result ≡ name_cmp self.now other.now }
+    {
+        self.bytes().cmp(other.bytes())
     }
 
     /// The same name under another allocator. The error is that memory was refused.
@@ -166,6 +182,34 @@ impl<A: Allocator> Ord for Name<A> {
     fn cmp(&self, other: &Name<A>) -> Ordering
         ensures { result ≡ name_cmp self.now other.now }
     {
-        self.bytes.as_slice().cmp(other.bytes.as_slice())
+        self.compare(other)
+    }
+}
+
+impl<A: Allocator> Hash for Name<A> {
+    ghost hash_input = { fed.slice fed.u8 };
+
+    ghost respects_eq = { Prim.search (hashing, rules) };
+
+    fn hash<H: Hasher>(&self, state: &mut H) {
+        self.bytes().hash(state);
+    }
+}
+
+/// Prints the bytes as they are.
+impl<A: Allocator> fmt::Display for Name<A> {
+    ghost output = { λ n. Some n };
+
+    fn fmt<W: fmt::Write>(&self, f: &mut fmt::Formatter<W>) -> fmt::Result {
+        f.pad(self.as_str())
+    }
+}
+
+/// Prints the bytes as a text in quotes.
+impl<A: Allocator> fmt::Debug for Name<A> {
+    ghost debug_output = { debug_str };
+
+    fn fmt<W: fmt::Write>(&self, f: &mut fmt::Formatter<W>) -> fmt::Result {
+        fmt::Debug::fmt(self.as_str(), f)
     }
 }

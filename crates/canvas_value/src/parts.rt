@@ -1,13 +1,16 @@
 //! The parts of JSON that every message is read from.
 //!
-//! A reader answers what it read, and whether each whole number in it was in range, where 0 stands for one that wasn't.
-//! So a tree is read once, and a caller still can tell a tree of another shape from one with a number out of range.
+//! A reader answers what it read, and whether each whole number in it was in range, where 0 stands
+//! for one that wasn't. So a tree is read once, and a caller still can tell a tree of another shape
+//! from one with a number out of range.
 ghost use Rattle.std.specs.Prelude.{◌≡◌, option_map};
 ghost use Rattle.serde_json.specs.View.{view, items_view};
 ghost use Rattle.canvas_value.specs.Parts.{whole_in, head_word, end_in};
 ghost use Rattle.canvas_value.specs.Laws.{EachReadStands, EachReadOutOfRange, EachUnreadHasNoShape};
-ghost use Rattle.canvas_value.specs.Laws.{WholesAreForms, TextsAreForms, WordsAreForms, OthersAreForms, MaybesAreForms, EndIsForm, MembersAreForms};
-ghost use Rattle.canvas_value.specs.Laws.{RestsAreForms, ArraysAreForms, WordedAreForms, OneWordIsForm, ChoicesAreForms};
+ghost use Rattle.canvas_value.specs.Laws.{WholesAreForms, TextsAreForms, WordsAreForms};
+ghost use Rattle.canvas_value.specs.Laws.{OthersAreForms, MaybesAreForms, EndIsForm};
+ghost use Rattle.canvas_value.specs.Laws.{MembersAreForms, RestsAreForms, ArraysAreForms};
+ghost use Rattle.canvas_value.specs.Laws.{WordedAreForms, OneWordIsForm, ChoicesAreForms};
 
 use serde_json::Value as Json;
 
@@ -28,9 +31,11 @@ pub fn whole(json: &Json, low: u64, high: u64) -> Option<(u64, bool)>
     }
 }
 
-/// The word that an array begins with, and its other members; none where it begins with anything else.
+/// The word that an array begins with, and its other members; none where it begins with anything
+/// else.
 pub fn split_word(items: &[Json]) -> Option<(&str, &[Json])>
-    ensures { option_map (λ r. (r.0.now, items_view r.1.now)) result ≡ head_word (items_view items.now) }
+    ensures { option_map (λ r. (r.0.now, items_view r.1.now)) result
+        ≡ head_word (items_view items.now) }
 {
     let (head, rest) = items.split_first()?;
     let word = head.as_str()?;
@@ -49,14 +54,16 @@ pub fn ended(items: &[Json]) -> Option<((), bool)>
     }
 }
 
-/// What is read of a tree says exactly what the tree is, for every form. It does nothing when it runs: call it where a proof needs the laws.
+/// What is read of a tree says exactly what the tree is, for every form. It does nothing when it
+/// runs: call it where a proof needs the laws.
 pub fn every_form<X>()
     ensures read { EachReadStands X }
     ensures out_of_range { EachReadOutOfRange X }
     ensures unread { EachUnreadHasNoShape X }
 {}
 
-/// The parts are forms, and so is what is put together from forms. It does nothing when it runs: call it where a proof needs the laws.
+/// The parts are forms, and so is what is put together from forms. It does nothing when it runs:
+/// call it where a proof needs the laws.
 pub fn every_part<D, X, Y>()
     ensures whole { WholesAreForms }
     ensures text { TextsAreForms }

@@ -1,9 +1,12 @@
 //! The JSON of values.
+use crate::arena::sample;
+use canvas_value::json::read;
 use canvas_value::{JsonFault, Value};
 use serde_json::Value as Json;
-use std::alloc::{AllocError, Global};
+use std::alloc::Global;
 use std::test::Fail;
 
+// The fault of a text that is JSON, but not that of a value.
 fn fault_of(alloc: Global, text: &str) -> Option<JsonFault> {
     match Json::from_str(alloc, text) {
         Ok(json) => Value::from_json(alloc, &json).err(),
@@ -53,15 +56,51 @@ fn faults(rt: HostRuntime) -> Result<(), Fail> {
     Ok(())
 }
 
-// What is written of the value that a text is read as.
-fn rewritten(alloc: Global, text: &str) -> Result<Option<String>, AllocError> {
-    let Ok(json) = Json::from_str(alloc, text) else {
-        return Ok(None);
-    };
-    let Ok(value) = Value::from_json(alloc, &json) else {
-        return Ok(None);
-    };
-    Ok(Some(value.json_text(alloc)?))
+// What a value in a text is read as, and whether each number in it was in range.
+fn read_as(alloc: Global, text: &str, value: &Value) -> Result<Option<bool>, Fail> {
+    let json = Json::from_str(alloc, text)?;
+    match read(alloc, &json) {
+        Ok((found, fits)) => Ok(found.same(value).then_some(fits)),
+        Err(_) => Ok(None),
+    }
+}
+
+// The same for a number.
+fn number_read_as(alloc: Global, text: &str, number: i64) -> Result<Option<bool>, Fail> {
+    read_as(alloc, text, &Value::number(number))
+}
+
+#[test]
+fn numbers_read(rt: HostRuntime) -> Result<(), Fail> {
+    assert_eq!(rt; number_read_as(rt.alloc(), "-7", -7)?, Some(true));
+    assert_eq!(rt;
+        number_read_as(rt.alloc(), "9223372036854775808", 0)?,
+        Some(false)
+    );
+    assert_eq!(rt; number_read_as(rt.alloc(), "null", 0)?, None);
+    Ok(())
+}
+
+// Whether the tree of the sample is what its text is as JSON, and is read as the sample.
+fn tree_of_sample(alloc: Global, text: &str) -> Result<bool, Fail> {
+    let value = sample(alloc)?;
+    let tree = value.to_json(alloc)?;
+    let back = Value::from_json(alloc, &tree)?;
+    Ok(tree == Json::from_str(alloc, text)? && back.same(&value))
+}
+
+#[test]
+fn trees(rt: HostRuntime) -> Result<(), Fail> {
+    let text = "[\"list\",-3,[\"rgba\",255],[\"list\",true,\"n\\u00e9e\"]]";
+    assert!(rt; tree_of_sample(rt.alloc(), text)?);
+    Ok(())
+}
+
+// Whether this is written of the value that a text is read as.
+fn is_rewritten(alloc: Global, text: &str, wanted: &str) -> Result<bool, Fail> {
+    let json = Json::from_str(alloc, text)?;
+    let value = Value::from_json(alloc, &json)?;
+    Ok(value.json_text(alloc)?.as_str() == wanted)
 }
 
 #[test]
@@ -78,9 +117,8 @@ fn texts(rt: HostRuntime) -> Result<(), Fail> {
             "[\"list\",1,[\"rgba\",7],[\"list\"]]",
         ),
     ];
-    for (text, want) in rows {
-        let found = rewritten(rt.alloc(), text)?;
-        assert_eq!(rt; found.as_ref().map(String::as_str), Some(want), "at {text}");
+    for (text, wanted) in rows {
+        assert!(rt; is_rewritten(rt.alloc(), text, wanted)?, "at {text}");
     }
     Ok(())
 }

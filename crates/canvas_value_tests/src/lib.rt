@@ -1,4 +1,4 @@
-//! Tests of `canvas_value`: its JSON, its values in an arena, and each growth refused in turn.
+//! Tests of `canvas_value`: its JSON, its values in an arena, and each allocation refused in turn.
 #![tactic(auto)]
 
 #[cfg(test)]

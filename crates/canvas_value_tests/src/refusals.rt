@@ -1,146 +1,156 @@
-//! Each growth refused in turn.
-use crate::arena::sample;
-use canvas_value::{Name, Value};
+//! Each allocation refused in turn: what there was stays as it was, and the call succeeds again.
+use crate::arena::{sample, sample_props};
+use canvas_value::{Name, NameError, Value, copy_props, same_props};
 use refusing::Refusing;
 use std::alloc::{AllocError, Allocator, Global};
-use std::collections::{BTreeMap, VecDeque};
 use std::test::Fail;
 
+// What one run with its nth allocation refused shows: that no allocation was refused, since it has
+// fewer; that one was, and all was as it has to be; or that something wasn't.
+#[derive(Clone, Copy, Debug, PartialEq, Eq)]
+enum Run {
+    Whole,
+    Refused,
+    Wrong,
+}
+
+// What a run shows, from how many allocations were left to come, whether its call failed, and
+// whether all was as it has to be afterwards.
+fn seen(left: u64, failed: bool, as_before: bool) -> Run {
+    match (left > 0, failed, as_before) {
+        (true, false, true) => Run::Whole,
+        (false, true, true) => Run::Refused,
+        _ => Run::Wrong,
+    }
+}
+
+// Whether the value's copy under another allocator is the same.
 fn copied<A: Allocator + Copy>(from: &Value<Global>, alloc: A) -> Result<bool, AllocError> {
     let copy = from.copy_in(alloc)?;
     Ok(copy.same(from))
 }
 
-// Whether a copy of the sample was refused at its nth growth, none where it has fewer, and whether the sample was as
-// before and could be copied then.
-fn copy_refused(alloc: Global, nth: u64) -> Result<(Option<bool>, bool), AllocError> {
+// A copy of the sample with the nth allocation refused; the sample is copied again afterwards.
+fn copy_refused(alloc: Global, nth: u64) -> Result<Run, Fail> {
     let here = sample(alloc)?;
     let heap = Refusing::new(alloc, nth);
-    let answer = copied(&here, &heap);
-    if heap.left() > 0 {
-        return Ok((None, answer.is_ok()));
-    }
-    let as_before = here.same(&sample(alloc)?) && copied(&here, &heap)?;
-    Ok((Some(answer.is_err()), as_before))
+    let failed = copied(&here, &heap).is_err();
+    let left = heap.left();
+    let again = left > 0 || copied(&here, &heap)?;
+    let as_before = again && here.same(&sample(alloc)?);
+    Ok(seen(left, failed, as_before))
 }
 
 #[test]
 fn copies(rt: HostRuntime) -> Result<(), Fail> {
-    let mut refused = 0u64;
-    for nth in 1..1000u64 {
-        let (answer, as_before) = copy_refused(rt.alloc(), nth)?;
-        assert!(rt; as_before, "at {nth}");
-        match answer {
-            None => break,
-            Some(failed) => assert!(rt; failed, "at {nth}"),
-        }
-        refused = nth;
+    for nth in 1..=3u64 {
+        assert_eq!(rt; copy_refused(rt.alloc(), nth)?, Run::Refused, "at {nth}");
     }
-    assert_eq!(rt; refused, 3);
+    assert_eq!(rt; copy_refused(rt.alloc(), 4)?, Run::Whole);
     Ok(())
 }
 
+// Whether the properties' copy under another allocator is the same.
+fn props_copied<A: Allocator + Copy>(
+    from: &[(Name<Global>, Value<Global>)],
+    alloc: A,
+) -> Result<bool, AllocError> {
+    let copies = copy_props(alloc, from)?;
+    Ok(same_props(from, &copies))
+}
+
+// A copy of two properties with the nth allocation refused; they are copied again afterwards.
+fn copy_props_refused(alloc: Global, nth: u64) -> Result<Run, Fail> {
+    let here = sample_props(alloc)?;
+    let heap = Refusing::new(alloc, nth);
+    let failed = props_copied(&here, &heap).is_err();
+    let left = heap.left();
+    let again = left > 0 || props_copied(&here, &heap)?;
+    let as_before = again && same_props(&here, &sample_props(alloc)?);
+    Ok(seen(left, failed, as_before))
+}
+
+#[test]
+fn properties(rt: HostRuntime) -> Result<(), Fail> {
+    for nth in 1..=6u64 {
+        assert_eq!(rt;
+            copy_props_refused(rt.alloc(), nth)?,
+            Run::Refused,
+            "at {nth}"
+        );
+    }
+    assert_eq!(rt; copy_props_refused(rt.alloc(), 7)?, Run::Whole);
+    Ok(())
+}
+
+// Adds a text to the list.
 fn add<A: Allocator + Copy>(items: &mut Vec<Value<A>, A>, alloc: A) -> Result<(), AllocError> {
     items.push(Value::text(String::from_str(alloc, "née")?))?;
     Ok(())
 }
 
-fn alike<A: Allocator, B: Allocator>(items: &Vec<Value<A>, A>, others: &Vec<Value<B>, B>) -> bool {
-    if items.len() != others.len() {
-        return false;
-    }
-    for i in 0..items.len() {
-        if !items[i].same(&others[i]) {
-            return false;
-        }
-    }
-    true
+// Whether the lists have the same values.
+fn alike<A: Allocator, B: Allocator>(items: &[Value<A>], others: &[Value<B>]) -> bool {
+    items.len() == others.len()
+        && items
+            .iter()
+            .zip(others.iter())
+            .all(|(item, other)| item.same(other))
 }
 
-// Adds ten texts, each again where it was refused: how often that was, and whether the list was as before each time,
-// and at the end the list that it was to be.
-fn fill(alloc: Global, nth: u64) -> Result<(u64, bool), AllocError> {
+// Adds ten texts with the nth allocation refused, each again where it was refused.
+fn fill(alloc: Global, nth: u64) -> Result<Run, Fail> {
     let heap = Refusing::new(alloc, nth);
     let mut items = Vec::new(&heap);
     let mut wanted = Vec::new(alloc);
-    let mut refused = 0u64;
+    let mut failed = false;
     let mut as_before = true;
     for _ in 0..10u8 {
         if add(&mut items, &heap).is_err() {
-            refused = refused.saturating_add(1);
-            as_before = as_before & alike(&items, &wanted);
+            failed = true;
+            as_before = as_before && alike(&items, &wanted);
             add(&mut items, &heap)?;
         }
         add(&mut wanted, alloc)?;
     }
-    Ok((refused, as_before & alike(&items, &wanted)))
+    Ok(seen(heap.left(), failed, as_before && alike(&items, &wanted)))
 }
 
 #[test]
 fn lists(rt: HostRuntime) -> Result<(), Fail> {
-    let mut growths = 0u64;
-    for nth in 1..1000u64 {
-        let (refused, as_before) = fill(rt.alloc(), nth)?;
-        assert!(rt; as_before, "at {nth}");
-        if refused == 0 {
-            break;
-        }
-        assert_eq!(rt; refused, 1, "at {nth}");
-        growths = nth;
+    for nth in 1..=11u64 {
+        assert_eq!(rt; fill(rt.alloc(), nth)?, Run::Refused, "at {nth}");
     }
-    assert!(rt; growths >= 11, "{growths}");
-    assert!(rt; growths < 999, "{growths}");
+    assert_eq!(rt; fill(rt.alloc(), 100)?, Run::Whole);
     Ok(())
 }
 
-// Whether a name was refused by each call that makes one, and made afterwards.
-fn name_refused(alloc: Global) -> Result<(bool, bool), AllocError> {
+// A name read with its allocation refused; it is read again afterwards.
+fn name_refused(alloc: Global, bytes: &[u8]) -> Result<Run, Fail> {
     let heap = Refusing::new(alloc, 1);
-    let refused = Name::read(&heap, b"name").is_err();
-    let Ok(name) = Name::read(&heap, b"name") else {
-        return Ok((refused, false));
-    };
-    let other = Refusing::new(alloc, 1);
-    let refused_copy = name.copy_in(&other).is_err();
-    let copy = name.copy_in(&other)?;
-    Ok((refused && refused_copy, copy.bytes() == name.bytes()))
+    let fault = Name::read(&heap, bytes).err();
+    let left = heap.left();
+    let name = Name::read(&heap, bytes)?;
+    Ok(seen(
+        left,
+        fault == Some(NameError::Memory),
+        name.bytes() == bytes,
+    ))
+}
+
+// A name copied with its allocation refused; it is copied again afterwards.
+fn copy_name_refused(alloc: Global, bytes: &[u8]) -> Result<Run, Fail> {
+    let name = Name::read(alloc, bytes)?;
+    let heap = Refusing::new(alloc, 1);
+    let failed = name.copy_in(&heap).is_err();
+    let left = heap.left();
+    let copy = name.copy_in(&heap)?;
+    Ok(seen(left, failed, copy.bytes() == bytes))
 }
 
 #[test]
 fn names(rt: HostRuntime) -> Result<(), Fail> {
-    assert_eq!(rt; name_refused(rt.alloc())?, (true, true));
-    Ok(())
-}
-
-// Each collection grown a few times.
-fn collections<A: Allocator + Copy>(alloc: A) -> Result<usize, AllocError> {
-    let mut list = Vec::new(alloc);
-    let mut queue = VecDeque::new(alloc);
-    let mut map = BTreeMap::new(alloc);
-    let mut text = String::new(alloc);
-    for i in 0..20u8 {
-        list.push(i)?;
-        queue.push_back(i)?;
-        map.insert(i, u32::from(i))?;
-        text.push_str("xyz")?;
-    }
-    Ok(list.len())
-}
-
-#[test]
-fn every_collection(rt: HostRuntime) -> Result<(), Fail> {
-    let mut growths = 0u64;
-    for nth in 1..1000u64 {
-        let heap = Refusing::new(rt.alloc(), nth);
-        let answer = collections(&heap);
-        if heap.left() > 0 {
-            assert!(rt; answer.is_ok());
-            break;
-        }
-        assert!(rt; answer.is_err(), "at {nth}");
-        growths = nth;
-    }
-    assert!(rt; growths > 10, "{growths}");
-    assert!(rt; growths < 999, "{growths}");
+    assert_eq!(rt; name_refused(rt.alloc(), b"name")?, Run::Refused);
+    assert_eq!(rt; copy_name_refused(rt.alloc(), b"name")?, Run::Refused);
     Ok(())
 }

@@ -1,22 +1,37 @@
-use Rattle.std.proofs.Common.{rules, arith, ap}
+use Rattle.std.proofs.Common.{rules, arith, ap, sym, ◌∙◌}
 use Rattle.canvas_model.specs.Value.{values_of, list}
+use Rattle.canvas_value.specs.Sizes.{value_size, values_size}
+use Rattle.canvas_value.proofs.Copied.{same_more}
 use Rattle.canvas_value.proofs.Members.{members_below, member_within, lists_alike}
 use Rattle.canvas_value.proofs.+alike.Goals as goal
 
 pub alike-fact_in-eq : goal.alike-fact_in-eq
 alike-fact_in-eq g t c = c.as_str.utf8
 
-pub alike-fact_in-eq-in-Text-node : goal.alike-fact_in-eq-in-Text-node
-alike-fact_in-eq-in-Text-node g t c = c.as_str-in-Text-node.utf8
+pub alike-fact_in-eq-in-Text-Text : goal.alike-fact_in-eq-in-Text-Text
+alike-fact_in-eq-in-Text-Text g t c = c.as_str-in-Text-Text.utf8
 
 pub alike-alike_items-requires : goal.alike-alike_items-requires
-alike-alike_items-requires g t c κs within = (omega (arith, members_below c.one.inside.node c.in-List.xs c.args.one.now c.one.view_is c.in-List.is), within)
+alike-alike_items-requires g t c κs within =
+    let lent = ap (λ vs. values_size (values_of vs)) c.deref.ensures.value in
+    (omega (arith, lent, members_below c.value.inside.variant c.in-List-List.items c.args.value.now c.value.view_is c.in-List-List.is-0), within)
 
-pub alike-returns-in-List-node : goal.alike-returns-in-List-node
-alike-returns-in-List-node g t c = (
-  λ yes. search (rules, ap (λ ps. list (values_of ps)) (c.alike_items.ensures.0 yes)),
-  λ same. c.alike_items.ensures.1 (lists_alike c.one.inside.node c.in-List.xs c.other.inside.node c.in-List-node.ys c.args.one.now c.args.other.now c.one.view_is c.in-List.is c.other.view_is c.in-List-node.is same),
-)
+pub alike-returns-in-List-List : goal.alike-returns-in-List-List
+alike-returns-in-List-List g t c =
+    let one = c.deref.ensures.value in
+    let other = c.deref-in-List-List.ensures.value in (
+      λ yes. search (rules, ap (λ ps. list (values_of ps)) (sym one ∙ c.alike_items.ensures.0 yes ∙ other)),
+      λ same. c.alike_items.ensures.1 (one ∙ lists_alike c.value.inside.variant c.in-List-List.items c.other.inside.variant c.in-List-List.others c.args.value.now c.args.other.now c.value.view_is c.in-List-List.is-0 c.other.view_is c.in-List-List.is-1 same ∙ sym other),
+    )
 
 pub alike_items-alike-requires : goal.alike_items-alike-requires
-alike_items-alike-requires g t c κs within = search (rules, member_within c.args.xs.now.items c.loop-i.i c.index.result.now)
+alike_items-alike-requires g t c κs within =
+    let small = member_within c.args.items.now c.loop-at.at c.index-items-at.result (omega arith) in
+    let same = ap value_size c.index-items-at.is in
+    (omega (arith, small, same), within)
+
+pub alike_items-loop-at-preserved : goal.alike_items-loop-at-preserved
+alike_items-loop-at-preserved g t c = (
+  same_more c.args.items.now c.args.others.now c.loop-at.at c.index-items-at.result c.index-others-at.result (omega arith) (omega (arith, c.loop-at.invariant.1)) c.index-items-at.is c.index-others-at.is (c.alike.ensures.0 c.if-not-alike.false) c.loop-at.invariant.0,
+  c.loop-at.invariant.1,
+)

@@ -6,9 +6,9 @@ use Rattle.canvas_value.proofs.+depth.Goals as goal
 
 pub deepest-loop-item-preserved : goal.deepest-loop-item-preserved
 deepest-loop-item-preserved g t c =
-    let more = take_more c.deref-item-items.result.now c.loop-item.item-index c.item-item.result c.loop-item-test.true in
+    let more = take_more c.args.items.now c.loop-item.item-index c.item-item.result c.loop-item-test.true in
     let same = ap depth c.item-item.is in
     rw (more, members_depth-more) (omega (arith, same))
 
 pub deepest-depth-requires : goal.deepest-depth-requires
-deepest-depth-requires g t c κs within = search (rules, member_within c.deref-item-items.result.now c.loop-item.item-index c.item-item.result c.loop-item-test.true)
+deepest-depth-requires g t c κs within = search (rules, member_within c.args.items.now c.loop-item.item-index c.item-item.result c.loop-item-test.true)

@@ -7,7 +7,7 @@ abbrev pub decreases-Value::depth : goal.decreases-Value::depth
 decreases-Value::depth g l = 2 * value_size l.self.now
 
 abbrev pub decreases-deepest : goal.decreases-deepest
-decreases-deepest g l = 2 * values_size (values_of l.items.now.items) + 1
+decreases-deepest g l = 2 * values_size (values_of l.items.now) + 1
 
 abbrev pub invariant-deepest-loop-item : goal.invariant-deepest-loop-item
-invariant-deepest-loop-item g l = l.most ≡ min (members_depth (values_of (take l.item-index l.item-items))) 4294967295
+invariant-deepest-loop-item g l = l.most ≡ min (members_depth (values_of (take l.item-index l.items))) 4294967295

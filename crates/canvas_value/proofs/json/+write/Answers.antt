@@ -1,19 +1,16 @@
-use Rattle.std.proofs.Common.{rules, ap, sym, refl, map, ◌∙◌}
-use Rattle.serde_json.specs.View.{view}
+use Rattle.std.proofs.Common.{◌∷◌, codes, rules, ap, map, ◌∙◌, arith}
+use Rattle.std.proofs.lemmas.List.{take_all}
+use Rattle.serde_json.specs.Data.{string}
 use Rattle.canvas_value.specs.Json.{json}
-use Rattle.canvas_value.specs.Seen.{seen}
 use Rattle.canvas_value.proofs.Members.{member_within}
 use Rattle.canvas_value.proofs.Writing.{list_tree}
 use Rattle.canvas_value.proofs.json.+write.Goals as goal
 
-pub write_items-write-requires : goal.write_items-write-requires
-write_items-write-requires g t c κs within = search (rules, member_within c.deref-member-items.result.now c.loop-member.member-index c.member-item.result c.loop-member-test.true)
+pub write_list-write-requires : goal.write_list-write-requires
+write_list-write-requires g t c κs within = search (rules, member_within c.args.members.now c.loop-member.member-index c.member-item.result c.loop-member-test.true)
 
-pub write-returns-in_ok-write_items-in-List : goal.write-returns-in_ok-write_items-in-List
-write-returns-in_ok-write_items-in-List g t c =
-    let begun = ap (map view) c.in_ok-push-in-List.ensures.items in
-    let head = c.in_ok-try_from_str-in-List.ensures in
-    let empty = c.in_ok-items-in-List.ensures.items in
-    let done = c.in_ok-write_items-in-List.ensures in
-    let same = sym (ap seen c.in-List.is) ∙ c.node.ensures in
-    c.from-in-List.ensures ∙ list_tree c.write_items.new.items.items c.in-List.members.items (done ∙ rw (begun, empty, head) refl) ∙ ap json same
+pub write_list-returns : goal.write_list-returns
+write_list-returns g t c =
+    let whole = take_all c.loop-member.member-index c.args.members.now (omega arith) in
+    let written = c.loop-member.invariant ∙ ap (λ ms. string (codes "list") ∷ map json ms) whole in
+    c.from.ensures ∙ list_tree c.loop-member.items.items c.args.members.now written

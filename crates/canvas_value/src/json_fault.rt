@@ -1,0 +1,40 @@
+// Why a tree is no value.
+use std::alloc::{AllocError, AllocFailed};
+use thiserror::Error;
+
+/// Why [`from_json`](crate::Value::from_json) gives no value: the first reason that holds, in this
+/// order. But memory can be refused before the tree is read whole.
+#[derive(Clone, Copy, Debug, PartialEq, Eq, Error)]
+pub enum JsonFault {
+    /// The tree isn't that of a value, whatever its whole numbers: it has `null`, an object,
+    /// another array, or a number that isn't a whole number of 64 bits.
+    #[error("the tree isn't that of a value")]
+    NotAValue,
+    /// The tree is that of a value but for a number past the signed 64 bits, or a colour that isn't
+    /// one of 0 to 4294967295.
+    #[error("a number is out of range")]
+    OutOfRange,
+    /// Memory was refused.
+    #[error("out of memory")]
+    Memory,
+}
+
+impl From<AllocError> for JsonFault {
+    ghost use Rattle.canvas_value.specs.Faults.{IsMemory};
+
+    ghost from_gives = { λ _ f. IsMemory f };
+
+    fn from(_error: AllocError) -> JsonFault {
+        JsonFault::Memory
+    }
+}
+
+impl<T: Drop> From<AllocFailed<T>> for JsonFault {
+    ghost use Rattle.canvas_value.specs.Faults.{IsMemory};
+
+    ghost from_gives = { λ _ f. IsMemory f };
+
+    fn from(_error: AllocFailed<T>) -> JsonFault {
+        JsonFault::Memory
+    }
+}
