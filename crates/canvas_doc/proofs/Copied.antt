@@ -1,9 +1,9 @@
--- Copying and comparing lists of entries.
+-- Copying and comparing lists of pairs.
 use Rattle.std.proofs.Common.{◌≡◌, ◌↔◌, ℕ, ◌+◌, ◌<◌, List, [], ◌∷◌, ◌++◌, length, get_or, take, T, sym, ap, ◌∙◌}
 use Rattle.std.proofs.lemmas.List.{take_more}
 use Rattle.std.specs.declared.cmp.Ordering.{Ordering}
 use Rattle.std.specs.FinMap as map
-use Rattle.canvas_doc.proofs.Maps.{entries_are}
+use Rattle.canvas_doc.proofs.Maps.{pairs_are}
 
 module _ {K X : Type 0} where
   pub copied_more : (xs ys zs : List (K × X)) (i : ℕ) (x : K × X) (o : X) → i < length xs → x ≡ get_or xs i x → ys ≡ take i xs → o ≡ x.1 → zs ≡ ys ++ (x.0, o) ∷ [] → zs ≡ take (i + 1) xs
@@ -17,7 +17,7 @@ module _ {K X : Type 0} where
   same_more xs ys i x y lt lt2 is is2 same so_far =
       take_more xs i x lt ∙ ap (λ (l : List (K × X)). l ++ get_or xs i x ∷ []) so_far ∙ ap (λ (e : K × X). take i ys ++ e ∷ []) (sym is ∙ same ∙ is2) ∙ sym (take_more ys i y lt2)
 
-  -- two maps are one exactly where their entries are
+  -- two maps are one exactly where their pairs are
   pub maps_same : {R : K → K → Ordering} (es fs gs hs : List (K × X)) (m n : map.FinMap R X) → T (map.is_sorted R es) → T (map.is_sorted R fs) → map.from_sorted es ≡ m → map.from_sorted fs ≡ n → gs ≡ es → hs ≡ fs → (gs ≡ hs) ↔ (m ≡ n)
   maps_same es fs gs hs m n a b v w g h =
-      (λ e. sym v ∙ ap map.from_sorted (sym g ∙ e ∙ h) ∙ w, λ e. g ∙ sym (entries_are es m a v) ∙ ap map.entries e ∙ entries_are fs n b w ∙ sym h)
+      (λ e. sym v ∙ ap map.from_sorted (sym g ∙ e ∙ h) ∙ w, λ e. g ∙ sym (pairs_are es m a v) ∙ ap map.entries e ∙ pairs_are fs n b w ∙ sym h)

@@ -9,3 +9,4 @@ pub mod Revised
 pub mod Listed
 pub mod Rows
 pub mod Props
+pub mod Whole

@@ -9,7 +9,7 @@ use Rattle.std.proofs.lemmas.Map.Views.{Contains-from_any}
 use Rattle.canvas_model.specs.declared.ObjId.{ObjId}
 use Rattle.canvas_model.specs.Ids.{id_cmp, root, same_id}
 use Rattle.canvas_model.specs.Document.{Doc, Object, Place, place_of, revise, without, IsDocument}
-use Rattle.canvas_doc.specs.Entries.{is_other, IsEntryAt, IsGapAt}
+use Rattle.canvas_doc.specs.Sorted.{is_other, IsPairAt, IsGapAt}
 use Rattle.canvas_doc.proofs.Maps.{exact_ids, ids_total, get_is, put_sorted, put_inserts, differ, same_exact}
 use Rattle.canvas_doc.proofs.Kept.{get_removed, nothing_removed, kept_sorted, kept_is, removed_is}
 use Rattle.canvas_doc.proofs.Rooted.{dead_there, document_put, document_set}
@@ -35,7 +35,7 @@ document_kept p d n got root_kept h =
       ] refl;
     }
 
--- the entries without that of one id
+-- the pairs without that of one id
 module _ (es fs : List (ObjId × Object)) (d : Doc) (id : ObjId) (sorted : T (map.is_sorted id_cmp es)) (view : map.from_sorted es ≡ d) (kept : fs ≡ where_key id_cmp (is_other id_cmp id) es) where
   pub removed_sorted : T (map.is_sorted id_cmp fs)
   removed_sorted = kept_sorted id_cmp (is_other id_cmp id) es fs sorted kept
@@ -46,7 +46,7 @@ module _ (es fs : List (ObjId × Object)) (d : Doc) (id : ObjId) (sorted : T (ma
   pub removed_document : id ≢ root → IsDocument d → IsDocument (map.from_sorted {R = id_cmp} fs)
   removed_document ne h = subst IsDocument (sym removed_doc) (document_kept (is_other id_cmp id) d (map.remove d id) (get_removed ids_total exact_ids d id) (ap not (differ root id (λ e. ne (sym e)))) h)
 
--- the entries without those of some ids
+-- the pairs without those of some ids
 abbrev pub stays : List ObjId → ObjId → Bool
 stays ids q = not (list_any (same_id q) ids)
 
@@ -69,13 +69,13 @@ module _ (es fs : List (ObjId × Object)) (d : Doc) (ids : List ObjId) (sorted :
   pub without_document : (Contains ids root → ⊥) → IsDocument d → IsDocument (map.from_sorted {R = id_cmp} fs)
   without_document absent h = subst IsDocument (sym without_is) (document_kept (stays ids) d (without d ids) get_without (root_stays absent) h)
 
--- the entries of which one has another object
-module _ (f : Object → Object) (es fs : List (ObjId × Object)) (d : Doc) (id : ObjId) (i : ℕ) (e : ObjId × Object) (o : Object) (sorted : T (map.is_sorted id_cmp es)) (view : map.from_sorted es ≡ d) (same : fs ≡ es) (found : IsEntryAt id_cmp fs id i) (is : e ≡ get_or es i e) (changed : o ≡ f e.1) where
-  found_in : IsEntryAt id_cmp es id i
-  found_in = subst (λ es. IsEntryAt id_cmp es id i) same found
+-- the pairs of which one has another object
+module _ (f : Object → Object) (es fs : List (ObjId × Object)) (d : Doc) (id : ObjId) (i : ℕ) (e : ObjId × Object) (o : Object) (sorted : T (map.is_sorted id_cmp es)) (view : map.from_sorted es ≡ d) (same : fs ≡ es) (found : IsPairAt id_cmp fs id i) (is : e ≡ get_or es i e) (changed : o ≡ f e.1) where
+  found_in : IsPairAt id_cmp es id i
+  found_in = subst (λ es. IsPairAt id_cmp es id i) same found
 
-  changed_entries : slice_set es i (e.0, o) ≡ map.put id_cmp id (f e.1) es
-  changed_entries =
+  changed_pairs : slice_set es i (e.0, o) ≡ map.put id_cmp id (f e.1) es
+  changed_pairs =
       ap (λ o. slice_set es i (e.0, o)) changed
       ∙ ap (λ (x : ObjId × Object). slice_set es i (x.0, f e.1)) is
       ∙ set_puts ids_total es sorted id i found_in.in_range found_in.tied e (f e.1)
@@ -84,10 +84,10 @@ module _ (f : Object → Object) (es fs : List (ObjId × Object)) (d : Doc) (id 
   there = get_is es d id sorted view ∙ found_in.found e ∙ ap (λ (x : ObjId × Object). Some x.1) (sym is)
 
   inserted : map.from_sorted (slice_set es i (e.0, o)) ≡ map.insert d id (f e.1)
-  inserted = put_inserts ids_total es _ d id (f e.1) sorted view changed_entries
+  inserted = put_inserts ids_total es _ d id (f e.1) sorted view changed_pairs
 
   pub changed_sorted : T (map.is_sorted id_cmp (slice_set es i (e.0, o)))
-  changed_sorted = put_sorted ids_total es _ id (f e.1) sorted changed_entries
+  changed_sorted = put_sorted ids_total es _ id (f e.1) sorted changed_pairs
 
   pub changed_is : map.from_sorted (slice_set es i (e.0, o)) ≡ revise d id (option_map f (map.get d id))
   changed_is = inserted ∙ sym (ap (λ x. revise d id (option_map f x)) there)
@@ -100,7 +100,7 @@ module _ (f : Object → Object) (es fs : List (ObjId × Object)) (d : Doc) (id 
   pub set_document : (f e.1).kind ≡ e.1.kind → (f e.1).place ≡ e.1.place → IsDocument d → IsDocument (map.from_sorted {R = id_cmp} (slice_set es i (e.0, o)))
   set_document kind place h = subst IsDocument (sym inserted) (document_set d id e.1 (f e.1) there kind place h)
 
--- the entries of which one was written back as it was
+-- the pairs of which one was written back as it was
 pub written_back : (es : List (ObjId × Object)) (i : ℕ) (e : ObjId × Object) (o : Object) → e ≡ get_or es i e → o ≡ e.1 → slice_set es i (e.0, o) ≡ es
 written_back es i e o is same = ap (λ o. slice_set es i (e.0, o)) same ∙ ap (slice_set es i) is ∙ set-get_or es i e
 

@@ -1,4 +1,4 @@
--- The rows of the children among the entries of a document, and their order.
+-- The rows of the children among the pairs of a document, and their order.
 use Rattle.std.proofs.Common.{◌≡◌, ℕ, zero, suc, ◌+◌, ◌<◌, Bool, true, false, cond, List, [], ◌∷◌, ◌++◌, map, length, get_or, take, Option, Some, None, T, refl, sym, ap, subst, ◌∙◌, arith}
 use Rattle.std.specs.Borrow.{Bor}
 use Rattle.std.specs.Option.{option_map, option_map_or, option_and_then}
@@ -18,14 +18,14 @@ use Rattle.std.proofs.lemmas.Map.Keys.{IsDistinct-from_sorted, IsDistinct-from_a
 use Rattle.canvas_model.specs.declared.ObjId.{ObjId}
 use Rattle.canvas_model.specs.Ids.{id_cmp, root, same_id}
 use Rattle.canvas_model.specs.Document.{Doc, Object, Place, Pos, place_of}
-use Rattle.canvas_doc.specs.Entries.{IsUnderAt}
+use Rattle.canvas_doc.specs.Siblings.{IsUnderAt}
 use Rattle.canvas_model.specs.Children.{AreChildren, parent_of, position_of, child_cmp}
 use Rattle.canvas_doc.specs.ChildRows.{child_row, child_rows, row_of}
 use Rattle.canvas_doc.proofs.Maps.{ids_total, same_exact, get_is}
-use Rattle.canvas_doc.proofs.Searched.{below, head_below, second, entry_at}
+use Rattle.canvas_doc.proofs.Searched.{below, head_below, second, pair_at}
 use Rattle.canvas_doc.proofs.Standing.{listed, some_is}
 
--- ---- the row of an entry
+-- ---- the row of a pair
 
 -- what stands under the parent gives a row
 row_there : (parent : ObjId) (pos : Pos) (e : ObjId × Object) → IsUnderAt parent pos e → child_row parent e ≡ Some (pos, e.0)
@@ -55,7 +55,7 @@ row_is parent e r h =
       ] refl h
     ] refl h
 
--- ---- one more entry
+-- ---- one more pair
 module _ (es : List (ObjId × Object)) (i : ℕ) (x : ObjId × Object) (lt : i < length es) (is : x ≡ get_or es i x) (parent : ObjId) where
   rows_more : (o : Option (Pos × ObjId)) → child_row parent x ≡ o → child_rows parent (take (i + 1) es) ≡ child_rows parent (take i es) ++ cons_option o []
   rows_more o row =
@@ -177,11 +177,11 @@ module _ (es : List (ObjId × Object)) (d : Doc) (parent : ObjId) (sorted : T (f
       let before = Contains-permutation zs ys z (IsPermutation-sym ys zs permutation) inside in
       let long : before.0 < length (child_rows parent es) = subst (λ l. before.0 < length l) rows (subst (λ n. before.0 < n) (sym (length-map ys row_of)) before.1) in
       let there : get_or (child_rows parent es) before.0 (row_of z) ≡ row_of z = sym (ap (λ l. get_or l before.0 (row_of z)) rows) ∙ get_or-map row_of ys before.0 z (row_of z) before.1 ∙ ap row_of before.2 in
-      let entry = source (child_row parent) es before.0 (row_of z) long there in
-      let e = get_or es entry.0 (z.1, nothing) in
-      let is = row_is parent e (row_of z) (entry.2 (z.1, nothing)) in
-      let tied : (w : ObjId × Object) → id_cmp (get_or es entry.0 w).0 z.1 ≡ Equal = λ w. subst (λ q. id_cmp q z.1 ≡ Equal) (sym (row_is parent (get_or es entry.0 w) (row_of z) (entry.2 w)).1) (tied_itself ids_total z.1) in
-      ap (option_and_then (λ (o : Object). o.place)) (get_is es d z.1 sorted view ∙ entry_at ids_total es sorted z.1 entry.0 entry.1 tied (z.1, nothing)) ∙ is.0
+      let pair = source (child_row parent) es before.0 (row_of z) long there in
+      let e = get_or es pair.0 (z.1, nothing) in
+      let is = row_is parent e (row_of z) (pair.2 (z.1, nothing)) in
+      let tied : (w : ObjId × Object) → id_cmp (get_or es pair.0 w).0 z.1 ≡ Equal = λ w. subst (λ q. id_cmp q z.1 ≡ Equal) (sym (row_is parent (get_or es pair.0 w) (row_of z) (pair.2 w)).1) (tied_itself ids_total z.1) in
+      ap (option_and_then (λ (o : Object). o.place)) (get_is es d z.1 sorted view ∙ pair_at ids_total es sorted z.1 pair.0 pair.1 tied (z.1, nothing)) ∙ is.0
     where
       nothing : Object
       nothing = Rattle.canvas_model.specs.Document.new_object Rattle.canvas_model.specs.declared.Kind.TheVariants.Document None
@@ -236,12 +236,12 @@ module _ (es : List (ObjId × Object)) (d : Doc) (parent : ObjId) (sorted : T (f
               elim o.place as (λ p. o.place ≡ p → option_map (λ (p : Place). p.parent) p ≡ Some parent → Contains ids q) [
                 | None ↦ λ e2 child. absurd (let f : None ≡ Some parent = child in cc)
                 | Some p ↦ λ e2 child.
-                    let entry = listed es q o (sym (get_is es d q sorted view) ∙ e) in
+                    let pair = listed es q o (sym (get_is es d q sorted view) ∙ e) in
                     let named : p.parent ≡ parent = some_is _ _ child in
-                    let there : (w : ObjId × Object) → child_row parent (get_or es entry.0 w) ≡ Some (p.pos, q) = λ w.
-                    row_there parent p.pos (get_or es entry.0 w) (ap (λ (e : ObjId × Object). e.1.place) (entry.2 w) ∙ e2 ∙ ap (λ x. Some (record { parent = x; pos = p.pos })) named)
-                    ∙ ap (λ (e : ObjId × Object). Some (p.pos, e.0)) (entry.2 w) in
-                    row_is_listed q p.pos (has (child_row parent) es entry.0 (p.pos, q) entry.1 there)
+                    let there : (w : ObjId × Object) → child_row parent (get_or es pair.0 w) ≡ Some (p.pos, q) = λ w.
+                    row_there parent p.pos (get_or es pair.0 w) (ap (λ (e : ObjId × Object). e.1.place) (pair.2 w) ∙ e2 ∙ ap (λ x. Some (record { parent = x; pos = p.pos })) named)
+                    ∙ ap (λ (e : ObjId × Object). Some (p.pos, e.0)) (pair.2 w) in
+                    row_is_listed q p.pos (has (child_row parent) es pair.0 (p.pos, q) pair.1 there)
               ] refl child
         ] refl child
 

@@ -1,7 +1,7 @@
--- What a binary search by key finds among entries that are in order.
-use Rattle.std.proofs.Common.{◌≡◌, ℕ, zero, suc, ◌+◌, ◌<◌, ◌≤◌, Bool, true, false, cond, ◌&&◌, List, [], ◌∷◌, length, get_or, Some, None, Result, Ok, Err, IfOk, IfErr, T, refl, sym, ap, subst, ◌∙◌, arith, add-one}
+-- What a binary search by key finds among pairs that are in order.
+use Rattle.std.proofs.Common.{◌≡◌, ◌↔◌, IsTrue, ℕ, zero, suc, ◌+◌, ◌<◌, ◌≤◌, Bool, true, false, cond, ◌&&◌, List, [], ◌∷◌, length, get_or, Some, None, Result, Ok, Err, IfOk, IfErr, T, refl, sym, ap, subst, ◌∙◌, arith, add-one}
 use Rattle.std.specs.Prelude.{slice_set}
-use Rattle.std.specs.List.{insert, remove, AllWithin}
+use Rattle.std.specs.List.{insert, remove, AllWithin, AllAdjacentBelow, IsAllAdjacentAnswer}
 use Rattle.std.specs.List.Sorted.{IsSearchInRange, IsBinarySearchResult, IsNonDecreasingBy, IsSortedBy}
 use Rattle.std.proofs.lemmas.List.Sorted.{searchable_from_sorted}
 use Rattle.std.proofs.lemmas.Cmp.{tied_back}
@@ -11,11 +11,15 @@ use Rattle.std.specs.declared.cmp.Ordering.{Ordering}
 use Rattle.std.specs.declared.cmp.Ordering.TheVariants.{Less, Equal, Greater}
 use Rattle.std.specs.Ordering.{is_lt, is_eq, ordering_index, ordering_reverse}
 use Rattle.std.specs.FinMap.{is_sorted, find, put}
-use Rattle.canvas_doc.specs.Entries.{is_other, IsEntryAt, IsGapAt}
+use Rattle.canvas_doc.specs.Sorted.{is_other, IsPairAt, IsGapAt}
 
 first : (a b : Bool) → T (a && b) → T a
 first true b p = tt
 first false b p = p
+
+both : (a b : Bool) → T a → T b → T (a && b)
+both true b p q = q
+both false b p q = p
 
 pub second : (a b : Bool) → T (a && b) → T b
 second true b p = p
@@ -37,11 +41,19 @@ module _ {K X : Type 0} {R : K → K → Ordering} (o : IsTotalOrder R) where
   below x [] = Unit {0}
   below x (e ∷ es) = (R x e.0 ≡ Less) × below x es
 
+  test_from_below : (x : K) (es : List (K × X)) → below x es → T (below_all R x es)
+  test_from_below x [] h = tt
+  test_from_below x (e ∷ es) h = subst (λ r. T (is_lt r && below_all R x es)) (sym h.0) (test_from_below x es h.1)
+
+  pub below_less : (x y : K) (es : List (K × X)) → R x y ≡ Less → below y es → below x es
+  below_less x y [] less h = tt
+  below_less x y (e ∷ es) less h = (o.trans x y e.0 less h.0, below_less x y es less h.1)
+
   below_from_test : (x : K) (es : List (K × X)) → T (below_all R x es) → below x es
   below_from_test x [] h = tt
   below_from_test x (e ∷ es) h = (less _ (first _ _ h), below_from_test x es (second _ _ h))
 
-  below_at : (x : K) (es : List (K × X)) → below x es → (i : ℕ) (d : K × X) → i < length es → R x (get_or es i d).0 ≡ Less
+  pub below_at : (x : K) (es : List (K × X)) → below x es → (i : ℕ) (d : K × X) → i < length es → R x (get_or es i d).0 ≡ Less
   below_at x [] h i d lt = absurd (omega arith)
   below_at x (e ∷ es) h zero d lt = h.0
   below_at x (e ∷ es) h (suc i) d lt = below_at x es h.1 i d (omega arith)
@@ -55,27 +67,41 @@ module _ {K X : Type 0} {R : K → K → Ordering} (o : IsTotalOrder R) where
   adjacent (e ∷ es) h zero d lt = below_at e.0 es (head_below e es h) 0 d (omega arith)
   adjacent (e ∷ es) h (suc i) d lt = rw add-one (rw add-one at (adjacent es (second _ _ h) i d (omega arith)))
 
+  -- keys that are each less than the next one rise
+  rising : (es : List (K × X)) → AllAdjacentBelow (λ x y. true ≡ is_lt (R x.0 y.0)) es (length es) → T (is_sorted R es)
+  rising [] h = tt
+  rising (e ∷ []) h = tt
+  rising (e ∷ f ∷ fs) h =
+      let rest = rising (f ∷ fs) (λ k d lt. rw add-one (rw add-one at (h (suc k) d (omega (arith, lt))))) in
+      let here : R e.0 f.0 ≡ Less = less _ (subst T (h 0 e (omega arith)) tt) in
+      both _ _ (test_from_below e.0 (f ∷ fs) (here, below_less e.0 f.0 fs here (head_below f fs rest))) rest
+
+  pub rising_answer : (es : List (K × X)) (r : Bool) → IsAllAdjacentAnswer (λ x y b. b ≡ is_lt (R x.0 y.0)) es r → IsTrue r ↔ T (is_sorted R es)
+  rising_answer es true h = (λ _. rising es h, λ _. refl)
+  rising_answer [] false h = absurd (omega (arith, h.1))
+  rising_answer (e ∷ es) false h = (λ t. absurd (cc), λ sorted. absurd (let turned : false ≡ true = h.2 e ∙ ap is_lt (adjacent (e ∷ es) sorted h.0 e h.1) in cc))
+
   sorted_by : (es : List (K × X)) → T (is_sorted R es) → IsSortedBy (λ a b. is_lt (R a.0 b.0)) es
   sorted_by es h i d low lt = rw (greater o _ _ (adjacent es h i d lt)) refl
 
   rises : (es : List (K × X)) → T (is_sorted R es) → (k : K) → IsNonDecreasingBy (λ e. ordering_index (R e.0 k)) es
   rises es h k = searchable_from_sorted o (λ e. e.0) es k (sorted_by es h)
 
-  -- an entry that ties with k is found
-  pub entry_at : (es : List (K × X)) → T (is_sorted R es) → (k : K) (i : ℕ) → i < length es → ((d : K × X) → R (get_or es i d).0 k ≡ Equal) → (d : K × X) → find R k es ≡ Some (get_or es i d).1
-  entry_at [] h k i lt ties d = absurd (omega arith)
-  entry_at (e ∷ es) h k zero lt ties d = rw (tied_back o _ _ (ties d)) refl
-  entry_at (e ∷ es) h k (suc i) lt ties d =
+  -- a pair that ties with k is found
+  pub pair_at : (es : List (K × X)) → T (is_sorted R es) → (k : K) (i : ℕ) → i < length es → ((d : K × X) → R (get_or es i d).0 k ≡ Equal) → (d : K × X) → find R k es ≡ Some (get_or es i d).1
+  pair_at [] h k i lt ties d = absurd (omega arith)
+  pair_at (e ∷ es) h k zero lt ties d = rw (tied_back o _ _ (ties d)) refl
+  pair_at (e ∷ es) h k (suc i) lt ties d =
       let further = o.congr _ _ e.0 (ties d) in
       let later = greater o _ _ (below_at e.0 es (head_below e es h) i d (omega arith)) in
-      rw (sym further ∙ later) (entry_at es (second _ _ h) k i (omega arith) ties d)
+      rw (sym further ∙ later) (pair_at es (second _ _ h) k i (omega arith) ties d)
 
   all_below : (k : K) (es : List (K × X)) → ((i : ℕ) (d : K × X) → i < length es → R k (get_or es i d).0 ≡ Less) → below k es
   all_below k [] h = tt
   all_below k (e ∷ es) h = (h 0 e (omega arith), all_below k es (λ i d lt. h (suc i) d (omega arith)))
 
   -- a key below all isn't found
-  missing : (k : K) (es : List (K × X)) → below k es → find R k es ≡ None
+  pub missing : (k : K) (es : List (K × X)) → below k es → find R k es ≡ None
   missing k [] h = refl
   missing k (e ∷ es) h = rw h.0 (missing k es h.1)
 
@@ -92,14 +118,14 @@ module _ {K X : Type 0} {R : K → K → Ordering} (o : IsTotalOrder R) where
       let here = greater o _ _ (smaller 0 e (omega arith) (omega arith)) in
       (rw here rest.0, λ x. rw here (ap (λ es. e ∷ es) (rest.1 x)))
 
-  pub searched : (es : List (K × X)) → T (is_sorted R es) → (k : K) (r : Result ℕ ℕ) → IsSearchInRange r (length es) → IsBinarySearchResult (λ e. R e.0 k) es r → IfOk r (IsEntryAt R es k) × IfErr r (IsGapAt R es k)
-  searched es h k (Ok i) within equal = (record { in_range = within; tied = equal; found = entry_at es h k i within equal }, tt)
+  pub searched : (es : List (K × X)) → T (is_sorted R es) → (k : K) (r : Result ℕ ℕ) → IsSearchInRange r (length es) → IsBinarySearchResult (λ e. R e.0 k) es r → IfOk r (IsPairAt R es k) × IfErr r (IsGapAt R es k)
+  searched es h k (Ok i) within equal = (record { in_range = within; tied = equal; found = pair_at es h k i within equal }, tt)
   searched es h k (Err i) within parted =
       let point = parted (rises es h k) in
       let gap = gap_at es k i within point.0 point.1 in
       (tt, record { in_range = within; absent = gap.0; put_there = gap.1 })
 
-  -- the entry of a key with another value
+  -- the pair of a key with another value
   pub set_puts : (es : List (K × X)) → T (is_sorted R es) → (k : K) (i : ℕ) → i < length es → ((d : K × X) → R (get_or es i d).0 k ≡ Equal) → (d : K × X) (v : X) → slice_set es i ((get_or es i d).0, v) ≡ put R k v es
   set_puts [] h k i lt tied d v = absurd (omega arith)
   set_puts (e ∷ es) h k zero lt tied d v = rw (tied_back o _ _ (tied d)) refl
@@ -131,14 +157,14 @@ module _ {K X : Type 0} {R : K → K → Ordering} (o : IsTotalOrder R) where
         | Greater ↦ λ is none. rw (smaller_of o k e.0 is) (ap (λ es. e ∷ es) (not_there es k none))
       ] refl none
 
-  -- the entries without that of the key, where a slice of them was searched
+  -- the pairs without that of the key, where a slice of them was searched
   module _ (es fs : List (K × X)) (h : T (is_sorted R es)) (same : fs ≡ es) (k : K) where
-    pub taken_out : (gs : List (K × X)) (i : ℕ) → IsEntryAt R fs k i → gs ≡ remove es i → gs ≡ where_key R (is_other R k) es
-    taken_out gs i found is = let at = subst (λ es. IsEntryAt R es k i) same found in is ∙ removed es h k i at.in_range at.tied
+    pub taken_out : (gs : List (K × X)) (i : ℕ) → IsPairAt R fs k i → gs ≡ remove es i → gs ≡ where_key R (is_other R k) es
+    taken_out gs i found is = let at = subst (λ es. IsPairAt R es k i) same found in is ∙ removed es h k i at.in_range at.tied
 
-    pub put_there : (i : ℕ) (v : X) (e : K × X) → IsEntryAt R fs k i → e ≡ get_or es i e → slice_set es i (e.0, v) ≡ put R k v es
+    pub put_there : (i : ℕ) (v : X) (e : K × X) → IsPairAt R fs k i → e ≡ get_or es i e → slice_set es i (e.0, v) ≡ put R k v es
     put_there i v e found is =
-        let at = subst (λ es. IsEntryAt R es k i) same found in
+        let at = subst (λ es. IsPairAt R es k i) same found in
         ap (λ (x : K × X). slice_set es i (x.0, v)) is ∙ set_puts es h k i at.in_range at.tied e v
 
     pub none_taken : (i : ℕ) → IsGapAt R fs k i → es ≡ where_key R (is_other R k) es

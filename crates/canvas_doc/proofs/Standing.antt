@@ -12,15 +12,15 @@ use Rattle.canvas_model.specs.declared.Kind.TheVariants.{Document}
 use Rattle.canvas_model.specs.Ids.{id_cmp, root}
 use Rattle.canvas_model.specs.Document.{Doc, Object, new_object, Pos}
 use Rattle.canvas_model.specs.Sibling.{IsSibling, IsTaken, IsNext}
-use Rattle.canvas_doc.specs.Entries.{StandsThere}
+use Rattle.canvas_doc.specs.Siblings.{StandsThere}
 use Rattle.canvas_doc.specs.Nearest.{Nearest}
-use Rattle.canvas_doc.proofs.Searched.{entry_at}
+use Rattle.canvas_doc.proofs.Searched.{pair_at}
 use Rattle.canvas_doc.proofs.Maps.{exact_ids, ids_total, get_is}
 
 pub some_is : {X : Type 0} (x y : X) → Some x ≡ Some y → x ≡ y
 some_is x y e = cc
 
--- an entry of what is found
+-- a pair of what is found
 pub listed : (es : List (ObjId × Object)) (q : ObjId) (x : Object) → map.find id_cmp q es ≡ Some x → (i : ℕ) × (i < length es) × ((d : ObjId × Object) → get_or es i d ≡ (q, x))
 listed [] q x e = absurd (let f : None ≡ Some x = e in cc)
 listed (f ∷ es) q x e =
@@ -30,32 +30,32 @@ listed (f ∷ es) q x e =
       | Greater ↦ λ c e. let rest = listed es q x e in (suc rest.0, omega (arith, rest.1), rest.2)
     ] refl e
 
-some_entry : ObjId × Object
-some_entry = (root, new_object Document None)
+some_pair : ObjId × Object
+some_pair = (root, new_object Document None)
 
 module _ (es : List (ObjId × Object)) (d : Doc) (sorted : T (map.is_sorted id_cmp es)) (view : map.from_sorted es ≡ d) (parent except : ObjId) where
-  -- a sibling is an entry that stands there
+  -- a sibling is a pair that stands there
   pub sibling_listed : (q : ObjId) (pos : Pos) → IsSibling d parent except q pos → (i : ℕ) × (i < length es) × ((x : ObjId × Object) → StandsThere parent except pos (get_or es i x))
   sibling_listed q pos sibling =
       elim (map.get d q) as (λ r. map.get d q ≡ r → option_and_then (λ (o : Object). o.place) r ≡ Some (record { parent = parent; pos = pos }) → (i : ℕ) × (i < length es) × ((x : ObjId × Object) → StandsThere parent except pos (get_or es i x))) [
         | None ↦ λ e p. absurd (let f : None ≡ Some (record { parent = parent; pos = pos }) = p in cc)
         | Some o ↦ λ e p.
-            let entry = listed es q o (sym (get_is es d q sorted view) ∙ e) in
-            (entry.0, entry.1, λ x. ((λ same. sibling.0 (sym (ap (λ e. e.0) (entry.2 x)) ∙ same)), ap (λ e. e.1.place) (entry.2 x) ∙ p))
+            let pair = listed es q o (sym (get_is es d q sorted view) ∙ e) in
+            (pair.0, pair.1, λ x. ((λ same. sibling.0 (sym (ap (λ e. e.0) (pair.2 x)) ∙ same)), ap (λ e. e.1.place) (pair.2 x) ∙ p))
       ] refl sibling.1
 
-  -- an entry that stands there is a sibling
+  -- a pair that stands there is a sibling
   pub sibling_at : (i : ℕ) (x : ObjId × Object) (pos : Pos) → i < length es → ((y : ObjId × Object) → get_or es i y ≡ x) → StandsThere parent except pos x → IsSibling d parent except x.0 pos
   sibling_at i x pos lt is there =
-      let found : map.find id_cmp x.0 es ≡ Some (get_or es i x).1 = entry_at ids_total es sorted x.0 i lt (λ e. subst (λ (y : ObjId × Object). id_cmp y.0 x.0 ≡ Equal) (sym (is e)) (tied_itself ids_total x.0)) x in
+      let found : map.find id_cmp x.0 es ≡ Some (get_or es i x).1 = pair_at ids_total es sorted x.0 i lt (λ e. subst (λ (y : ObjId × Object). id_cmp y.0 x.0 ≡ Equal) (sym (is e)) (tied_itself ids_total x.0)) x in
       (there.0, ap (option_and_then (λ o. o.place)) (get_is es d x.0 sorted view ∙ found) ∙ ap (λ e. e.1.place) (is x) ∙ there.1)
 
   pub not_taken : (pos : Pos) → AllWithin (λ e. StandsThere parent except pos e → ⊥) es 0 (length es) → IsTaken d parent except pos → ⊥
   not_taken pos none taken =
-      let entry = sibling_listed taken.0 pos taken.1 in
-      none entry.0 some_entry (omega arith) entry.1 (entry.2 some_entry)
+      let pair = sibling_listed taken.0 pos taken.1 in
+      none pair.0 some_pair (omega arith) pair.1 (pair.2 some_pair)
 
-  -- what the search through all entries answers
+  -- what the search through all pairs answers
   pub taken_answer : (i : ℕ) (x : ObjId × Object) (pos : Pos) → i < length es → x ≡ get_or es i x → StandsThere parent except pos x → IsTrue true ↔ IsTaken d parent except pos
   taken_answer i x pos lt is there = (λ _. (x.0, sibling_at i x pos lt (λ y. sym (is ∙ get_or_default es i x y lt)) there), λ _. refl)
 
@@ -63,18 +63,18 @@ module _ (es : List (ObjId × Object)) (d : Doc) (sorted : T (map.is_sorted id_c
   free_answer pos none = (λ t. absurd (cc), λ taken. absurd (not_taken pos none taken))
 
   pub next_answer : (low r : Option Pos) → Nearest parent except low es (length es) r → IsNext d parent except low r
-  next_answer low None nearest = λ q other sibling above.
-      let entry = sibling_listed q other sibling in
-      nearest entry.0 entry.1 some_entry other (entry.2 some_entry) above
+  next_answer low None nearest = λ q other sibling after.
+      let pair = sibling_listed q other sibling in
+      nearest pair.0 pair.1 some_pair other (pair.2 some_pair) after
   next_answer low (Some least) nearest = (
-    ((get_or es nearest.at some_entry).0, sibling_at nearest.at (get_or es nearest.at some_entry) least nearest.within (λ y. get_or_default es nearest.at y some_entry nearest.within) (nearest.there some_entry)),
-    nearest.above,
-    λ q other sibling above before.
-        let entry = sibling_listed q other sibling in
-        nearest.first entry.0 entry.1 some_entry other (entry.2 some_entry) above before,
+    ((get_or es nearest.at some_pair).0, sibling_at nearest.at (get_or es nearest.at some_pair) least nearest.within (λ y. get_or_default es nearest.at y some_pair nearest.within) (nearest.there some_pair)),
+    nearest.after,
+    λ q other sibling after before.
+        let pair = sibling_listed q other sibling in
+        nearest.first pair.0 pair.1 some_pair other (pair.2 some_pair) after before,
   )
 
--- the same for a slice of the entries
+-- the same for a slice of the pairs
 module _ (es fs : List (ObjId × Object)) (d : Doc) (sorted : T (map.is_sorted id_cmp es)) (view : map.from_sorted es ≡ d) (same : fs ≡ es) (parent except : ObjId) where
   sorted_slice : T (map.is_sorted id_cmp fs)
   sorted_slice = subst (λ es. T (map.is_sorted id_cmp es)) (sym same) sorted

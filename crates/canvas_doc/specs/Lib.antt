@@ -1,4 +1,6 @@
-pub mod Entries
+pub mod Sorted
+pub mod Siblings
 pub mod Nearest
 pub mod Seen
 pub mod ChildRows
+pub mod Whole

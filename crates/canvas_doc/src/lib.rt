@@ -1,8 +1,8 @@
 //! The document of a canvas: its live objects by their ids, and the changes that are asked of it.
 #![tactic(auto)]
 
-ghost use Rattle.std.specs.Prelude.{◌≡◌, ◌≢◌, ◌↔◌, false, not, IsTrue, IfOk, OnOk, OnErr};
-ghost use Rattle.std.specs.List.{Contains, list_any};
+ghost use Rattle.std.specs.Prelude.{◌≡◌, ◌≢◌, ◌↔◌, false, length, not, IsSome, IsTrue, IfOk, IfSome, OnOk, OnErr};
+ghost use Rattle.std.specs.List.{Contains, list_all, list_any};
 ghost use Rattle.std.specs.List.Sorted.{IsStrictlySortedBy};
 ghost use Rattle.std.specs.Option.{option_copied, option_map};
 ghost use Rattle.std.specs.FinMap as map;
@@ -11,25 +11,28 @@ ghost use Rattle.canvas_model.specs.Document.{IsDocument, blank, live, new_objec
 ghost use Rattle.canvas_model.specs.Document as document;
 ghost use Rattle.canvas_model.specs.Sibling.{IsTaken, IsNext};
 ghost use Rattle.canvas_model.specs.Children.{AreChildren};
+ghost use Rattle.canvas_doc.specs.Whole.{AreDocument, AreRooted, IsRoot, is_placed};
 
 use canvas_pos::Pos;
 use std::alloc::{AllocError, Allocator, Global};
 use std::marker::Model;
 
 mod change;
-mod children;
-mod entries;
 mod object;
+mod objects;
 mod place;
+mod siblings;
+mod sorted;
 
 pub use canvas_model::{Kind, ObjId};
 pub use canvas_value::{Name, TooDeep, Value};
-pub use change::{Change, ChangeNode};
-use children::children_in;
-use entries::{index_of, put, take_out, value_of};
+pub use change::{Change, ChangeVariant};
 pub use object::Object;
-use object::{nearer_sibling, same_entry, stands_there};
+use object::same_object;
+pub use objects::Objects;
 pub use place::Place;
+use siblings::{children_in, nearer_sibling, stands_there};
+use sorted::{index_of, is_sorted, put, take_out, value_of};
 
 /// A document: its live objects by their ids. The root, `ObjId::ROOT`, is always live, a `Document` without a place;
 /// every other live object has a place, whose parent may be any id.
@@ -92,28 +95,49 @@ impl<A: Allocator + Copy> Doc<A> {
         ensures { IfOk result (λ d. d ≡ self.now) }
     {
         let mut objects = Vec::new(alloc);
-        for entry in &self.objects {
-            let object = entry.1.copy(alloc)?;
-            objects.push((entry.0, object))?;
+        for pair in &self.objects {
+            let object = pair.1.copy_in(alloc)?;
+            objects.push((pair.0, object))?;
         }
         Ok(Doc { objects })
     }
 }
 
 impl<A: Allocator> Doc<A> {
-    /// All live objects in id order, the root first.
-    pub fn objects(&self) -> &[(ObjId, Object<A>)]
-        ensures objects { result.now ≡ map.entries self.now }
+    /// The document of exactly these objects, where their ids rise strictly, the first is the root, a `Document` without a
+    /// place, and each of the others has a place. Takes no memory.
+    pub fn from_objects(objects: Vec<(ObjId, Object<A>), A>) -> Option<Self>
+        ensures some { IfSome result (λ d. d ≡ map.from_sorted objects.items) }
+        ensures entries { IfSome result (λ d. map.entries d ≡ objects.items) }
+        ensures none { IsSome result ↔ AreDocument objects.items }
+    {
+        if is_document(&objects) {
+            Some(Doc { objects })
+        } else {
+            None
+        }
+    }
+
+    /// All live objects with their ids in id order, the root first.
+    pub fn objects(&self) -> Objects<'_, A>
+        ensures objects { result ≡ map.entries self.now }
         ensures document { IsDocument self.now }
     {
-        &self.objects
+        Objects::new(&self.objects)
+    }
+
+    /// How many objects are live.
+    pub fn len(&self) -> usize
+        ensures { result ≡ length (map.entries self.now) }
+    {
+        self.objects.len()
     }
 
     /// Whether the object is live.
     pub fn has(&self, id: ObjId) -> bool
         ensures { result ≡ live self.now id }
     {
-        value_of(&self.objects, &id).is_some()
+        self.object(id).is_some()
     }
 
     /// The object, or none if it isn't live.
@@ -128,7 +152,7 @@ impl<A: Allocator> Doc<A> {
     pub fn kind_of(&self, id: ObjId) -> Option<Kind>
         ensures { result ≡ document.kind_of self.now id }
     {
-        let object = value_of(&self.objects, &id)?;
+        let object = self.object(id)?;
         Some(object.kind())
     }
 
@@ -136,43 +160,43 @@ impl<A: Allocator> Doc<A> {
     pub fn place_of(&self, id: ObjId) -> Option<&Place<A>>
         ensures { option_copied result ≡ document.place_of self.now id }
     {
-        let object = value_of(&self.objects, &id)?;
+        let object = self.object(id)?;
         object.place()
     }
 
     /// The value of a property of the object, or none if the object isn't live or hasn't the property.
-    pub fn get(&self, id: ObjId, name: &Name<A>) -> Option<&Value<A>>
+    pub fn get<B: Allocator>(&self, id: ObjId, name: &Name<B>) -> Option<&Value<A>>
         ensures { option_copied result ≡ document.prop_of self.now id name.now }
     {
-        let object = value_of(&self.objects, &id)?;
+        let object = self.object(id)?;
         object.get(name)
     }
 
     /// Whether a child of `parent` other than `except` stands at this position. Walks all objects.
-    pub fn taken(&self, parent: ObjId, pos: &Pos<A>, except: ObjId) -> bool
+    pub fn taken<B: Allocator>(&self, parent: ObjId, pos: &Pos<B>, except: ObjId) -> bool
         ensures { IsTrue result ↔ IsTaken self.now parent except pos.now }
     {
-        for entry in &self.objects {
-            if stands_there(entry, parent, pos, except) {
+        for pair in &self.objects {
+            if stands_there(pair, parent, pos, except) {
                 return true;
             }
         }
         false
     }
 
-    /// The least position above `after` among the children of `parent` other than `except`, if there is one; without `after`,
-    /// the least of all. Walks all objects.
-    pub fn next_position<'a>(
+    /// The least position greater than `after` among the children of `parent` other than `except`, if there is one; without
+    /// `after`, the least of all. Walks all objects.
+    pub fn next_position<'a, B: Allocator>(
         &'a self,
         parent: ObjId,
-        after: Option<&Pos<A>>,
+        after: Option<&Pos<B>>,
         except: ObjId,
     ) -> Option<&'a Pos<A>>
         ensures { IsNext self.now parent except (option_copied after.entry) (option_copied result) }
     {
         let mut least = None;
-        for entry in &self.objects {
-            least = nearer_sibling(least, entry, parent, after, except);
+        for pair in &self.objects {
+            least = nearer_sibling(least, pair, parent, after, except);
         }
         least
     }
@@ -220,9 +244,9 @@ impl<A: Allocator> Doc<A> {
         ensures { self.new ≡ without self.old ids.now }
     {
         self.objects.retain(
-            |entry: &(ObjId, Object<A>)| -> bool
-                ensures { IsStrictlySortedBy id_cmp ids.entry.now → result ≡ not (list_any (same_id entry.now.0) ids.entry.now) }
-            { !is_listed(ids, entry.0) },
+            |pair: &(ObjId, Object<A>)| -> bool
+                ensures { IsStrictlySortedBy id_cmp ids.entry.now → result ≡ not (list_any (same_id pair.now.0) ids.entry.now) }
+            { !is_listed(ids, pair.0) },
         );
     }
 
@@ -230,8 +254,46 @@ impl<A: Allocator> Doc<A> {
     pub fn same<B: Allocator>(&self, other: &Doc<B>) -> bool
         ensures { IsTrue result ↔ (self.now ≡ other.now) }
     {
-        same_entries(&self.objects, &other.objects)
+        same_objects(&self.objects, &other.objects)
     }
+}
+
+// Whether the objects are a document.
+fn is_document<A: Allocator>(objects: &[(ObjId, Object<A>)]) -> bool
+    ensures { IsTrue result ↔ AreDocument objects.now }
+{
+    is_sorted(objects) && is_rooted(objects)
+}
+
+// Whether the first one is the root, and each of the others has a place.
+fn is_rooted<A: Allocator>(objects: &[(ObjId, Object<A>)]) -> bool
+    ensures { IsTrue result ↔ AreRooted objects.now }
+{
+    match objects.split_first() {
+        Some((first, others)) => is_root(first) && are_placed(others),
+        None => false,
+    }
+}
+
+// Whether it is the root, a `Document` without a place.
+fn is_root<A: Allocator>(pair: &(ObjId, Object<A>)) -> bool
+    ensures { IsTrue result ↔ IsRoot pair.now }
+{
+    pair.0 == ObjId::ROOT && pair.1.kind() == Kind::Document && pair.1.place().is_none()
+}
+
+// Whether each of them has a place.
+fn are_placed<A: Allocator>(objects: &[(ObjId, Object<A>)]) -> bool
+    ensures { result ≡ list_all is_placed objects.now }
+{
+    objects.iter().all(|pair| is_placed(pair))
+}
+
+// Whether the object has a place.
+fn is_placed<A: Allocator>(pair: &(ObjId, Object<A>)) -> bool
+    ensures { result ≡ is_placed pair.now }
+{
+    pair.1.place().is_some()
 }
 
 // Whether the id is one of these, where they stand in order.
@@ -241,23 +303,20 @@ fn is_listed(ids: &[ObjId], id: ObjId) -> bool
     ids.binary_search(&id).is_ok()
 }
 
-// Whether two lists of entries are the same.
-fn same_entries<A: Allocator, B: Allocator>(
-    entries: &[(ObjId, Object<A>)],
+// Whether two lists of objects and their ids are the same.
+fn same_objects<A: Allocator, B: Allocator>(
+    objects: &[(ObjId, Object<A>)],
     others: &[(ObjId, Object<B>)],
 ) -> bool
-    ensures { IsTrue result ↔ (entries.now ≡ others.now) }
+    ensures { IsTrue result ↔ (objects.now ≡ others.now) }
 {
-    if entries.len() != others.len() {
+    if objects.len() != others.len() {
         return false;
     }
-    for (at, entry) in entries.iter().enumerate() {
-        if !same_entry(entry, &others[at]) {
+    for (at, pair) in objects.iter().enumerate() {
+        if !same_object(pair, &others[at]) {
             return false;
         }
     }
     true
 }
-
-#[cfg(test)]
-mod tests;

@@ -1,16 +1,13 @@
 // What is kept of a live object.
-ghost use Rattle.std.specs.Prelude.{◌≡◌, ◌↔◌, IsTrue, IfOk, OnOk, OnErr, IfSome, IfNone};
+ghost use Rattle.std.specs.Prelude.{◌≡◌, ◌↔◌, T, IsSome, IsTrue, IfOk, IfErr, IfSome, OnOk, OnErr};
 ghost use Rattle.std.specs.Option.{option_copied};
 ghost use Rattle.std.specs.FinMap as map;
-ghost use Rattle.canvas_model.specs.Document.{new_object, with_place, with_prop};
-ghost use Rattle.canvas_model.specs.Document as document;
-ghost use Rattle.canvas_model.specs.Order.{IsAfter, IsUnder};
-ghost use Rattle.canvas_doc.specs.Entries.{IsUnderAt, StandsThere};
-ghost use Rattle.canvas_doc.specs.Nearest.{IsLesser, IsNearer};
+ghost use Rattle.canvas_doc.specs.Sorted.{IsPairAt, IsGapAt};
+ghost use Rattle.canvas_model.specs.Document.{name_cmp, new_object, with_place, with_prop};
 
-use crate::entries::{put, take_out, value_of};
+use crate::sorted::{is_sorted, put, take_out};
 use crate::{Kind, Name, ObjId, Place, Value};
-use canvas_pos::Pos;
+use canvas_value::{copy_props, same_props};
 use std::alloc::{AllocError, Allocator, Global};
 use std::cmp::Ordering;
 use std::marker::Model;
@@ -51,6 +48,23 @@ impl<A: Allocator> Object<A> {
         }
     }
 
+    /// The object of these parts, where the names of the properties rise strictly. Takes no memory.
+    pub fn from_parts(
+        kind: Kind,
+        place: Option<Place<A>>,
+        props: Vec<(Name<A>, Value<A>), A>,
+    ) -> Option<Self>
+        ensures some { IfSome result (λ o. o ≡ record { kind = kind; place = place; props = map.from_sorted props.items }) }
+        ensures entries { IfSome result (λ o. map.entries o.props ≡ props.items) }
+        ensures none { IsSome result ↔ T (map.is_sorted name_cmp props.items) }
+    {
+        if is_sorted(&props) {
+            Some(Object { kind, place, props })
+        } else {
+            None
+        }
+    }
+
     /// What the object is.
     pub fn kind(&self) -> Kind
         ensures { result ≡ self.now.kind }
@@ -73,10 +87,10 @@ impl<A: Allocator> Object<A> {
     }
 
     /// The value of the property, if the object has it.
-    pub fn get(&self, name: &Name<A>) -> Option<&Value<A>>
+    pub fn get<B: Allocator>(&self, name: &Name<B>) -> Option<&Value<A>>
         ensures { option_copied result ≡ map.get self.now.props name.now }
     {
-        value_of(&self.props, name)
+        value_named(&self.props, name)
     }
 
     /// Moves the object to another place.
@@ -100,13 +114,10 @@ impl<A: Allocator> Object<A> {
     }
 
     /// The same object under another allocator. Fails only where memory is refused.
-    pub fn copy<B: Allocator + Copy>(&self, alloc: B) -> Result<Object<B>, AllocError>
+    pub fn copy_in<B: Allocator + Copy>(&self, alloc: B) -> Result<Object<B>, AllocError>
         ensures { IfOk result (λ o. o ≡ self.now) }
     {
-        let place = match &self.place {
-            Some(place) => Some(place.copy(alloc)?),
-            None => None,
-        };
+        let place = copy_place(alloc, &self.place)?;
         let props = copy_props(alloc, &self.props)?;
         Ok(Object {
             kind: self.kind,
@@ -121,16 +132,6 @@ impl<A: Allocator> Object<A> {
     {
         stand_alike(self, other) && same_props(&self.props, &other.props)
     }
-
-    // Whether it stands at this place.
-    fn stands_at(&self, parent: ObjId, pos: &Pos<A>) -> bool
-        ensures { IsTrue result ↔ (self.now.place ≡ Some (record { parent = parent; pos = pos.now })) }
-    {
-        match &self.place {
-            Some(place) => place.parent == parent && place.pos == *pos,
-            None => false,
-        }
-    }
 }
 
 // Whether the two are of one kind and stand at one place.
@@ -140,48 +141,44 @@ fn stand_alike<A: Allocator, B: Allocator>(object: &Object<A>, other: &Object<B>
     same_place(&object.place, &other.place) && object.kind == other.kind
 }
 
-// The same properties under another allocator.
-fn copy_props<A: Allocator, B: Allocator + Copy>(
+// The value of the property, if it is one of these, which stand in the order of their names.
+fn value_named<'a, A: Allocator, B: Allocator>(
+    props: &'a [(Name<A>, Value<A>)],
+    name: &Name<B>,
+) -> Option<&'a Value<A>>
+    requires { T (map.is_sorted name_cmp props.now) }
+    ensures { option_copied result ≡ map.find name_cmp name.now props.now }
+{
+    match index_named(props, name) {
+        Ok(at) => Some(&props[at].1),
+        Err(_) => None,
+    }
+}
+
+// The index of the property, or the one where it would go.
+fn index_named<A: Allocator, B: Allocator>(
+    props: &[(Name<A>, Value<A>)],
+    name: &Name<B>,
+) -> Result<usize, usize>
+    requires { T (map.is_sorted name_cmp props.now) }
+    ensures found { IfOk result (λ i. IsPairAt name_cmp props.now name.now i) }
+    ensures absent { IfErr result (λ i. IsGapAt name_cmp props.now name.now i) }
+{
+    props.binary_search_by(
+        |prop: &(Name<A>, Value<A>)| -> Ordering
+            ensures { result ≡ name_cmp prop.now.0 name.entry.now }
+        { prop.0.compare(name) },
+    )
+}
+
+// The same place under another allocator, or none again.
+fn copy_place<A: Allocator, B: Allocator + Copy>(
     alloc: B,
-    props: &[(Name<A>, Value<A>)],
-) -> Result<Vec<(Name<B>, Value<B>), B>, AllocError>
-    ensures { IfOk result (λ copies. copies.items ≡ props.now) }
+    place: &Option<Place<A>>,
+) -> Result<Option<Place<B>>, AllocError>
+    ensures { IfOk result (λ copy. copy ≡ place.now) }
 {
-    let mut copies = Vec::with_capacity(alloc, props.len())?;
-    for prop in props {
-        let name = prop.0.copy_in(alloc)?;
-        let value = prop.1.copy_in(alloc)?;
-        copies.push((name, value))?;
-    }
-    Ok(copies)
-}
-
-// Whether two lists of properties are the same.
-fn same_props<A: Allocator, B: Allocator>(
-    props: &[(Name<A>, Value<A>)],
-    others: &[(Name<B>, Value<B>)],
-) -> bool
-    ensures { IsTrue result ↔ (props.now ≡ others.now) }
-{
-    if props.len() != others.len() {
-        return false;
-    }
-    for (at, prop) in props.iter().enumerate() {
-        if !same_prop(prop, &others[at]) {
-            return false;
-        }
-    }
-    true
-}
-
-// Whether two properties are the same.
-fn same_prop<A: Allocator, B: Allocator>(
-    prop: &(Name<A>, Value<A>),
-    other: &(Name<B>, Value<B>),
-) -> bool
-    ensures { IsTrue result ↔ (prop.now ≡ other.now) }
-{
-    prop.0.bytes() == other.0.bytes() && prop.1.same(&other.1)
+    place.as_ref().map(|place| place.copy_in(alloc)).transpose()
 }
 
 // Whether the two are the same place, or both none.
@@ -198,92 +195,12 @@ fn same_place<A: Allocator, B: Allocator>(
     }
 }
 
-/// Whether two entries are the same.
-pub fn same_entry<A: Allocator, B: Allocator>(
-    entry: &(ObjId, Object<A>),
+/// Whether two objects and their ids are the same.
+pub fn same_object<A: Allocator, B: Allocator>(
+    pair: &(ObjId, Object<A>),
     other: &(ObjId, Object<B>),
 ) -> bool
-    ensures { IsTrue result ↔ (entry.now ≡ other.now) }
+    ensures { IsTrue result ↔ (pair.now ≡ other.now) }
 {
-    entry.0 == other.0 && entry.1.same(&other.1)
-}
-
-/// Whether the entry is of an object other than `except` that stands there.
-pub fn stands_there<A: Allocator>(
-    entry: &(ObjId, Object<A>),
-    parent: ObjId,
-    pos: &Pos<A>,
-    except: ObjId,
-) -> bool
-    ensures { IsTrue result ↔ StandsThere parent except pos.now entry.now }
-{
-    entry.0 != except && entry.1.stands_at(parent, pos)
-}
-
-/// The nearer one of the least position so far and that of the entry, which counts where it is a child of `parent` other than
-/// `except` above `after`.
-pub fn nearer_sibling<'a, A: Allocator>(
-    least: Option<&'a Pos<A>>,
-    entry: &'a (ObjId, Object<A>),
-    parent: ObjId,
-    after: Option<&Pos<A>>,
-    except: ObjId,
-) -> Option<&'a Pos<A>>
-    ensures { IsNearer parent except (option_copied after.entry) (option_copied least.entry) entry.now (option_copied result) }
-{
-    if entry.0 == except {
-        return least;
-    }
-    match position_under(entry, parent) {
-        Some(pos) => lesser(least, pos, after),
-        None => least,
-    }
-}
-
-/// The position of the entry's object, if it is a child of `parent`.
-pub fn position_under<A: Allocator>(entry: &(ObjId, Object<A>), parent: ObjId) -> Option<&Pos<A>>
-    ensures some { IfSome result (λ pos. IsUnderAt parent pos.now entry.now) }
-    ensures none { IfNone result ((pos : document.Pos) → IsUnderAt parent pos entry.now → ⊥) }
-{
-    let place = entry.1.place()?;
-    if place.parent == parent {
-        Some(&place.pos)
-    } else {
-        None
-    }
-}
-
-// The position where it is above `after` and below the least so far, else that one.
-fn lesser<'a, A: Allocator>(
-    least: Option<&'a Pos<A>>,
-    pos: &'a Pos<A>,
-    after: Option<&Pos<A>>,
-) -> Option<&'a Pos<A>>
-    ensures { IsLesser (option_copied after.entry) (option_copied least.entry) pos.now (option_copied result) }
-{
-    if is_above(pos, after) && is_below(pos, least) {
-        Some(pos)
-    } else {
-        least
-    }
-}
-
-// Whether the position is above this one, if there is one.
-fn is_above<A: Allocator>(pos: &Pos<A>, after: Option<&Pos<A>>) -> bool
-    ensures { IsTrue result ↔ IsAfter (option_copied after.entry) pos.now }
-{
-    match after {
-        Some(low) => low.cmp(pos) == Ordering::Less,
-        None => true,
-    }
-}
-
-// Whether the position is below this one, if there is one.
-fn is_below<A: Allocator>(pos: &Pos<A>, bound: Option<&Pos<A>>) -> bool
-    ensures { IsTrue result ↔ IsUnder (option_copied bound.entry) pos.now }
-{
-    match bound {
-        Some(high) => pos.cmp(high) == Ordering::Less,
-        None => true,
-    }
+    pair.0 == other.0 && pair.1.same(&other.1)
 }

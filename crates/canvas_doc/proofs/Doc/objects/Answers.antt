@@ -1,6 +1,6 @@
 use Rattle.std.proofs.Common.{◌∙◌, sym}
-use Rattle.canvas_doc.proofs.Maps.{entries_are}
+use Rattle.canvas_doc.proofs.Maps.{pairs_are}
 use Rattle.canvas_doc.proofs.Doc.objects.Goals as goal
 
 pub returns-clause-objects : goal.returns-clause-objects
-returns-clause-objects g c = c.deref.ensures.value ∙ sym (entries_are _ _ c.self.invariant.sorted c.self.view_is)
+returns-clause-objects g c = c.new.ensures ∙ c.deref.ensures.value ∙ sym (pairs_are _ _ c.self.invariant.sorted c.self.view_is)

@@ -1,6 +1,6 @@
 use Rattle.std.specs.List.{AllWithin}
-use Rattle.canvas_doc.specs.Entries.{StandsThere}
+use Rattle.canvas_doc.specs.Siblings.{StandsThere}
 use Rattle.canvas_doc.proofs.Doc.taken.Given as goal
 
-abbrev pub invariant-loop-entry : goal.invariant-loop-entry
-invariant-loop-entry g l = AllWithin (λ e. StandsThere l.parent l.except l.pos e → ⊥) l.entry-items 0 l.entry-index
+abbrev pub invariant-loop-pair : goal.invariant-loop-pair
+invariant-loop-pair g l = AllWithin (λ e. StandsThere l.parent l.except l.pos e → ⊥) l.pair-items 0 l.pair-index
