@@ -1,22 +1,14 @@
 // What became of requests.
-ghost use Rattle.std.specs.Prelude.{◌≡◌};
-ghost use Rattle.canvas_model.specs.Verdict.{Created, Joined, Moved, Refused, Removed, WasSet};
+ghost use Rattle.std.specs.Prelude.{◌≡◌, ◌↔◌, IfOk, IsTrue};
 ghost use Rattle.canvas_judge.specs.Seen.{seen_outcome};
 
 use canvas_doc::{ObjId, Place};
 use canvas_model::Reason;
-use std::alloc::{Allocator, Global};
-use std::marker::Model;
+use std::alloc::{AllocError, Allocator, Global};
 
-/// What became of a request.
+/// What became of a request. Contracts see it by `seen_outcome`.
 #[derive(Drop)]
-pub struct Outcome<A: Allocator = Global> {
-    node: OutcomeNode<A>,
-}
-
-/// What an outcome says.
-#[derive(Drop)]
-pub enum OutcomeNode<A: Allocator = Global> {
+pub enum Outcome<A: Allocator = Global> {
     /// A new client got this id.
     Joined(u32),
     /// The object was created at this place.
@@ -27,86 +19,76 @@ pub enum OutcomeNode<A: Allocator = Global> {
     Moved(Place<A>),
     /// These objects were removed, in id order.
     Removed(Vec<ObjId, A>),
-    /// The change was refused. A refused Move carries the place where its object stands, if it has one.
+    /// The change was refused.
     Refused {
+        /// The first reason against it.
         reason: Reason,
+        /// Where the object of a refused Move stands, if it has a place. `None` for any other change.
         stands: Option<Place<A>>,
     },
 }
 
-impl<A: Allocator> Model for Outcome<A> {
-    ghost use Rattle.std.specs.Coded.{codes};
-    ghost use Rattle.canvas_model.specs.Verdict as verdict;
+impl<A: Allocator> Outcome<A> {
+    /// The same under another allocator. Fails only where memory is refused.
+    pub fn copy_in<B: Allocator + Copy>(&self, alloc: B) -> Result<Outcome<B>, AllocError>
+        ensures { IfOk result (λ copy. seen_outcome copy ≡ seen_outcome self.now) }
+    {
+        match self {
+            Outcome::Joined(client) => Ok(Outcome::Joined(*client)),
+            Outcome::Created(place) => Ok(Outcome::Created(place.copy_in(alloc)?)),
+            Outcome::WasSet => Ok(Outcome::WasSet),
+            Outcome::Moved(place) => Ok(Outcome::Moved(place.copy_in(alloc)?)),
+            Outcome::Removed(ids) => {
+                let mut copy = Vec::new(alloc);
+                copy.extend_from_slice(ids)?;
+                Ok(Outcome::Removed(copy))
+            }
+            Outcome::Refused { reason, stands } => {
+                let stands = stands
+                    .as_ref()
+                    .map(|place| place.copy_in(alloc))
+                    .transpose()?;
+                Ok(Outcome::Refused {
+                    reason: *reason,
+                    stands,
+                })
+            }
+        }
+    }
 
-    ghost Value = { verdict.Outcome };
-
-    ghost coded = { Prim.hlevel codes };
-
-    ghost use Rattle.canvas_judge.specs.Seen.{seen_outcome};
-
-    ghost view = { λ o. seen_outcome o.node };
+    /// Whether both say the same.
+    pub fn same<B: Allocator>(&self, other: &Outcome<B>) -> bool
+        ensures { IsTrue result ↔ (seen_outcome self.now ≡ seen_outcome other.now) }
+    {
+        match (self, other) {
+            (Outcome::Joined(client), Outcome::Joined(other)) => *client == *other,
+            (Outcome::Created(place), Outcome::Created(other)) => place.same(other),
+            (Outcome::WasSet, Outcome::WasSet) => true,
+            (Outcome::Moved(place), Outcome::Moved(other)) => place.same(other),
+            (Outcome::Removed(ids), Outcome::Removed(others)) => ids.as_slice()
+                == others.as_slice(),
+            (
+                Outcome::Refused { reason, stands },
+                Outcome::Refused {
+                    reason: other_reason,
+                    stands: other_stands,
+                },
+            ) => *reason == *other_reason && stand_alike(stands, other_stands),
+            _ => false,
+        }
+    }
 }
 
-impl<A: Allocator> Outcome<A> {
-    /// The outcome of a Join: the new client got this id.
-    pub fn joined(client: u32) -> Self
-        ensures { result ≡ Joined client }
-    {
-        Outcome {
-            node: OutcomeNode::Joined(client),
-        }
-    }
-
-    /// The outcome of an accepted creation: the object was created at this place.
-    pub fn created(place: Place<A>) -> Self
-        ensures { result ≡ Created place }
-    {
-        Outcome {
-            node: OutcomeNode::Created(place),
-        }
-    }
-
-    /// The outcome of an accepted change of a property: it was set or cleared.
-    pub fn was_set() -> Self
-        ensures { result ≡ WasSet }
-    {
-        Outcome {
-            node: OutcomeNode::WasSet,
-        }
-    }
-
-    /// The outcome of an accepted move: the object stands at this place now.
-    pub fn moved(place: Place<A>) -> Self
-        ensures { result ≡ Moved place }
-    {
-        Outcome {
-            node: OutcomeNode::Moved(place),
-        }
-    }
-
-    /// The outcome of an accepted deletion: these objects were removed, in id order.
-    pub fn removed(ids: Vec<ObjId, A>) -> Self
-        ensures { result ≡ Removed ids.items }
-    {
-        Outcome {
-            node: OutcomeNode::Removed(ids),
-        }
-    }
-
-    /// The outcome of a refused change. A refused Move carries the place where its object stands, if it has one; any other
-    /// change carries none.
-    pub fn refused(reason: Reason, stands: Option<Place<A>>) -> Self
-        ensures { result ≡ Refused reason stands }
-    {
-        Outcome {
-            node: OutcomeNode::Refused { reason, stands },
-        }
-    }
-
-    /// What the outcome says.
-    pub fn node(&self) -> &OutcomeNode<A>
-        ensures { seen_outcome result.now ≡ self.now }
-    {
-        &self.node
+// Whether the two are the same place, or both none.
+fn stand_alike<A: Allocator, B: Allocator>(
+    place: &Option<Place<A>>,
+    other: &Option<Place<B>>,
+) -> bool
+    ensures { IsTrue result ↔ (place.now ≡ other.now) }
+{
+    match (place, other) {
+        (Some(place), Some(other)) => place.same(other),
+        (None, None) => true,
+        _ => false,
     }
 }

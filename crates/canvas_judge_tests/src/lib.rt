@@ -1,0 +1,13 @@
+//! Tests of `canvas_judge`: verdicts and what they do, chains, states and entries in an arena, and each growth refused in turn.
+#![tactic(auto)]
+
+#[cfg(test)]
+mod arena;
+#[cfg(test)]
+mod chains;
+#[cfg(test)]
+mod refusals;
+#[cfg(test)]
+mod states;
+#[cfg(test)]
+mod verdicts;

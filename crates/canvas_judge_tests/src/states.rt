@@ -1,0 +1,141 @@
+//! States to judge changes against, and what clients ask.
+ghost use Rattle.std.specs.Prelude.{IfOk};
+ghost use Rattle.canvas_model.specs.Log.{Fits};
+
+use canvas_doc::{Change, Kind, Name, ObjId, Place, Value};
+use canvas_judge::{Entry, Outcome, Reason, State, What};
+use canvas_pos::Pos;
+use std::alloc::Global;
+use std::test::Fail;
+
+pub const PAGE: ObjId = ObjId {
+    client: 1,
+    counter: 1,
+};
+
+pub const OUTER: ObjId = ObjId {
+    client: 1,
+    counter: 2,
+};
+
+pub const INNER: ObjId = ObjId {
+    client: 1,
+    counter: 3,
+};
+
+pub const GONE: ObjId = ObjId {
+    client: 9,
+    counter: 9,
+};
+
+pub fn object(client: u32, counter: u32) -> ObjId {
+    ObjId { client, counter }
+}
+
+pub fn place(alloc: Global, parent: ObjId, pos: &[u8]) -> Result<Place, Fail> {
+    Ok(Place {
+        parent,
+        pos: Pos::read(alloc, pos)?,
+    })
+}
+
+/// The change of the property `name` of an object.
+pub fn naming(alloc: Global, id: ObjId, value: Option<Value>) -> Result<Change, Fail> {
+    let name = Name::read(alloc, b"name")?;
+    Ok(Change::set(id, name, value)?)
+}
+
+/// The entry by which the next client gets its id.
+pub fn next_join(state: &State) -> Result<Entry, Fail>
+    ensures { IfOk result (Fits state.now) }
+{
+    let client = state.next();
+    if client == u32::MAX {
+        return Err(Fail::from("all ids are given"));
+    }
+    Ok(Entry {
+        author: 0,
+        seq: 0,
+        what: What::Join,
+        outcome: Outcome::Joined(client),
+    })
+}
+
+/// The entry of the author's next edit.
+pub fn next_edit(alloc: Global, state: &State, author: u32, change: Change) -> Result<Entry, Fail>
+    ensures { IfOk result (Fits state.now) }
+{
+    if !state.has_joined(author) {
+        return Err(Fail::from("the author hasn't joined"));
+    }
+    let Some(seq) = state.done(author).checked_add(1) else {
+        return Err(Fail::from("all numbers are given"));
+    };
+    let outcome = state.judge(alloc, author, &change)?;
+    Ok(Entry {
+        author,
+        seq,
+        what: What::Edit(change),
+        outcome,
+    })
+}
+
+/// Gives the next client its id.
+pub fn join(state: &mut State) -> Result<(), Fail> {
+    let entry = next_join(state)?;
+    state.apply(&entry)?;
+    Ok(())
+}
+
+/// Judges a change, which is its author's next edit, and applies it.
+pub fn submit(
+    alloc: Global,
+    state: &mut State,
+    author: u32,
+    change: Change,
+) -> Result<Outcome, Fail> {
+    let entry = next_edit(alloc, state, author, change)?;
+    state.apply(&entry)?;
+    Ok(entry.outcome)
+}
+
+/// Judges a creation and applies it.
+pub fn create(
+    alloc: Global,
+    state: &mut State,
+    author: u32,
+    id: ObjId,
+    kind: Kind,
+    parent: ObjId,
+    pos: &[u8],
+) -> Result<Outcome, Fail> {
+    let change = Change::create(id, kind, place(alloc, parent, pos)?);
+    submit(alloc, state, author, change)
+}
+
+/// A state in which client 1 has joined and made a page.
+pub fn with_page(alloc: Global) -> Result<State, Fail> {
+    let mut state = State::new(alloc)?;
+    join(&mut state)?;
+    create(alloc, &mut state, 1, PAGE, Kind::Page, ObjId::ROOT, b"O")?;
+    Ok(state)
+}
+
+/// A state in which client 1 has made a page, a frame on it, and a frame in that one.
+pub fn with_frames(alloc: Global) -> Result<State, Fail> {
+    let mut state = with_page(alloc)?;
+    create(alloc, &mut state, 1, OUTER, Kind::Frame, PAGE, b"O")?;
+    create(alloc, &mut state, 1, INNER, Kind::Frame, OUTER, b"O")?;
+    Ok(state)
+}
+
+/// The reason of a refusal, and the parent in the place that it carries.
+pub fn refusal(outcome: &Outcome) -> Option<(Reason, Option<ObjId>)> {
+    match outcome {
+        Outcome::Refused { reason, stands } => {
+            let parent = stands.as_ref().map(|place| place.parent);
+            Some((*reason, parent))
+        }
+        _ => None,
+    }
+}
