@@ -10,3 +10,4 @@ pub mod Ways
 pub mod Reading
 pub mod Grown
 pub mod Lines
+pub mod Headline

@@ -2,6 +2,7 @@
 use Rattle.std.proofs.Common.{◌≡◌, ℕ, suc, ◌+◌, ◌<◌, List, [], ◌∷◌, ◌++◌, length, get_or, take, refl, sym, ◌∙◌, ap, append_assoc, add-one}
 use Rattle.std.specs.Prelude.{None, Some, codes}
 use Rattle.std.specs.List.{flat_map}
+use Rattle.std.proofs.lemmas.Grind.{flat_map-append}
 use Rattle.std.proofs.lemmas.List.{take_more, append-nil}
 use Rattle.canvas_model.specs.Document.{Name, Pos}
 use Rattle.canvas_model.specs.Text.{id_text, kind_word}
@@ -12,6 +13,13 @@ use Rattle.canvas_tree.specs.Texts.{blanks, pos_text, head_text, head_line, prop
 
 pub joined : (old s x out new t : List ℕ) → out ≡ old ++ s → new ≡ out ++ x → t ≡ s ++ x → new ≡ old ++ t
 joined old s x out new t e f g = f ∙ ap (λ v. v ++ x) e ∙ append_assoc old s x ∙ ap (λ v. old ++ v) (sym g)
+
+-- one more line
+pub lines_more : {X : Type 0} (f : X → List ℕ) (xs : List X) (i : ℕ) (x : X) (old out line new : List ℕ) → i < length xs → x ≡ get_or xs i x → out ≡ old ++ flat_map f (take i xs) → line ≡ f x → new ≡ out ++ line → new ≡ old ++ flat_map f (take (i + 1) xs)
+lines_more f xs i x old out line new h w so_far is e =
+    let last : flat_map f (get_or xs i x ∷ []) ≡ line = append-nil (f (get_or xs i x)) ∙ ap f (sym w) ∙ sym is in
+    let all : flat_map f (take (i + 1) xs) ≡ flat_map f (take i xs) ++ line = ap (flat_map f) (take_more xs i x h) ∙ flat_map-append f (take i xs) (get_or xs i x ∷ []) ∙ ap (λ v. flat_map f (take i xs) ++ v) last in
+    joined old (flat_map f (take i xs)) line out new _ so_far e all
 
 bare_parts : (a k : List ℕ) → a ++ (32 ∷ (k ++ (10 ∷ []))) ≡ a ++ codes " " ++ k ++ [] ++ 10 ∷ []
 bare_parts a k = simp append_assoc refl

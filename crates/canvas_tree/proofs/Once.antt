@@ -6,6 +6,7 @@ use Rattle.canvas_model.specs.declared.ObjId.{ObjId}
 use Rattle.canvas_model.specs.Ids.{root, same_id}
 use Rattle.canvas_model.specs.Document.{Doc, IsDocument}
 use Rattle.canvas_model.specs.Children.{parent_of}
+use Rattle.canvas_model.proofs.Children.{child_cmp_total}
 use Rattle.canvas_model.proofs.Ids.{same_id_true}
 use Rattle.canvas_tree.specs.Shapes.{Forest, none, tree, Branch, tops, forest_ids, branch_ids}
 use Rattle.canvas_tree.specs.Trees.{AreNodes, IsTreeOf}
@@ -13,7 +14,6 @@ use Rattle.canvas_tree.proofs.Members.{IsIn, Distinct, distinct_both, in_either}
 use Rattle.canvas_tree.proofs.Ordered.{sorted_distinct}
 use Rattle.canvas_tree.proofs.Climbs.{IsClimb, climb_one}
 use Rattle.canvas_tree.proofs.Rows.{root_top}
-use Rattle.canvas_tree.proofs.One.{child_cmp_total}
 use Rattle.canvas_tree.proofs.Stands.{child_of}
 
 -- lists that are the same and end with equally many things end with the same

@@ -1,19 +1,13 @@
 -- Two trees that fit one document are the same.
 use Rattle.std.proofs.Common.{◌≡◌, List, [], ◌∷◌, refl, sym, ◌∙◌, ap, subst}
-use Rattle.std.specs.Cmp.{IsTotalOrder}
-use Rattle.std.specs.Cmp.Lexicographic.{nat_list_cmp_total}
-use Rattle.std.proofs.lemmas.Cmp.{then_total, on_total}
 use Rattle.canvas_model.specs.declared.ObjId.{ObjId}
 use Rattle.canvas_model.specs.Document.{Doc}
-use Rattle.canvas_model.specs.Children.{AreChildren, child_cmp, position_of}
-use Rattle.canvas_model.proofs.Ids.{id_total}
+use Rattle.canvas_model.specs.Children.{AreChildren, child_cmp}
+use Rattle.canvas_model.proofs.Children.{child_cmp_total}
 use Rattle.canvas_tree.specs.Shapes.{Forest, none, tree, Branch, tops}
 use Rattle.canvas_tree.specs.Trees.{AreNodes, IsTreeAt}
 use Rattle.canvas_tree.proofs.Members.{in_from, in_to}
 use Rattle.canvas_tree.proofs.Ordered.{sorted_one}
-
-pub child_cmp_total : (d : Doc) → IsTotalOrder (child_cmp d)
-child_cmp_total d = then_total (on_total (position_of d) nat_list_cmp_total) id_total
 
 children_one : (d : Doc) (p : ObjId) (cs es : List ObjId) → AreChildren d p cs → AreChildren d p es → cs ≡ es
 children_one d p cs es a b =

@@ -1,14 +1,18 @@
 -- Reading trees side by side one after another.
-use Rattle.std.proofs.Common.{◌≡◌, ℕ, zero, suc, ◌+◌, ◌<◌, ◌≤◌, List, [], ◌∷◌, ◌++◌, length, get_or, take, drop, min, refl, sym, ◌∙◌, ap, arith, add-one, drop-cons}
-use Rattle.std.specs.Prelude.{None, Some, Bool, true, false, cond, ◌&&◌, ◌==◌}
+use Rattle.std.proofs.Common.{◌≡◌, ℕ, zero, suc, ◌+◌, ◌-◌, ◌<◌, ◌≤◌, List, [], ◌∷◌, ◌++◌, length, get_or, take, drop, min, refl, sym, ◌∙◌, ap, arith, add-one, append_assoc, length-append, drop-cons}
+use Rattle.std.specs.Prelude.{Option, None, Some, Bool, true, false, cond, ◌&&◌, ◌==◌}
 use borrow.Author.Tests.{eq-eqb, eqb-true}
 use Rattle.std.specs.Option.{option_map, option_or}
 use Rattle.std.proofs.lemmas.List.{take_more}
+use Rattle.std.proofs.Math.Seq.{take-append_seam}
 use Rattle.canvas_model.specs.declared.ObjId.{ObjId}
+use Rattle.canvas_model.specs.declared.Kind.{Kind}
+use Rattle.canvas_model.specs.Value.{Value}
+use Rattle.canvas_model.specs.Document.{Pos, Name}
 use Rattle.canvas_model.specs.Ids.{same_id}
 use Rattle.canvas_model.proofs.Ids.{same_id_true, id_itself}
-use Rattle.canvas_tree.specs.Shapes.{Label, Forest, none, tree, Branch, forest_of, forest_size, branch_size}
-use Rattle.canvas_tree.specs.Reads.{found_in, found, path_in, path}
+use Rattle.canvas_tree.specs.Shapes.{Label, Forest, none, tree, Branch, branch, forest_of, forest_size, branch_size}
+use Rattle.canvas_tree.specs.Reads.{found_in, found, path_in, path, Walked}
 
 -- ids are the same by their parts
 pub by_parts : (a b : ObjId) → ((a.client == b.client) && (a.counter == b.counter)) ≡ same_id a b
@@ -92,6 +96,25 @@ path_not_here id cs i y h k is w =
     let z : option_or (path id (get_or cs i y)) (path_in id (forest_of (drop (i + 1) cs))) ≡ path_in id (forest_of (drop (i + 1) cs)) = ap (λ v. option_or v (path_in id (forest_of (drop (i + 1) cs)))) (ap (path id) (sym is) ∙ w) in
     h ∙ path_more id cs i y k ∙ z
 
+-- the path to an object below the top of a tree begins with the top
+path_through : (id : ObjId) (l : Label) (bs : List Branch) (t : Branch) → (let b : Branch = record { label = l; below = forest_of bs } in b ≡ t) → same_id l.id id ≡ false → path id t ≡ option_map (λ p. l.id ∷ p) (path_in id (forest_of bs))
+path_through id l bs t e f = ap (path id) (sym e) ∙ rw f refl
+
+-- a walk that wrote the top and then found the object below it
+pub walked_below : (id : ObjId) (l : Label) (bs : List Branch) (t : Branch) (old here new : List ObjId) → (let b : Branch = record { label = l; below = forest_of bs } in b ≡ t) → same_id l.id id ≡ false → here ≡ old ++ l.id ∷ [] → Walked true (path_in id (forest_of bs)) here new → Walked true (path id t) old new
+walked_below id l bs t old here new e f g w = (
+  l.id ∷ w.0,
+  path_through id l bs t e f ∙ ap (option_map (λ p. l.id ∷ p)) w.1,
+  w.2 ∙ ap (λ v. v ++ w.0) g ∙ append_assoc old (l.id ∷ []) w.0,
+)
+
+-- a walk that wrote the top, didn't find the object below it, and took the top back
+pub walked_back : (id : ObjId) (l : Label) (bs : List Branch) (t : Branch) (old here there new : List ObjId) (n : ℕ) → (let b : Branch = record { label = l; below = forest_of bs } in b ≡ t) → same_id l.id id ≡ false → here ≡ old ++ l.id ∷ [] → Walked false (path_in id (forest_of bs)) here there → n ≡ length there → new ≡ take (n - 1) there → Walked false (path id t) old new
+walked_back id l bs t old here there new n e f g w len rest =
+    let h : there ≡ old ++ l.id ∷ [] = w.1 ∙ g in
+    let k : n - 1 ≡ length old = omega (arith, len, ap length h, length-append {A = ObjId} old (l.id ∷ [])) in
+    (path_through id l bs t e f ∙ ap (option_map (λ p. l.id ∷ p)) w.0, rest ∙ (λ i. take (k i) (h i)) ∙ take-append_seam old (l.id ∷ []))
+
 -- ---- two trees
 
 abbrev trees_of : Forest → List Branch
@@ -108,3 +131,7 @@ same_branch l m bs cs t u e f h = (
   λ k. let x : l ≡ m = ap (λ v. v.label) e ∙ h ∙ sym (ap (λ v. v.label) f) in sym e ∙ (λ i. record { label = x i; below = forest_of (k i) }) ∙ f,
   λ k. let x : forest_of bs ≡ forest_of cs = ap (λ v. v.below) (e ∙ k ∙ sym f) in sym (trees_back bs) ∙ ap trees_of x ∙ trees_back cs,
 )
+
+-- two trees are the same whose parts are
+pub by_branches : (id : ObjId) (kind : Kind) (p q : Option Pos) (xs ys : List (Name × Value)) (bs cs : List Branch) (t : Branch) → p ≡ q → xs ≡ ys → bs ≡ cs → branch id kind q ys cs ≡ t → branch id kind p xs bs ≡ t
+by_branches id kind p q xs ys bs cs t e f g h = (λ i. branch id kind (e i) (f i) (g i)) ∙ h

@@ -7,9 +7,10 @@ use Rattle.std.specs.declared.cmp.Ordering.TheVariants.{Less, Equal, Greater}
 use Rattle.std.specs.FinMap as finmap
 use Rattle.canvas_model.specs.declared.ObjId.{ObjId}
 use Rattle.canvas_model.specs.Ids.{id_cmp, root}
-use Rattle.canvas_model.specs.Document.{Doc, Object, Place, IsDocument, live, kind_of, place_of}
+use Rattle.canvas_model.specs.Document.{Doc, Object, IsDocument, live, kind_of}
 use Rattle.canvas_model.specs.Chain.{Below, itself, through, InTree}
 use Rattle.canvas_model.specs.Children.{parent_of}
+use Rattle.canvas_model.proofs.Children.{child_place}
 use Rattle.canvas_model.proofs.Ids.{id_apart}
 use Rattle.canvas_tree.proofs.Members.{IsIn}
 use Rattle.canvas_tree.proofs.Climbs.{IsClimb, climb, climb_is, climb_short}
@@ -25,13 +26,6 @@ some_or_none (Some x) = inl (x, refl)
 
 pub object_there : (d : Doc) (q : ObjId) → live d q ≡ true → (o : Object) × (finmap.get d q ≡ Some o)
 object_there d q h = elim (some_or_none (finmap.get d q)) [ inl s ↦ s | inr n ↦ absurd (let e : live d q ≡ false = ap is_some n in cc) ]
-
--- the place that names a parent
-pub place_there : (d : Doc) (q p : ObjId) → parent_of d q ≡ Some p → (place : Place) × (place_of d q ≡ Some place) × (place.parent ≡ p)
-place_there d q p e = elim (some_or_none (place_of d q)) [
-  | inl s ↦ (s.0, s.1, some_is _ _ (sym (ap (option_map (λ p. p.parent)) s.1) ∙ e))
-  | inr n ↦ absurd (let f : None ≡ Some p = sym (ap (option_map (λ p. p.parent)) n) ∙ e in cc f)
-]
 
 pub object_of_child : (d : Doc) (q p : ObjId) → parent_of d q ≡ Some p → (o : Object) × (finmap.get d q ≡ Some o)
 object_of_child d q p e = elim (some_or_none (finmap.get d q)) [
@@ -74,7 +68,7 @@ length_everyone (e ∷ es) = ap suc (length_everyone es)
 -- ---- in the tree
 
 pub child_below : (d : Doc) (q p o : ObjId) → parent_of d q ≡ Some p → Below d p o → Below d q o
-child_below d q p o e h = let s = place_there d q p e in through s.0 s.1 (subst (λ v. Below d v o) (sym s.2) h)
+child_below d q p o e h = let s = child_place d q p e in through s.0 s.1 (subst (λ v. Below d v o) (sym s.2) h)
 
 pub climb_of : {d : Doc} {q o : ObjId} → Below d q o → (ps : List ObjId) × IsClimb (parent_of d) o q ps
 climb_of (itself h) = ([], refl)

@@ -2,29 +2,22 @@
 use Rattle.std.proofs.Common.{◌≡◌, ℕ, zero, suc, ◌<◌, List, [], ◌∷◌, refl, sym, ◌∙◌, ap, subst, inl, inr, arith}
 use Rattle.std.specs.Prelude.{Option, None, Some}
 use Rattle.std.specs.Option.{option_map}
-use Rattle.std.specs.Ordering.{ordering_then, nat_cmp}
+use Rattle.std.specs.Ordering.{nat_cmp}
 use Rattle.std.specs.Cmp.Lexicographic.{slice_cmp}
 use Rattle.std.specs.List.Sorted.{IsStrictlySortedBy}
-use Rattle.std.specs.declared.cmp.Ordering.{Ordering}
-use Rattle.std.specs.declared.cmp.Ordering.TheVariants.{Less, Equal, Greater}
 use Rattle.canvas_model.specs.declared.ObjId.{ObjId}
 use Rattle.canvas_model.specs.Ids.{id_cmp, root}
 use Rattle.canvas_model.specs.Document.{Doc, IsDocument}
 use Rattle.canvas_model.specs.Chain.{itself, InTree}
 use Rattle.canvas_model.specs.Children.{AreChildren, child_cmp, parent_of, position_of}
 use Rattle.canvas_model.proofs.Ids.{id_apart, id_dec}
-use Rattle.canvas_model.proofs.Making.{below_live}
+use Rattle.canvas_model.proofs.Children.{child_cmp_total, second_ties}
+use Rattle.canvas_model.proofs.Trees.{below_live}
 use Rattle.canvas_tree.specs.Shapes.{Forest, none, tree, Branch, tops}
 use Rattle.canvas_tree.specs.Trees.{label_of, AreNodes, IsTreeAt, IsTreeOf}
 use Rattle.canvas_tree.proofs.Members.{IsIn, in_from, in_to}
 use Rattle.canvas_tree.proofs.Ordered.{put, put_sorted, put_in, put_keeps, put_there, sorted_none}
 use Rattle.canvas_tree.proofs.Rows.{some_is, object_there, everyone, live_listed, child_live, root_live, child_below, room_below, room_falls}
-use Rattle.canvas_tree.proofs.One.{child_cmp_total}
-
-second_ties : (a b : Ordering) → ordering_then a b ≡ Equal → b ≡ Equal
-second_ties Less b e = absurd (let f : Less ≡ Equal = e in cc f)
-second_ties Equal b e = e
-second_ties Greater b e = absurd (let f : Greater ≡ Equal = e in cc f)
 
 -- ---- the children of an object
 

@@ -5,3 +5,4 @@ pub mod Chains
 pub mod Reads
 pub mod Texts
 pub mod Laws
+pub mod Headline

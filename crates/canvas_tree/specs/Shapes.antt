@@ -1,5 +1,5 @@
 -- Trees as plain data.
-use Rattle.std.specs.Prelude.{ℕ, suc, ◌+◌, ◌++◌, List, [], ◌∷◌, Option}
+use Rattle.std.specs.Prelude.{◌≡◌, ℕ, suc, ◌+◌, ◌++◌, List, [], ◌∷◌, Option}
 use Rattle.canvas_model.specs.declared.ObjId.{ObjId}
 use Rattle.canvas_model.specs.declared.Kind.{Kind}
 use Rattle.canvas_model.specs.Value.{Value}
@@ -11,6 +11,10 @@ pub record Label : Type 0 where
   pub kind : Kind
   pub pos : Option Pos
   pub props : List (Name × Value)
+
+-- the two are one object, of one kind and at one position
+abbrev pub HaveOneHead : Label → Label → Type 0
+HaveOneHead l m = (l.id ≡ m.id) × (l.kind ≡ m.kind) × (l.pos ≡ m.pos)
 
 -- trees side by side: what stands at the top of the first one, the trees below that, and the trees after the first
 pub data Forest : Type 0 where

@@ -6,16 +6,18 @@ ghost use Rattle.canvas_model.specs.Chain.{InTree};
 ghost use Rattle.canvas_tree.specs.Trees.{IsTreeAt, IsTreeOf};
 
 use crate::Tree;
-use crate::props::copy_props;
 use canvas_doc::{Doc, ObjId, Object};
 use canvas_pos::Pos;
+use canvas_value::copy_props;
 use std::alloc::{AllocError, Allocator};
 
-/// The tree of the document: the root at its top, and below each object the live objects whose place names it, by position
-/// and then by id. What no chain of parents joins to the root isn't in it: objects on or below a cycle of parents, and those
-/// at or below an object whose parent isn't live.
+/// The tree of the document: the root at its top, and below each object the live objects whose
+/// place names it, by position and then by id. What no chain of parents joins to the root isn't in
+/// it: objects on or below a cycle of parents, and those at or below an object whose parent isn't
+/// live.
 ///
-/// It asks the document once for each object in the tree, and once for its children. Fails only where memory is refused.
+/// It asks the document once for each object in the tree, and once for its children. Fails only
+/// where memory is refused.
 pub fn grow<A: Allocator + Copy, B: Allocator + Copy>(
     alloc: A,
     doc: &Doc<B>,
@@ -49,7 +51,7 @@ fn grow_at<A: Allocator + Copy, B: Allocator + Copy>(
         children.push(tree)?;
     }
     let pos = position(alloc, object)?;
-    let props = copy_props(object.props(), alloc)?;
+    let props = copy_props(alloc, object.props())?;
     Ok(Tree {
         id,
         kind: object.kind(),

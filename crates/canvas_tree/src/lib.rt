@@ -3,10 +3,10 @@
 
 mod growing;
 mod laws;
-mod props;
 mod texts;
 mod tree;
 
 pub use growing::grow;
-pub use laws::{one_tree, reads_tree, stands_in_tree};
+pub use laws::{one_document, one_tree, reads_tree, stands_in_tree};
+pub use texts::write_props;
 pub use tree::Tree;

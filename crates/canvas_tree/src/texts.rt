@@ -1,5 +1,5 @@
 // The text of a tree.
-ghost use Rattle.std.specs.Prelude.{◌≡◌, ◌++◌, ◌<◌, ◌^◌, IfOk, OnOk, string_bytes};
+ghost use Rattle.std.specs.Prelude.{◌≡◌, ◌++◌, ◌<◌, ◌^◌, IfOk, OnErr, OnOk, string_bytes};
 ghost use Rattle.std.specs.List.{flat_map};
 ghost use Rattle.canvas_tree.specs.Shapes.{forest_of};
 ghost use Rattle.canvas_tree.specs.Texts.{blanks, forest_text, head_line, head_text, prop_line, tree_text};
@@ -8,9 +8,9 @@ use crate::Tree;
 use canvas_value::{Name, Value};
 use std::alloc::{AllocError, Allocator, Global};
 
-/// Writes the text of the tree at this level. Where memory is refused, `out` may have grown.
+// Writes the text of the tree at this level. Where memory is refused, `out` may have grown.
 #[cycle(write)]
-pub fn write_tree<A: Allocator, B: Allocator>(
+pub(crate) fn write_tree<A: Allocator, B: Allocator>(
     alloc: Global,
     tree: &Tree<A>,
     level: usize,
@@ -19,19 +19,21 @@ pub fn write_tree<A: Allocator, B: Allocator>(
     ensures { OnOk result (out.new.items ≡ out.old.items ++ tree_text tree.now level) }
 {
     write_head(alloc, tree, level, out)?;
-    write_props(alloc, &tree.props, level + 1, out)?;
+    push_props(alloc, &tree.props, level + 1, out)?;
     write_trees(alloc, &tree.children, level + 1, out)?;
     Ok(())
 }
 
+// Writes the texts of the trees, one after another. Where memory is refused, `out` may have grown.
 #[cycle(write)]
 fn write_trees<A: Allocator, B: Allocator>(
     alloc: Global,
-    trees: &Vec<Tree<A>, A>,
+    trees: &[Tree<A>],
     level: usize,
     out: &mut Vec<u8, B>,
 ) -> Result<(), AllocError>
-    ensures { OnOk result (out.new.items ≡ out.old.items ++ forest_text (forest_of trees.now.items) level) }
+    ensures { OnOk result (
+        out.new.items ≡ out.old.items ++ forest_text (forest_of trees.now) level) }
 {
     for tree in trees {
         write_tree(alloc, tree, level, out)?;
@@ -70,8 +72,28 @@ fn head_text<A: Allocator>(alloc: Global, tree: &Tree<A>) -> Result<String, Allo
     }
 }
 
-// Writes a line for each of the properties.
-fn write_props<A: Allocator, B: Allocator>(
+/// Writes a line for each of the properties at this level: two blanks for each level, a full stop
+/// and the name, a blank and the compact JSON of the value.
+///
+/// `alloc` serves for the lines while they are made. Fails only where memory is refused, and then
+/// `out` is unchanged.
+pub fn write_props<A: Allocator, B: Allocator>(
+    alloc: Global,
+    props: &[(Name<A>, Value<A>)],
+    level: usize,
+    out: &mut Vec<u8, B>,
+) -> Result<(), AllocError>
+    ensures ok { OnOk result (
+        out.new.items ≡ out.old.items ++ flat_map (prop_line level) props.now) }
+    ensures err { OnErr result (out.new.items ≡ out.old.items) }
+{
+    let mut lines = Vec::new(alloc);
+    push_props(alloc, props, level, &mut lines)?;
+    out.extend_from_slice(&lines)
+}
+
+// Writes a line for each of the properties. Where memory is refused, `out` may have grown.
+fn push_props<A: Allocator, B: Allocator>(
     alloc: Global,
     props: &[(Name<A>, Value<A>)],
     level: usize,

@@ -1,29 +1,34 @@
 // A tree of a document's objects.
-ghost use Rattle.std.specs.Prelude.{◌≡◌, ◌↔◌, ◌++◌, IfOk, IsTrue, OnOk, min};
+ghost use Rattle.std.specs.Prelude.{◌≡◌, ◌↔◌, ◌++◌, IfOk, IsTrue, OnErr, OnOk, min};
 ghost use Rattle.std.specs.Option.{option_map};
-ghost use Rattle.canvas_tree.specs.Shapes.{branch_size, forest_of};
+ghost use Rattle.canvas_tree.specs.Shapes.{HaveOneHead, branch_size, forest_of};
 ghost use Rattle.canvas_tree.specs.Reads.{found, path, path_in, Walked};
 ghost use Rattle.canvas_tree.specs.Texts.{tree_text};
 
-use crate::props::{copy_props, same_props};
 use crate::texts::write_tree;
 use canvas_doc::{Kind, ObjId};
 use canvas_pos::Pos;
-use canvas_value::{Name, Value};
+use canvas_value::{Name, Value, copy_props, same_props};
 use std::alloc::{AllocError, Allocator, Global};
 use std::marker::Model;
 
-/// An object of a document with its properties, and the trees of its children. All of it stands under one allocator.
+/// An object of a document with its properties, and the trees of its children. All of it stands
+/// under one allocator.
 ///
-/// A tree that was grown of a document has the root at its top; children stand by position and then by id, properties by
-/// name. A tree in an arena borrows the arena, and so is dropped before the arena's reset.
+/// A tree that was grown of a document has the root at its top; children stand by position and then
+/// by id, properties by name. A tree in an arena borrows the arena, and so is dropped before the
+/// arena's reset.
 #[derive(Drop)]
 pub struct Tree<A: Allocator = Global> {
+    /// The id of the object at the top.
     pub id: ObjId,
+    /// What it is.
     pub kind: Kind,
-    /// None at the root.
+    /// Its position among its parent's children; none at the root.
     pub pos: Option<Pos<A>>,
+    /// Its properties.
     pub props: Vec<(Name<A>, Value<A>), A>,
+    /// The trees below it.
     pub children: Vec<Tree<A>, A>,
 }
 
@@ -73,8 +78,8 @@ impl<A: Allocator> Tree<A> {
         None
     }
 
-    /// The ids from the top of the tree down to this object, both among them, or none if it doesn't stand in the tree. Fails
-    /// only where memory is refused.
+    /// The ids from the top of the tree down to this object, both among them, or none if it doesn't
+    /// stand in the tree. Fails only where memory is refused.
     pub fn path_to<B: Allocator>(
         &self,
         alloc: B,
@@ -90,27 +95,33 @@ impl<A: Allocator> Tree<A> {
         }
     }
 
-    /// The same tree under another allocator. Fails only where memory is refused, and then leaves nothing behind.
+    /// The same tree under another allocator. Fails only where memory is refused, and then leaves
+    /// nothing behind.
     pub fn copy_in<B: Allocator + Copy>(&self, alloc: B) -> Result<Tree<B>, AllocError>
         ensures { IfOk result (λ t. t ≡ self.now) }
     {
-        copy_tree(self, alloc)
+        copy_tree(alloc, self)
     }
 
-    /// Writes the text of the tree at this level: a line for each object and, one level deeper, for each of its properties, two
-    /// blanks deeper at each level; then the trees below it, one level deeper. An object's line is its id, its kind, and its
-    /// position if it has one; a property's is a full stop and its name, a blank and the compact JSON of its value.
+    /// Writes the text of the tree at this level: a line for each object and, one level deeper, for
+    /// each of its properties, two blanks deeper at each level; then the trees below it, one level
+    /// deeper. An object's line is its id, its kind, and its position if it has one; a property's
+    /// is a full stop and its name, a blank and the compact JSON of its value.
     ///
-    /// `alloc` serves for the lines while they are made. Fails only where memory is refused, and then `out` may have grown.
+    /// `alloc` serves for the text while it is made. Fails only where memory is refused, and then
+    /// `out` is unchanged.
     pub fn text<B: Allocator>(
         &self,
         alloc: Global,
         level: usize,
         out: &mut Vec<u8, B>,
     ) -> Result<(), AllocError>
-        ensures { OnOk result (out.new.items ≡ out.old.items ++ tree_text self.now level) }
+        ensures ok { OnOk result (out.new.items ≡ out.old.items ++ tree_text self.now level) }
+        ensures err { OnErr result (out.new.items ≡ out.old.items) }
     {
-        write_tree(alloc, self, level, out)
+        let mut text = Vec::new(alloc);
+        write_tree(alloc, self, level, &mut text)?;
+        out.extend_from_slice(&text)
     }
 
     /// Whether two trees are the same, whichever allocators hold them. It takes no memory.
@@ -121,7 +132,8 @@ impl<A: Allocator> Tree<A> {
     }
 }
 
-// Writes the path to the object and says whether there is one; where there is none, nothing is written.
+// Writes the path to the object and says whether there is one; where there is none, nothing is
+// written.
 #[cycle(walk)]
 fn walk<A: Allocator, B: Allocator>(
     tree: &Tree<A>,
@@ -141,13 +153,15 @@ fn walk<A: Allocator, B: Allocator>(
     Ok(false)
 }
 
+// The same in the first of these trees that has the object.
 #[cycle(walk)]
 fn walk_among<A: Allocator, B: Allocator>(
-    trees: &Vec<Tree<A>, A>,
+    trees: &[Tree<A>],
     id: ObjId,
     ids: &mut Vec<ObjId, B>,
 ) -> Result<bool, AllocError>
-    ensures { IfOk result (λ yes. Walked yes (path_in id (forest_of trees.now.items)) ids.old.items ids.new.items) }
+    ensures { IfOk result (λ yes.
+        Walked yes (path_in id (forest_of trees.now)) ids.old.items ids.new.items) }
 {
     for tree in trees {
         if walk(tree, id, ids)? {
@@ -157,16 +171,17 @@ fn walk_among<A: Allocator, B: Allocator>(
     Ok(false)
 }
 
+// The same tree under another allocator.
 #[cycle(copy)]
 fn copy_tree<A: Allocator, B: Allocator + Copy>(
-    tree: &Tree<A>,
     alloc: B,
+    tree: &Tree<A>,
 ) -> Result<Tree<B>, AllocError>
     ensures { IfOk result (λ t. t ≡ tree.now) }
 {
-    let children = copy_trees(&tree.children, alloc)?;
-    let pos = copy_pos(&tree.pos, alloc)?;
-    let props = copy_props(&tree.props, alloc)?;
+    let children = copy_trees(alloc, &tree.children)?;
+    let pos = copy_pos(alloc, &tree.pos)?;
+    let props = copy_props(alloc, &tree.props)?;
     Ok(Tree {
         id: tree.id,
         kind: tree.kind,
@@ -176,33 +191,33 @@ fn copy_tree<A: Allocator, B: Allocator + Copy>(
     })
 }
 
+// The same trees under another allocator.
 #[cycle(copy)]
 fn copy_trees<A: Allocator, B: Allocator + Copy>(
-    trees: &Vec<Tree<A>, A>,
     alloc: B,
+    trees: &[Tree<A>],
 ) -> Result<Vec<Tree<B>, B>, AllocError>
-    ensures { IfOk result (λ v. v.items ≡ trees.now.items) }
+    ensures { IfOk result (λ v. v.items ≡ trees.now) }
 {
     let mut copies = Vec::with_capacity(alloc, trees.len())?;
     for tree in trees {
-        let copy = copy_tree(tree, alloc)?;
+        let copy = copy_tree(alloc, tree)?;
         copies.push(copy)?;
     }
     Ok(copies)
 }
 
-fn copy_pos<A: Allocator, B: Allocator>(
-    pos: &Option<Pos<A>>,
+// The same position under another allocator, or none again.
+fn copy_pos<A: Allocator, B: Allocator + Copy>(
     alloc: B,
+    pos: &Option<Pos<A>>,
 ) -> Result<Option<Pos<B>>, AllocError>
     ensures { IfOk result (λ p. p ≡ pos.now) }
 {
-    match pos {
-        Some(pos) => Ok(Some(pos.copy(alloc)?)),
-        None => Ok(None),
-    }
+    pos.as_ref().map(|pos| pos.copy(alloc)).transpose()
 }
 
+// Whether two trees are the same.
 #[cycle(same)]
 fn same_tree<A: Allocator, B: Allocator>(one: &Tree<A>, other: &Tree<B>) -> bool
     ensures { IsTrue result ↔ (one.now ≡ other.now) }
@@ -210,9 +225,10 @@ fn same_tree<A: Allocator, B: Allocator>(one: &Tree<A>, other: &Tree<B>) -> bool
     same_label(one, other) && same_trees(&one.children, &other.children)
 }
 
+// Whether the trees are the same, in the same order.
 #[cycle(same)]
-fn same_trees<A: Allocator, B: Allocator>(ones: &Vec<Tree<A>, A>, others: &Vec<Tree<B>, B>) -> bool
-    ensures { IsTrue result ↔ (ones.now.items ≡ others.now.items) }
+fn same_trees<A: Allocator, B: Allocator>(ones: &[Tree<A>], others: &[Tree<B>]) -> bool
+    ensures { IsTrue result ↔ (ones.now ≡ others.now) }
 {
     if ones.len() != others.len() {
         return false;
@@ -234,16 +250,17 @@ fn same_label<A: Allocator, B: Allocator>(one: &Tree<A>, other: &Tree<B>) -> boo
 
 // Whether their ids, their kinds and their positions are the same.
 fn same_head<A: Allocator, B: Allocator>(one: &Tree<A>, other: &Tree<B>) -> bool
-    ensures { IsTrue result ↔ ((one.now.label.id ≡ other.now.label.id) × (one.now.label.kind ≡ other.now.label.kind) × (one.now.label.pos ≡ other.now.label.pos)) }
+    ensures { IsTrue result ↔ HaveOneHead one.now.label other.now.label }
 {
     one.id == other.id && one.kind == other.kind && same_pos(&one.pos, &other.pos)
 }
 
+// Whether the two are the same position, or both none.
 fn same_pos<A: Allocator, B: Allocator>(one: &Option<Pos<A>>, other: &Option<Pos<B>>) -> bool
     ensures { IsTrue result ↔ (one.now ≡ other.now) }
 {
     match (one, other) {
-        (Some(one), Some(other)) => one.bytes() == other.bytes(),
+        (Some(one), Some(other)) => one.same(other),
         (None, None) => true,
         _ => false,
     }
