@@ -41,7 +41,3 @@ version_line v t u e = ap (λ t. v ++ (32 ∷ (t ++ (10 ∷ [])))) e ∙ simp ap
 pub refused_parts : (front n m w x c d : List ℕ) → n ≡ m → w ≡ x → c ≡ d → front ++ (n ++ (32 ∷ (w ++ c))) ≡ front ++ m ++ codes " " ++ x ++ d
 refused_parts front n m w x c d a b e =
     ap (λ n. front ++ (n ++ (32 ∷ (w ++ c)))) a ∙ ap (λ w. front ++ (m ++ (32 ∷ (w ++ c)))) b ∙ ap (λ c. front ++ (m ++ (32 ∷ (x ++ c)))) e ∙ simp append_assoc refl
-
--- a name and a value after two blanks and a dot
-pub named_value : (n m v w : List ℕ) → n ≡ m → v ≡ w → codes "  ." ++ (n ++ (32 ∷ (v ++ (10 ∷ [])))) ≡ codes "  ." ++ m ++ codes " " ++ w ++ 10 ∷ []
-named_value n m v w a b = ap (λ n. codes "  ." ++ (n ++ (32 ∷ (v ++ (10 ∷ []))))) a ∙ ap (λ v. codes "  ." ++ (m ++ (32 ∷ (v ++ (10 ∷ []))))) b ∙ simp append_assoc refl

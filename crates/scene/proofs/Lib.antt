@@ -1,9 +1,3 @@
-pub mod Asks
-pub mod Cut
-pub mod Ids
 pub mod Joined
 pub mod Numbered
 pub mod Played
-pub mod Spelled
-pub mod Splitting
-pub mod Told

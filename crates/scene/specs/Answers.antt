@@ -2,20 +2,9 @@
 use Rattle.std.specs.Prelude.{ℕ, List, [], ◌∷◌, ◌++◌, codes, Option, None, Some}
 use Rattle.std.specs.List.{flat_map}
 use Rattle.std.specs.Fmt.{decimal}
-use Rattle.canvas_model.specs.declared.Reason.{Reason}
-use Rattle.canvas_model.specs.declared.Reason.TheVariants.{IsRoot, BadId, Gone, ParentGone, BadParent, Cycle, Crowded}
 use Rattle.canvas_model.specs.Document.{Place}
-use Rattle.canvas_model.specs.Text.{id_text, place_text}
+use Rattle.canvas_model.specs.Text.{id_text, place_text, reason_word}
 use Rattle.canvas_model.specs.Verdict.{Outcome, Joined, Created, WasSet, Moved, Removed, Refused, number_of}
-
-abbrev pub reason_word : Reason → List ℕ
-reason_word IsRoot = codes "IsRoot"
-reason_word BadId = codes "BadId"
-reason_word Gone = codes "Gone"
-reason_word ParentGone = codes "ParentGone"
-reason_word BadParent = codes "BadParent"
-reason_word Cycle = codes "Cycle"
-reason_word Crowded = codes "Crowded"
 
 -- the place that a refusal carries
 abbrev pub carried_text : Option Place → List ℕ

@@ -1,12 +1,4 @@
 pub mod Answers
-pub mod Blocks
-pub mod Faults
-pub mod Lines
-pub mod Reading
 pub mod Report
 pub mod Results
 pub mod Runs
-pub mod Seen
-pub mod Spelling
-pub mod Verbs
-pub mod Words

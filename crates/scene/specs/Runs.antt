@@ -1,32 +1,61 @@
--- The log that requests make.
-use Rattle.std.specs.Prelude.{◌≡◌, ◌⊎◌, ℕ, ◌+◌, ◌<◌, false, List, [], ◌∷◌, ◌++◌, length}
+-- The log that requests make, and what they are answered.
+use Rattle.std.specs.Prelude.{◌≡◌, ◌⊎◌, ℕ, ◌+◌, ◌<◌, false, List, [], ◌∷◌, ◌++◌, length, codes, if◌then◌else◌}
 use Rattle.canvas_model.specs.State.{State, opening, joined, next}
 use Rattle.canvas_model.specs.Log.{Entry, Join, Edit, Fits, effect, fold, IsLegal, last_version}
-use Rattle.scene.specs.Spelling.{Asked, AskJoin, AskEdit}
+use Rattle.scene.specs.Answers.{answer_line}
+use Rattle.canvas_lines.specs.Spelling.{Requested, RequestedJoin, RequestedEdit}
 
--- the request makes no entry in this state at this version: its author hasn't joined, or the server is full
-abbrev pub IsLeftOut : State → ℕ → Asked → Type 0
-IsLeftOut s version AskJoin = (version ≡ last_version) ⊎ (4294967294 < next s)
-IsLeftOut s version (AskEdit author change) = (joined s author ≡ false) ⊎ (version ≡ last_version)
+-- the request makes no entry in this state at this version: its author hasn't joined, or the server
+-- is full
+abbrev pub IsLeftOut : State → ℕ → Requested → Type 0
+IsLeftOut s version RequestedJoin = (version ≡ last_version) ⊎ (4294967294 < next s)
+IsLeftOut s version (RequestedEdit author change) = (joined s author ≡ false) ⊎ (version ≡ last_version)
+
+-- the answer to a request that makes no entry: an author that hasn't joined is a stranger, even to
+-- a full server
+abbrev pub left_out_line : State → Requested → List ℕ
+left_out_line s RequestedJoin = codes "full\n"
+left_out_line s (RequestedEdit author change) = if joined s author then codes "full\n" else codes "stranger\n"
 
 -- the entry is this request's: it has its author and its change
-abbrev pub IsEntryOf : Asked → Entry → Type 0
-IsEntryOf AskJoin e = e.what ≡ Join
-IsEntryOf (AskEdit author change) e = (e.author ≡ author) × (e.what ≡ Edit change)
+abbrev pub IsEntryOf : Requested → Entry → Type 0
+IsEntryOf RequestedJoin e = e.what ≡ Join
+IsEntryOf (RequestedEdit author change) e = (e.author ≡ author) × (e.what ≡ Edit change)
 
--- the entries are those of the requests in order, from this state and version on, leaving out the requests that make none
-pub data Makes : State → ℕ → List Asked → List Entry → Type 0 where
-  no_more : {s : State} {version : ℕ} → Makes s version [] []
-  left_out : {s : State} {version : ℕ} {asked : Asked} {more : List Asked} {log : List Entry} → IsLeftOut s version asked → Makes s version more log → Makes s version (asked ∷ more) log
-  answered : {s : State} {version : ℕ} {asked : Asked} {more : List Asked} {e : Entry} {log : List Entry} → (IsLeftOut s version asked → ⊥) → IsEntryOf asked e → Makes (effect s e) (version + 1) more log → Makes s version (asked ∷ more) (e ∷ log)
+-- the entries are those of the requests in order, from this state and version on, leaving out the
+-- requests that make none; the lines answer each request, one that makes an entry by the version
+-- after it and what became of it
+pub data Answers : State → ℕ → List Requested → List Entry → List ℕ → Type 0 where
+  no_more : {s : State} {version : ℕ} → Answers s version [] [] []
+  left_out : {s : State} {version : ℕ} {requested : Requested} {more : List Requested} {log : List Entry} {lines : List ℕ}
+      → IsLeftOut s version requested
+      → Answers s version more log lines
+      → Answers s version (requested ∷ more) log (left_out_line s requested ++ lines)
+  answered : {s : State} {version : ℕ} {requested : Requested} {more : List Requested} {e : Entry} {log : List Entry} {lines : List ℕ}
+      → (IsLeftOut s version requested → ⊥)
+      → IsEntryOf requested e
+      → Answers (effect s e) (version + 1) more log lines
+      → Answers s version (requested ∷ more) (e ∷ log) (answer_line (version + 1) e.outcome ++ lines)
+
+-- the requests make these entries, whatever they are answered
+abbrev pub Makes : State → ℕ → List Requested → List Entry → Type 0
+Makes s version requested log = (lines : List ℕ) × Answers s version requested log lines
+
+-- the answers to these requests, which make these entries, were added to the text
+pub record AddsAnswers (requested : List Requested) (log : List Entry) (before after : List ℕ) : Type 0 where
+  pub lines : List ℕ
+  pub answers : Answers opening 0 requested log lines
+  pub added : after ≡ before ++ lines
 
 -- the entries are a legal log, and the state is what they lead to
 pub record IsFold (log : List Entry) (s : State) : Type 0 where
   pub legal : IsLegal opening log
   pub state : s ≡ fold opening log
 
--- the request was answered: it makes no entry and nothing has changed, or it makes one more, which fits
-abbrev pub IsAnswered : Asked → List Entry → State → List Entry → State → Type 0
-IsAnswered asked log s new_log new_s =
-    (IsLeftOut s (length log) asked × (new_log ≡ log) × (new_s ≡ s))
-    ⊎ ((e : Entry) × (IsLeftOut s (length log) asked → ⊥) × IsEntryOf asked e × Fits s e × (new_log ≡ log ++ e ∷ []) × (new_s ≡ effect s e))
+-- the request was answered: it makes no entry and nothing has changed, or it makes one more, which
+-- fits; its answer was added to the text
+abbrev pub IsAnswered : Requested → List Entry → State → List ℕ → List Entry → State → List ℕ → Type 0
+IsAnswered requested log s text new_log new_s new_text =
+    (IsLeftOut s (length log) requested × (new_log ≡ log) × (new_s ≡ s) × (new_text ≡ text ++ left_out_line s requested))
+    ⊎ ((e : Entry) × (IsLeftOut s (length log) requested → ⊥) × IsEntryOf requested e × Fits s e × (new_log ≡ log ++ e ∷ []) × (new_s ≡ effect s e)
+    × (new_text ≡ text ++ answer_line (length log + 1) e.outcome))

@@ -1,15 +1,17 @@
 // The lines that answer requests.
 ghost use Rattle.std.specs.Prelude.{◌≡◌, IfOk, string_bytes};
+ghost use Rattle.canvas_judge.specs.Seen.{seen_outcome};
 ghost use Rattle.canvas_model.specs.Text as text;
-ghost use Rattle.scene.specs.Answers.{answer_line, carried_text, outcome_text, reason_word};
+ghost use Rattle.scene.specs.Answers.{answer_line, carried_text, outcome_text};
 
 use canvas_doc::Place;
-use canvas_judge::{Outcome, OutcomeNode, Reason};
+use canvas_judge::Outcome;
 use std::alloc::{AllocError, Global};
 
 /// The line that answers a request which became the log's entry of this version.
 pub fn answer_line(alloc: Global, version: u64, outcome: &Outcome) -> Result<String, AllocError>
-    ensures { IfOk result (λ line. string_bytes line ≡ answer_line version outcome.now) }
+    ensures { IfOk result (λ line.
+        string_bytes line ≡ answer_line version (seen_outcome outcome.now)) }
 {
     let outcome = outcome_text(alloc, outcome)?;
     format!(in alloc; "{version} {outcome}\n")
@@ -17,48 +19,31 @@ pub fn answer_line(alloc: Global, version: u64, outcome: &Outcome) -> Result<Str
 
 // What became of a request.
 fn outcome_text(alloc: Global, outcome: &Outcome) -> Result<String, AllocError>
-    ensures { IfOk result (λ text. string_bytes text ≡ outcome_text outcome.now) }
+    ensures { IfOk result (λ text. string_bytes text ≡ outcome_text (seen_outcome outcome.now)) }
 {
-    match outcome.node() {
-        OutcomeNode::Joined(client) => format!(in alloc; "joined {client}"),
-        OutcomeNode::Created(place) => {
+    match outcome {
+        Outcome::Joined(client) => format!(in alloc; "joined {client}"),
+        Outcome::Created(place) => {
             let place = place_text(alloc, place)?;
             format!(in alloc; "created {place}")
         }
-        OutcomeNode::WasSet => String::from_str(alloc, "set"),
-        OutcomeNode::Moved(place) => {
+        Outcome::WasSet => String::from_str(alloc, "set"),
+        Outcome::Moved(place) => {
             let place = place_text(alloc, place)?;
             format!(in alloc; "moved {place}")
         }
-        OutcomeNode::Removed(ids) => {
+        Outcome::Removed(ids) => {
             let mut text = String::from_str(alloc, "removed")?;
             for id in ids {
-                let word = format!(in alloc; " {id}")?;
-                text.push_str(word.as_str())?;
+                write!(text, " {id}")?;
             }
             Ok(text)
         }
-        OutcomeNode::Refused { reason, stands } => {
+        Outcome::Refused { reason, stands } => {
             let number = reason.number();
-            let word = reason_word(*reason);
             let carried = carried_text(alloc, stands)?;
-            format!(in alloc; "refused {number} {word}{carried}")
+            format!(in alloc; "refused {number} {reason}{carried}")
         }
-    }
-}
-
-// The name of a reason.
-fn reason_word(reason: Reason) -> &'static str
-    ensures { result.now ≡ reason_word reason }
-{
-    match reason {
-        Reason::IsRoot => "IsRoot",
-        Reason::BadId => "BadId",
-        Reason::Gone => "Gone",
-        Reason::ParentGone => "ParentGone",
-        Reason::BadParent => "BadParent",
-        Reason::Cycle => "Cycle",
-        Reason::Crowded => "Crowded",
     }
 }
 

@@ -1,33 +1,29 @@
-//! `scene` reads the lines of a scene from standard input, plays its requests on a server, and prints an answer for each and a
-//! report of the document.
+//! `scene` reads the lines of a scene from standard input, plays its requests on a server, and
+//! prints an answer for each and a report of the document.
 #![tactic(auto)]
 
-ghost use Rattle.std.specs.Prelude.{◌≡◌, ℕ, IfOk, IfErr, OnOk};
-ghost use Rattle.scene.specs.Report.{EndsWith, object_lines};
-ghost use Rattle.scene.specs.Results.{IsErrorOf, IsLogOf, IsPlayed, IsStatus};
+ghost use Rattle.std.specs.Prelude.{◌≡◌, ◌<◌, [], ℕ, length, IfOk, IfErr, OnOk};
+ghost use Rattle.std.specs.Io.KnownBytes.{Appends};
+ghost use Rattle.canvas_lines.specs.Faults.{fault_line};
+ghost use Rattle.canvas_lines.specs.Spelling.{IsBadLine};
+ghost use Rattle.scene.specs.Results.{IsErrorOf, IsLeft, IsLogOf, IsReport};
+ghost use Rattle.scene.specs.Results.{IsCutBy, IsEnd, IsPlayed, IsRefused, IsRun, IsStatus, IsStopped};
 ghost use Rattle.scene.specs.Runs.{IsFold};
-ghost use Rattle.scene.specs.Spelling.{IsBadLine};
 
+use canvas_lines::{Fault, Reading, one_bad_line, read_input, read_requests, tell, write_out};
 use std::alloc::{AllocError, Global};
-use std::io::{Read, Write};
+use std::env;
+use std::io::{self, ErrorKind, Read, Write};
 use std::process::ExitCode;
 use thiserror::Error;
 
 mod answers;
-mod block;
-mod input;
-mod lines;
 mod play;
 mod report;
-mod requests;
-mod words;
 
-pub use block::block;
-use input::{Fault, read_input, tell, write_out};
 pub use play::LogRun;
 use play::play;
-use report::write_objects;
-use requests::{one_bad_line, read_requests};
+use report::write_report;
 
 /// Why a log wasn't played to its end.
 #[derive(Clone, Copy, Debug, PartialEq, Eq, Error)]
@@ -35,7 +31,7 @@ pub enum SceneError {
     /// The first line that can't be read, counted from 1.
     #[error("line {0}: cannot read")]
     BadLine(u64),
-    /// A growth was refused.
+    /// An allocation was refused.
     #[error("out of memory")]
     Memory,
 }
@@ -50,44 +46,58 @@ impl From<AllocError> for SceneError {
     }
 }
 
-/// Plays the requests of an input on an empty server. To `out` it adds a line that answers each request, then the version and a line
-/// for each live object, each followed by one for each of its properties.
+impl From<SceneError> for Fault {
+    ghost use Rattle.std.specs.Prelude.{◌≡◌};
+    ghost use Rattle.scene.specs.Results.{fault_of};
+
+    ghost from_gives = { λ error fault. fault ≡ fault_of error };
+
+    fn from(error: SceneError) -> Fault {
+        match error {
+            SceneError::BadLine(line) => Fault::BadLine(line),
+            SceneError::Memory => Fault::Memory,
+        }
+    }
+}
+
+/// Plays the requests of an input on an empty server. To `out` it adds a line that answers each
+/// request, then the version and a line for each live object, each followed by one for each of its
+/// properties.
 ///
-/// The lines end with a line feed, which the last may lack. Empty lines and lines that begin with `#` are passed over. The first other
-/// line is `log`, and each later one a request: `join`, or one of these, where C is the author's id and VALUE the JSON of a value (RFC 8259):
-/// `C create ID KIND PARENT POS`, `C set ID NAME VALUE`, `C clear ID NAME`, `C move ID PARENT POS`, `C delete ID`.
+/// The lines end with a line feed, which the last may lack. Empty lines and lines that begin with
+/// `#` are passed over. The first other line is `log`, and each later one a request: `join`, or one
+/// of these, where C is the author's id and VALUE the JSON of a value (RFC 8259): `C create ID KIND
+/// PARENT POS`, `C set ID NAME VALUE`, `C clear ID NAME`, `C move ID PARENT POS`, `C delete ID`.
 ///
-/// The errors: `BadLine`, where a line can't be read, with the answers to the lines before it in `out`; `Memory`, only where a growth was
-/// refused, and then `out` may have grown.
+/// The errors: `BadLine`, where a line can't be read, and then the answers to the lines before it
+/// were added to `out`; `Memory`, only where memory is refused, and then `out` is as it was.
 pub fn log_run(alloc: Global, input: &[u8], out: &mut Vec<u8>) -> Result<LogRun, SceneError>
     ensures log { IfOk result (λ run. IsLogOf input.now run.entries.items) }
     ensures fold { IfOk result (λ run. IsFold run.entries.items run.state) }
-    ensures report { IfOk result (λ run. EndsWith out.new.items (object_lines run.state.doc)) }
+    ensures report { IfOk result
+        (λ run. IsReport input.now run.entries.items run.state out.old.items out.new.items) }
     ensures error { IfErr result (IsErrorOf input.now) }
+    ensures left { IfErr result (IsLeft input.now out.old.items out.new.items) }
     ensures readable { IfOk result (λ _. (n : ℕ) → IsBadLine input.now n → ⊥) }
 {
+    // An input that stands for requests has no bad line.
     one_bad_line();
-    let reading = read_requests(alloc, input)?;
-    let run = play(alloc, &reading.requests, out)?;
-    if let Some(line) = reading.bad_line {
+    let Reading { requests, bad_line } = read_requests(alloc, input)?;
+    let mut text = Vec::new(alloc);
+    let run = play(alloc, requests, &mut text)?;
+    if let Some(line) = bad_line {
+        out.extend_from_slice(&text)?;
         return Err(SceneError::BadLine(line));
     }
-    write_report(alloc, &run, out)?;
+    write_report(alloc, run.version(), run.state.doc(), &mut text)?;
+    out.extend_from_slice(&text)?;
     Ok(run)
 }
 
-// Writes the version and the objects of a log's end.
-fn write_report(alloc: Global, run: &LogRun, out: &mut Vec<u8>) -> Result<(), AllocError>
-    ensures { OnOk result (EndsWith out.new.items (object_lines run.now.state.doc)) }
-{
-    let version = run.version();
-    let head = format!(in alloc; "version {version}\n")?;
-    out.extend_from_slice(head.as_bytes())?;
-    write_objects(alloc, run.state.doc(), out)
-}
-
-/// Reads a scene, plays it, and writes its answers and report. What it answers is the program's status: 0; 2 where a line can't be read, which
-/// is told on `faults`; 3 for want of memory; 4 where a read or write failed, or the input has more than 2^30 bytes or takes more than 2^31 reads.
+/// Reads a scene, plays it, and writes its answers and report. What it answers is the program's
+/// status: 0; 2 where a line can't be read, which is told on `faults`; 3 where memory is refused; 4
+/// where a read or write failed, or the input has more than 2^30 bytes or takes more than 2^31
+/// reads.
 pub fn run<R: Read, W: Write, F: Write>(
     alloc: Global,
     input: &mut R,
@@ -95,44 +105,113 @@ pub fn run<R: Read, W: Write, F: Write>(
     faults: &mut F,
 ) -> u8
     ensures status { IsStatus result }
-    ensures played { result ≡ 0 → IsPlayed (R.remaining input.old) (R.remaining input.new) (W.contents output.old) (W.contents output.new) }
+    ensures played { result ≡ 0 → IsPlayed
+        (R.remaining input.old) (R.remaining input.new)
+        (W.contents output.old) (W.contents output.new) }
+    ensures quiet { result ≡ 0 → F.contents faults.new ≡ F.contents faults.old }
+    ensures stopped { result ≡ 2 → IsStopped
+        (R.remaining input.old) (R.remaining input.new)
+        (W.contents output.old) (W.contents output.new)
+        (F.contents faults.old) (F.contents faults.new) }
+    ensures memory { result ≡ 3 → Appends
+        (F.contents faults.old) (F.contents faults.new) (fault_line Fault.Memory) }
 {
     match play_input(alloc, input, output) {
         Ok(()) => 0,
-        Err(fault) => match tell(&fault, faults) {
-            Ok(()) => fault.status(),
-            Err(_) => 4,
-        },
+        Err(fault) => end(&fault, faults),
+    }
+}
+
+// Tells of a fault. The program's status.
+fn end<F: Write>(fault: &Fault, faults: &mut F) -> u8
+    ensures { IsEnd fault.now result (F.contents faults.old) (F.contents faults.new) }
+{
+    match tell(fault, faults) {
+        Ok(()) => fault.status(),
+        Err(_) => 4,
     }
 }
 
 // Reads, plays and writes. Where a line can't be read, the answers to those before it are written.
 fn play_input<R: Read, W: Write>(alloc: Global, input: &mut R, output: &mut W) -> Result<(), Fault>
-    ensures { OnOk result (IsPlayed (R.remaining input.old) (R.remaining input.new) (W.contents output.old) (W.contents output.new)) }
+    ensures played { OnOk result (IsPlayed
+        (R.remaining input.old) (R.remaining input.new)
+        (W.contents output.old) (W.contents output.new)) }
+    ensures cut { IfErr result (IsCutBy
+        (R.remaining input.old) (R.remaining input.new)
+        (W.contents output.old) (W.contents output.new)) }
 {
     let text = read_input(alloc, input)?;
     let mut out = Vec::new(alloc);
-    match log_run(alloc, &text, &mut out) {
-        Ok(_) => write_out(output, &out),
-        Err(SceneError::BadLine(line)) => {
-            write_out(output, &out)?;
-            Err(Fault::BadLine(line))
-        }
-        Err(SceneError::Memory) => Err(Fault::Memory),
+    let played = log_run(alloc, &text, &mut out);
+    write_out(output, &out)?;
+    played?;
+    Ok(())
+}
+
+/// Runs the program with the words that follow its name. It takes none: where there are some, it
+/// reads nothing, and tells how it is called.
+pub fn start<R: Read, W: Write, F: Write>(
+    alloc: Global,
+    words: &[String],
+    input: &mut R,
+    output: &mut W,
+    faults: &mut F,
+) -> u8
+    ensures run { words.now ≡ [] → IsRun result
+        (R.remaining input.old) (R.remaining input.new)
+        (W.contents output.old) (W.contents output.new)
+        (F.contents faults.old) (F.contents faults.new) }
+    ensures unread { 0 < length words.now → R.remaining input.new ≡ R.remaining input.old }
+    ensures unwritten { 0 < length words.now → W.contents output.new ≡ W.contents output.old }
+    ensures refused { 0 < length words.now → IsRefused result
+        (F.contents faults.old) (F.contents faults.new) }
+{
+    if words.is_empty() {
+        run(alloc, input, output, faults)
+    } else {
+        refuse(faults)
     }
 }
 
+// Tells how the program is called.
+fn refuse<F: Write>(faults: &mut F) -> u8
+    ensures { IsRefused result (F.contents faults.old) (F.contents faults.new) }
+{
+    match write_out(faults, b"usage: scene < FILE\n") {
+        Ok(()) => 2,
+        Err(_) => 4,
+    }
+}
+
+// The words that follow the program's name.
+fn words(rt: &HostRuntime) -> io::Result<Vec<String>> {
+    let words: Vec<String> = env::args(rt)?.skip(1).collect(rt.alloc())?;
+    Ok(words)
+}
+
 fn main(rt: HostRuntime) -> ExitCode {
-    let status = run(
-        rt.alloc(),
-        &mut rt.stdin(),
-        &mut rt.stdout(),
-        &mut rt.stderr(),
-    );
+    let mut faults = rt.stderr();
+    let status = match words(&rt) {
+        Ok(words) => start(
+            rt.alloc(),
+            &words,
+            &mut rt.stdin(),
+            &mut rt.stdout(),
+            &mut faults,
+        ),
+        Err(error) => {
+            if error.kind() == ErrorKind::OutOfMemory {
+                end(&Fault::Memory, &mut faults)
+            } else {
+                refuse(&mut faults)
+            }
+        }
+    };
     ExitCode::from(status)
 }
 
 #[cfg(test)]
-mod reading_tests;
+mod example_tests;
 #[cfg(test)]
 mod tests;

@@ -1,7 +1,18 @@
-use crate::{block, log_run, run};
+use crate::{log_run, run, start};
+use canvas_lines::block;
 use std::alloc::Global;
 use std::io::{self, Error, ErrorKind, Read, Write};
 use std::test::Fail;
+
+// The lines, each with its line feed.
+fn joined(alloc: Global, lines: &[&str]) -> Result<Vec<u8>, Fail> {
+    let mut text = Vec::new(alloc);
+    for line in lines {
+        text.extend_from_slice(line.as_bytes())?;
+        text.push(b'\n')?;
+    }
+    Ok(text)
+}
 
 // What a run writes to its two outputs, and its status.
 #[derive(Drop)]
@@ -23,53 +34,91 @@ fn played(alloc: Global, input: &[u8]) -> Printed {
     }
 }
 
-fn prints(alloc: Global, input: &[u8], output: &[u8]) -> bool {
+// Whether these lines are answered by those, with status 0.
+pub(crate) fn prints(alloc: Global, input: &[&str], output: &[&str]) -> Result<bool, Fail> {
+    let printed = played(alloc, &joined(alloc, input)?);
+    let output = joined(alloc, output)?;
+    Ok(printed.status == 0 && printed.output == output && printed.faults.is_empty())
+}
+
+// Whether these lines are answered by those up to a bad line, which is told.
+fn stops(alloc: Global, input: &[&str], output: &[&str], fault: &str) -> Result<bool, Fail> {
+    let printed = played(alloc, &joined(alloc, input)?);
+    let output = joined(alloc, output)?;
+    let faults = joined(alloc, &[fault])?;
+    Ok(printed.status == 2 && printed.output == output && printed.faults == faults)
+}
+
+// Whether an input without any line feed at its end is answered by these lines.
+fn ends(alloc: Global, input: &[u8], output: &[&str]) -> Result<bool, Fail> {
     let printed = played(alloc, input);
-    printed.status == 0 && printed.output.as_slice() == output && printed.faults.is_empty()
-}
-
-fn stops(alloc: Global, input: &[u8], output: &[u8], faults: &[u8]) -> bool {
-    let printed = played(alloc, input);
-    printed.status == 2
-        && printed.output.as_slice() == output
-        && printed.faults.as_slice() == faults
+    Ok(printed.status == 0 && printed.output == joined(alloc, output)?)
 }
 
 #[test]
-fn empty_inputs(rt: HostRuntime) {
-    assert!(rt; prints(rt.alloc(), b"", b"version 0\n0:0 document\n"));
-    assert!(rt; prints(rt.alloc(), b"# nothing\n\n", b"version 0\n0:0 document\n"));
-    assert!(rt; prints(rt.alloc(), b"log", b"version 0\n0:0 document\n"));
+fn empty_inputs(rt: HostRuntime) -> Result<(), Fail> {
+    let report = ["version 0", "0:0 document"];
+    assert!(rt; prints(rt.alloc(), &[], &report)?);
+    assert!(rt; prints(rt.alloc(), &["# nothing", ""], &report)?);
+    assert!(rt; prints(rt.alloc(), &["log"], &report)?);
+    assert!(rt; ends(rt.alloc(), b"log", &report)?);
+    Ok(())
 }
 
 #[test]
-fn bad_lines(rt: HostRuntime) {
-    assert!(rt; stops(rt.alloc(), b"log\njion", b"", b"line 2: cannot read\n"));
-    assert!(rt;
-        stops(
-            rt.alloc(),
-            b"# a\nlog\njoin\n\nleave\njoin",
-            b"1 joined 1\n",
-            b"line 5: cannot read\n"
-        )
-    );
+fn bad_lines(rt: HostRuntime) -> Result<(), Fail> {
+    assert!(rt; stops(rt.alloc(), &["log", "jion"], &[], "line 2: cannot read")?);
+    let input = ["# a", "log", "join", "", "leave", "join"];
+    assert!(rt; stops(rt.alloc(), &input, &["1 joined 1"], "line 5: cannot read")?);
+    Ok(())
 }
 
 #[test]
-fn strangers_make_no_entry(rt: HostRuntime) {
-    let input =
-        b"log\n1 create 1:1 page 0:0 O\njoin\n0 create 0:1 page 0:0 O\n2 create 2:1 page 0:0 O\n";
-    let output = b"stranger\n1 joined 1\nstranger\nstranger\nversion 1\n0:0 document\n";
-    assert!(rt; prints(rt.alloc(), input, output));
+fn strangers_make_no_entry(rt: HostRuntime) -> Result<(), Fail> {
+    let input = [
+        "log",
+        "1 create 1:1 page 0:0 O",
+        "join",
+        "0 create 0:1 page 0:0 O",
+        "2 create 2:1 page 0:0 O",
+    ];
+    let output = [
+        "stranger",
+        "1 joined 1",
+        "stranger",
+        "stranger",
+        "version 1",
+        "0:0 document",
+    ];
+    assert!(rt; prints(rt.alloc(), &input, &output)?);
+    Ok(())
 }
 
 #[test]
-fn taken_positions(rt: HostRuntime) {
-    let input =
-        b"log\njoin\n1 create 1:1 page 0:0 O\n1 create 1:2 frame 1:1 O\n1 create 1:3 frame 1:1 O\n1 create 1:4 frame 1:1 O\n";
-    let output =
-        b"1 joined 1\n2 created 0:0 O\n3 created 1:1 O\n4 created 1:1 g\n5 created 1:1 [\nversion 5\n0:0 document\n1:1 page 0:0 O\n1:2 frame 1:1 O\n1:3 frame 1:1 g\n1:4 frame 1:1 [\n";
-    assert!(rt; prints(rt.alloc(), input, output));
+fn taken_positions(rt: HostRuntime) -> Result<(), Fail> {
+    let input = [
+        "log",
+        "join",
+        "1 create 1:1 page 0:0 O",
+        "1 create 1:2 frame 1:1 O",
+        "1 create 1:3 frame 1:1 O",
+        "1 create 1:4 frame 1:1 O",
+    ];
+    let output = [
+        "1 joined 1",
+        "2 created 0:0 O",
+        "3 created 1:1 O",
+        "4 created 1:1 g",
+        "5 created 1:1 [",
+        "version 5",
+        "0:0 document",
+        "1:1 page 0:0 O",
+        "1:2 frame 1:1 O",
+        "1:3 frame 1:1 g",
+        "1:4 frame 1:1 [",
+    ];
+    assert!(rt; prints(rt.alloc(), &input, &output)?);
+    Ok(())
 }
 
 // So many times `O`, and then the end.
@@ -94,82 +143,289 @@ fn crowded(alloc: Global) -> Result<Vec<u8>, Fail> {
     Ok(input)
 }
 
+// Whether the last creation is refused there.
+fn is_crowded(alloc: Global) -> Result<bool, Fail> {
+    let printed = played(alloc, &crowded(alloc)?);
+    let answer = b"5 refused 7 Crowded\nversion 5\n";
+    let is_there = printed
+        .output
+        .windows(answer.len())
+        .any(|part| part == answer.as_slice());
+    Ok(printed.status == 0 && is_there)
+}
+
 #[test]
 fn no_room(rt: HostRuntime) -> Result<(), Fail> {
-    let input = crowded(rt.alloc())?;
-    let printed = played(rt.alloc(), &input);
-    let answer = b"5 refused 7 Crowded\nversion 5\n";
-    assert!(rt; printed.status == 0);
-    assert!(rt;
-        printed
-            .output
-            .windows(answer.len())
-            .any(|part| part == answer.as_slice())
-    );
+    assert!(rt; is_crowded(rt.alloc())?);
     Ok(())
 }
 
 #[test]
-fn refusals(rt: HostRuntime) {
-    let input =
-        b"log\njoin\njoin\n1 create 0:0 page 0:0 O\n1 create 2:1 page 9:9 O\n1 create 1:1 page 0:0 O\n1 create 1:2 page 1:1 O\n";
-    let output =
-        b"1 joined 1\n2 joined 2\n3 refused 1 IsRoot\n4 refused 2 BadId\n5 created 0:0 O\n6 refused 5 BadParent\nversion 6\n0:0 document\n1:1 page 0:0 O\n";
-    assert!(rt; prints(rt.alloc(), input, output));
+fn creations(rt: HostRuntime) -> Result<(), Fail> {
+    let input = [
+        "log",
+        "join",
+        "1 create 1:1 page 0:0 O",
+        "1 create 1:2 frame 1:1 O",
+        "1 create 1:3 shape 1:2 g",
+        "1 create 1:3 shape 1:2 7",
+        "1 create 1:4 shape 9:9 7",
+    ];
+    let output = [
+        "1 joined 1",
+        "2 created 0:0 O",
+        "3 created 1:1 O",
+        "4 created 1:2 g",
+        "5 refused 2 BadId",
+        "6 refused 4 ParentGone",
+        "version 6",
+        "0:0 document",
+        "1:1 page 0:0 O",
+        "1:2 frame 1:1 O",
+        "1:3 shape 1:2 g",
+    ];
+    assert!(rt; prints(rt.alloc(), &input, &output)?);
+    Ok(())
 }
 
 #[test]
-fn values(rt: HostRuntime) {
-    let input =
-        b"log\njoin\n1 create 1:1 page 0:0 O\n1 set 1:1 fill [\"rgba\",255]\n1 set 1:1 name \"A\"\n1 clear 1:1 none\n1 set 1:2 x 1\n2 set 1:1 x 1\n1 set 0:0 t [\"list\",1,[\"list\"]]\n";
-    let output =
-        b"1 joined 1\n2 created 0:0 O\n3 set\n4 set\n5 set\n6 refused 3 Gone\nstranger\n7 set\nversion 7\n0:0 document\n  .t [\"list\",1,[\"list\"]]\n1:1 page 0:0 O\n  .fill [\"rgba\",255]\n  .name \"A\"\n";
-    assert!(rt; prints(rt.alloc(), input, output));
+fn refusals(rt: HostRuntime) -> Result<(), Fail> {
+    let input = [
+        "log",
+        "join",
+        "join",
+        "1 create 0:0 page 0:0 O",
+        "1 create 2:1 page 9:9 O",
+        "1 create 1:1 page 0:0 O",
+        "1 create 1:2 page 1:1 O",
+    ];
+    let output = [
+        "1 joined 1",
+        "2 joined 2",
+        "3 refused 1 IsRoot",
+        "4 refused 2 BadId",
+        "5 created 0:0 O",
+        "6 refused 5 BadParent",
+        "version 6",
+        "0:0 document",
+        "1:1 page 0:0 O",
+    ];
+    assert!(rt; prints(rt.alloc(), &input, &output)?);
+    Ok(())
 }
 
 #[test]
-fn moves_among_siblings(rt: HostRuntime) {
-    let input =
-        b"log\njoin\n1 create 1:1 page 0:0 O\n1 create 1:2 frame 1:1 O\n1 create 1:3 frame 1:1 O\n1 create 1:4 shape 1:1 O\n1 move 1:2 1:1 g\n";
-    let output =
-        b"1 joined 1\n2 created 0:0 O\n3 created 1:1 O\n4 created 1:1 g\n5 created 1:1 [\n6 moved 1:1 s\nversion 6\n0:0 document\n1:1 page 0:0 O\n1:2 frame 1:1 s\n1:3 frame 1:1 g\n1:4 shape 1:1 [\n";
-    assert!(rt; prints(rt.alloc(), input, output));
+fn values(rt: HostRuntime) -> Result<(), Fail> {
+    let input = [
+        "log",
+        "join",
+        "1 create 1:1 page 0:0 O",
+        "1 set 1:1 fill [\"rgba\",255]",
+        "1 set 1:1 name \"A\"",
+        "1 clear 1:1 none",
+        "1 set 1:2 x 1",
+        "2 set 1:1 x 1",
+        "1 set 0:0 t [\"list\",1,[\"list\"]]",
+    ];
+    let output = [
+        "1 joined 1",
+        "2 created 0:0 O",
+        "3 set",
+        "4 set",
+        "5 set",
+        "6 refused 3 Gone",
+        "stranger",
+        "7 set",
+        "version 7",
+        "0:0 document",
+        "  .t [\"list\",1,[\"list\"]]",
+        "1:1 page 0:0 O",
+        "  .fill [\"rgba\",255]",
+        "  .name \"A\"",
+    ];
+    assert!(rt; prints(rt.alloc(), &input, &output)?);
+    Ok(())
 }
 
 #[test]
-fn what_lies_below_goes_too(rt: HostRuntime) {
-    let input =
-        b"log\njoin\n1 create 1:1 page 0:0 O\n1 create 1:2 frame 1:1 O\n1 create 1:3 frame 1:2 O\n1 create 1:4 text 1:1 g\n1 delete 1:2\n1 move 1:3 1:1 a\n";
-    let output =
-        b"1 joined 1\n2 created 0:0 O\n3 created 1:1 O\n4 created 1:2 O\n5 created 1:1 g\n6 removed 1:2 1:3\n7 refused 3 Gone\nversion 7\n0:0 document\n1:1 page 0:0 O\n1:4 text 1:1 g\n";
-    assert!(rt; prints(rt.alloc(), input, output));
+fn one_of_many_properties_is_cleared(rt: HostRuntime) -> Result<(), Fail> {
+    let input = [
+        "log",
+        "join",
+        "1 create 1:1 page 0:0 O",
+        "1 set 1:1 b 2",
+        "1 set 1:1 c true",
+        "1 set 1:1 a -1",
+        "1 clear 1:1 b",
+        "1 clear 9:9 a",
+    ];
+    let output = [
+        "1 joined 1",
+        "2 created 0:0 O",
+        "3 set",
+        "4 set",
+        "5 set",
+        "6 set",
+        "7 refused 3 Gone",
+        "version 7",
+        "0:0 document",
+        "1:1 page 0:0 O",
+        "  .a -1",
+        "  .c true",
+    ];
+    assert!(rt; prints(rt.alloc(), &input, &output)?);
+    Ok(())
 }
 
 #[test]
-fn creations(rt: HostRuntime) {
-    let input =
-        b"log\njoin\n1 create 1:1 page 0:0 O\n1 create 1:2 frame 1:1 O\n1 create 1:3 shape 1:2 g\n1 create 1:3 shape 1:2 7\n1 create 1:4 shape 9:9 7";
-    let output =
-        b"1 joined 1\n2 created 0:0 O\n3 created 1:1 O\n4 created 1:2 g\n5 refused 2 BadId\n6 refused 4 ParentGone\nversion 6\n0:0 document\n1:1 page 0:0 O\n1:2 frame 1:1 O\n1:3 shape 1:2 g\n";
-    assert!(rt; prints(rt.alloc(), input, output));
+fn moves_among_siblings(rt: HostRuntime) -> Result<(), Fail> {
+    let input = [
+        "log",
+        "join",
+        "1 create 1:1 page 0:0 O",
+        "1 create 1:2 frame 1:1 O",
+        "1 create 1:3 frame 1:1 O",
+        "1 create 1:4 shape 1:1 O",
+        "1 move 1:2 1:1 g",
+    ];
+    let output = [
+        "1 joined 1",
+        "2 created 0:0 O",
+        "3 created 1:1 O",
+        "4 created 1:1 g",
+        "5 created 1:1 [",
+        "6 moved 1:1 s",
+        "version 6",
+        "0:0 document",
+        "1:1 page 0:0 O",
+        "1:2 frame 1:1 s",
+        "1:3 frame 1:1 g",
+        "1:4 shape 1:1 [",
+    ];
+    assert!(rt; prints(rt.alloc(), &input, &output)?);
+    Ok(())
 }
 
-// What a block of this input's last document is.
-fn shown(alloc: Global, input: &[u8]) -> Result<Vec<u8>, Fail> {
+#[test]
+fn what_lies_below_goes_too(rt: HostRuntime) -> Result<(), Fail> {
+    let input = [
+        "log",
+        "join",
+        "1 create 1:1 page 0:0 O",
+        "1 create 1:2 frame 1:1 O",
+        "1 create 1:3 frame 1:2 O",
+        "1 create 1:4 text 1:1 g",
+        "1 delete 1:2",
+        "1 move 1:3 1:1 a",
+    ];
+    let output = [
+        "1 joined 1",
+        "2 created 0:0 O",
+        "3 created 1:1 O",
+        "4 created 1:2 O",
+        "5 created 1:1 g",
+        "6 removed 1:2 1:3",
+        "7 refused 3 Gone",
+        "version 7",
+        "0:0 document",
+        "1:1 page 0:0 O",
+        "1:4 text 1:1 g",
+    ];
+    assert!(rt; prints(rt.alloc(), &input, &output)?);
+    Ok(())
+}
+
+// The lines of `examples/first.scene` and of `examples/first.out`, which is what it prints. A test
+// reads no file, so they stand here again.
+// Whether a log adds its answers, and with them its report, to what there was.
+fn is_added(alloc: Global, input: &[&str], output: &[&str]) -> Result<bool, Fail> {
+    let mut out = joined(alloc, &["before"])?;
+    let run = log_run(alloc, &joined(alloc, input)?, &mut out);
+    let is_whole = run.is_ok();
+    Ok(is_whole == output.contains(&"0:0 document") && out == joined(alloc, output)?)
+}
+
+#[test]
+fn what_there_was_is_kept(rt: HostRuntime) -> Result<(), Fail> {
+    let whole = ["before", "1 joined 1", "version 1", "0:0 document"];
+    assert!(rt; is_added(rt.alloc(), &["log", "join"], &whole)?);
+    assert!(rt;
+        is_added(
+            rt.alloc(),
+            &["log", "join", "jion"],
+            &["before", "1 joined 1"]
+        )?
+    );
+    assert!(rt; is_added(rt.alloc(), &["jion"], &["before"])?);
+    Ok(())
+}
+
+// Whether this is the block of an input's last document.
+fn shows(alloc: Global, input: &[&str], output: &[&str]) -> Result<bool, Fail> {
     let mut out = Vec::new(alloc);
-    let run = log_run(alloc, input, &mut out)?;
+    let run = log_run(alloc, &joined(alloc, input)?, &mut out)?;
     out.clear();
     block(alloc, b"server", run.state.doc(), &mut out)?;
-    Ok(out)
+    Ok(out == joined(alloc, output)?)
 }
 
 #[test]
 fn blocks(rt: HostRuntime) -> Result<(), Fail> {
-    let input =
-        b"log\njoin\n1 create 1:1 page 0:0 O\n1 create 1:2 frame 1:1 O\n1 create 1:3 text 1:2 O\n1 create 1:4 shape 1:1 7\n1 set 1:1 name \"A\"\n1 set 0:0 t [\"list\",1,[\"list\"]]\n";
-    let output =
-        b"server\n  0:0 document\n    .t [\"list\",1,[\"list\"]]\n    1:1 page O\n      .name \"A\"\n      1:4 shape 7\n      1:2 frame O\n        1:3 text O\n";
-    assert!(rt; shown(rt.alloc(), input)?.as_slice() == output.as_slice());
+    let input = [
+        "log",
+        "join",
+        "1 create 1:1 page 0:0 O",
+        "1 create 1:2 frame 1:1 O",
+        "1 create 1:3 text 1:2 O",
+        "1 create 1:4 shape 1:1 7",
+        "1 set 1:1 name \"A\"",
+        "1 set 0:0 t [\"list\",1,[\"list\"]]",
+    ];
+    let output = [
+        "server",
+        "  0:0 document",
+        "    .t [\"list\",1,[\"list\"]]",
+        "    1:1 page O",
+        "      .name \"A\"",
+        "      1:4 shape 7",
+        "      1:2 frame O",
+        "        1:3 text O",
+    ];
+    assert!(rt; shows(rt.alloc(), &input, &output)?);
+    Ok(())
+}
+
+// Whether the program, called with these words, reads nothing and tells how it is called.
+fn is_refused(alloc: Global, words: &[&str]) -> Result<bool, Fail> {
+    let mut given = Vec::new(alloc);
+    for word in words {
+        given.push(String::from_str(alloc, word)?)?;
+    }
+    let mut input = b"log\njoin\n".as_slice();
+    let mut output = Vec::new(alloc);
+    let mut faults = Vec::new(alloc);
+    let status = start(alloc, &given, &mut input, &mut output, &mut faults);
+    let usage = faults == joined(alloc, &["usage: scene < FILE"])?;
+    Ok(status == 2 && usage && output.is_empty() && input.len() == 9)
+}
+
+// Whether the program, called with no words, plays its input.
+fn is_started(alloc: Global) -> Result<bool, Fail> {
+    let words: Vec<String> = Vec::new(alloc);
+    let mut input = b"log\njoin\n".as_slice();
+    let mut output = Vec::new(alloc);
+    let mut faults: Vec<u8> = Vec::new(alloc);
+    let status = start(alloc, &words, &mut input, &mut output, &mut faults);
+    let report = joined(alloc, &["1 joined 1", "version 1", "0:0 document"])?;
+    Ok(status == 0 && output == report && faults.is_empty())
+}
+
+#[test]
+fn words_are_refused(rt: HostRuntime) -> Result<(), Fail> {
+    assert!(rt; is_started(rt.alloc())?);
+    assert!(rt; is_refused(rt.alloc(), &["first.scene"])?);
+    assert!(rt; is_refused(rt.alloc(), &[""])?);
+    assert!(rt; is_refused(rt.alloc(), &["--help", "me"])?);
     Ok(())
 }
 
@@ -211,29 +467,34 @@ impl Write for Fills {
     }
 }
 
-#[test]
-fn a_read_fails(rt: HostRuntime) {
-    let mut output = Vec::new(rt.alloc());
-    let mut faults = Vec::new(rt.alloc());
-    let status = run(
-        rt.alloc(),
-        &mut Breaks { left: 5 },
-        &mut output,
-        &mut faults,
-    );
-    assert!(rt; status == 4);
-    assert!(rt; output.is_empty());
-    assert!(rt; faults.as_slice() == b"read or write failed\n".as_slice());
+const STREAM_FAILED: &[u8] = b"read or write failed\n";
+
+// Whether a read that fails in mid-stream is told, and nothing is written.
+fn tells_of_read(alloc: Global) -> bool {
+    let mut output = Vec::new(alloc);
+    let mut faults = Vec::new(alloc);
+    let status = run(alloc, &mut Breaks { left: 5 }, &mut output, &mut faults);
+    status == 4 && output.is_empty() && faults.as_slice() == STREAM_FAILED
+}
+
+// Whether a write that fails in mid-stream is told.
+fn tells_of_write(alloc: Global) -> bool {
+    let mut input = b"log\njoin\n".as_slice();
+    let mut faults = Vec::new(alloc);
+    let status = run(alloc, &mut input, &mut Fills { room: 5 }, &mut faults);
+    status == 4 && faults.as_slice() == STREAM_FAILED
+}
+
+// The status where a fault can't be told.
+fn untold(alloc: Global) -> u8 {
+    let mut input = b"jion\n".as_slice();
+    let mut output = Vec::new(alloc);
+    run(alloc, &mut input, &mut output, &mut Fills { room: 3 })
 }
 
 #[test]
-fn a_write_fails(rt: HostRuntime) {
-    let mut input = b"log\njoin\n".as_slice();
-    let mut faults = Vec::new(rt.alloc());
-    let status = run(rt.alloc(), &mut input, &mut Fills { room: 5 }, &mut faults);
-    assert!(rt; status == 4);
-    assert!(rt; faults.as_slice() == b"read or write failed\n".as_slice());
-    let mut input = b"jion\n".as_slice();
-    let mut output = Vec::new(rt.alloc());
-    assert!(rt; run(rt.alloc(), &mut input, &mut output, &mut Fills { room: 3 }) == 4);
+fn streams_fail(rt: HostRuntime) {
+    assert!(rt; tells_of_read(rt.alloc()));
+    assert!(rt; tells_of_write(rt.alloc()));
+    assert!(rt; untold(rt.alloc()) == 4);
 }

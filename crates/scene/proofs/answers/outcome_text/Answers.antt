@@ -1,4 +1,4 @@
-use Rattle.std.proofs.Common.{◌∙◌, sym, ap}
+use Rattle.std.proofs.Common.{◌∙◌, refl, sym, ap}
 use Rattle.std.specs.Prelude.{codes}
 use Rattle.std.specs.Fmt.{decimal}
 use Rattle.std.proofs.lemmas.Result.{IfOk-weaker}
@@ -9,5 +9,5 @@ use Rattle.scene.proofs.answers.outcome_text.Goals as goal
 
 pub returns-in_ok-carried-in-Refused : goal.returns-in_ok-carried-in-Refused
 returns-in_ok-carried-in-Refused c =
-    let is = ap seen_outcome (sym c.in-Refused.is) ∙ c.node.ensures in
-    IfOk-weaker c.format-in-Refused.result _ _ (λ s h. h ∙ refused_parts (codes "refused ") _ _ _ _ _ _ (ap decimal c.number-number.ensures) c.reason_word-word.ensures c.in_ok-carried-in-Refused.ensures ∙ ap outcome_text is) c.format-in-Refused.ensures.ok
+    let is = ap seen_outcome (sym c.in-Refused.is) in
+    IfOk-weaker c.format-in-Refused.result _ _ (λ s h. h ∙ refused_parts (codes "refused ") _ _ _ _ _ _ (ap decimal c.number-number.ensures) refl c.in_ok-carried-in-Refused.ensures ∙ ap outcome_text is) c.format-in-Refused.ensures.ok

@@ -1,7 +1,8 @@
-use Rattle.std.proofs.Common.{◌≡◌, ◌++◌, take}
+use Rattle.std.proofs.Common.{◌≡◌, ◌++◌}
 use Rattle.std.specs.List.{flat_map}
-use Rattle.scene.specs.Report.{entry_lines}
+use Rattle.scene.specs.Report.{lines_of_object, object_lines}
 use Rattle.scene.proofs.report.write_objects.Given as goal
 
-abbrev pub invariant-loop-entry : goal.invariant-loop-entry
-invariant-loop-entry l = l.out.items ≡ l.initial.out.items ++ flat_map entry_lines (take l.entry-index l.entry-items)
+-- what is written, and the lines of the objects that are still to come
+abbrev pub invariant-loop-object : goal.invariant-loop-object
+invariant-loop-object l = l.out.items ++ flat_map lines_of_object l.object-iterator ≡ l.initial.out.items ++ object_lines l.doc

@@ -1,0 +1,5 @@
+pub mod Parts
+pub mod Readings
+pub mod Spellings
+pub mod Splitting
+pub mod Unread

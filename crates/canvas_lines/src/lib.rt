@@ -1,0 +1,24 @@
+//! The lines that programs read and write: words, lines, the changes and requests that lines spell,
+//! blocks of a report, streams, and faults with their text and status.
+#![tactic(auto)]
+
+mod blocks;
+mod changes;
+mod error;
+mod fault;
+mod laws;
+pub mod lines;
+mod requests;
+mod streams;
+pub mod words;
+
+pub use blocks::block;
+pub use changes::read_change;
+pub use error::LineError;
+pub use fault::{Fault, tell};
+pub use laws::one_bad_line;
+pub use requests::{Reading, Request, read_request, read_requests};
+pub use streams::{read_input, write_out};
+
+#[cfg(test)]
+mod reading_tests;

@@ -1,5 +1,0 @@
-use Rattle.scene.proofs.Told.{none_is_bad, one_is_bad}
-use Rattle.scene.proofs.requests.one_bad_line.Goals as goal
-
-pub returns : goal.returns
-returns c = record { none = none_is_bad; one = one_is_bad }
