@@ -34,6 +34,11 @@ impl<B: Allocator> Refusing<B> {
         }
     }
 
+    /// Refuses from here on the growth of that number, the next one being 1; where the number is 0, none.
+    pub fn refuse(&self, number: u64) {
+        self.left.set(number);
+    }
+
     /// How many growths are still to come up to the refused one, itself among them, so 0 once it has been refused.
     pub fn left(&self) -> u64 {
         self.left.get()

@@ -11,6 +11,19 @@ fn refusals(alloc: Global, number: u64) -> ([bool; 4], u64) {
     (refused, heap.left())
 }
 
+// Whether each of three growths is refused where the second one from the first on is to be.
+fn refused_later(alloc: Global) -> [bool; 3] {
+    let heap = Refusing::new(alloc, 0);
+    let mut refused = [false; 3];
+    for (at, is_refused) in refused.iter_mut().enumerate() {
+        *is_refused = Vec::<u8, &Refusing<Global>>::with_capacity(&heap, 1).is_err();
+        if at == 0 {
+            heap.refuse(2);
+        }
+    }
+    refused
+}
+
 #[test]
 fn refuses_that_growth_alone(rt: HostRuntime) {
     assert_eq!(rt; refusals(rt.alloc(), 0), ([false; 4], 0));
@@ -18,4 +31,5 @@ fn refuses_that_growth_alone(rt: HostRuntime) {
     assert_eq!(rt; refusals(rt.alloc(), 3), ([false, false, true, false], 0));
     assert_eq!(rt; refusals(rt.alloc(), 4), ([false, false, false, true], 0));
     assert_eq!(rt; refusals(rt.alloc(), 6), ([false; 4], 2));
+    assert_eq!(rt; refused_later(rt.alloc()), [false, false, true]);
 }
