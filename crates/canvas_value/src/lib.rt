@@ -31,14 +31,14 @@ pub const MAX_DEPTH: u32 = 16;
 /// A contract sees it as the plain tree, without the allocator. Its numbers are in range, at any
 /// depth: they are what their variants hold.
 #[cycle(value)]
-#[derive(Drop)]
+#[derive(Debug, Drop)]
 pub struct Value<A: Allocator = Global> {
     variant: ValueVariant<A>,
 }
 
 /// What stands at the top of a value.
 #[cycle(value)]
-#[derive(Drop)]
+#[derive(Debug, Drop)]
 pub enum ValueVariant<A: Allocator = Global> {
     /// A whole number of 64 bits, signed.
     Number(i64),
