@@ -10,3 +10,5 @@ pub mod Listed
 pub mod Rows
 pub mod Props
 pub mod Whole
+pub mod Known
+pub mod Laid

@@ -7,7 +7,7 @@ use Rattle.std.specs.FinMap as map
 use Rattle.std.specs.FinMap.Entries.{where_key}
 use Rattle.std.proofs.lemmas.Map.Views.{Contains-from_any}
 use Rattle.canvas_model.specs.declared.ObjId.{ObjId}
-use Rattle.canvas_model.specs.Ids.{id_cmp, root, same_id}
+use Rattle.canvas_model.specs.Ids.{id_cmp, root, same_id, IsId}
 use Rattle.canvas_model.specs.Document.{Doc, Object, Place, place_of, revise, without, IsDocument}
 use Rattle.canvas_doc.specs.Sorted.{is_other, IsPairAt, IsGapAt}
 use Rattle.canvas_doc.proofs.Maps.{exact_ids, ids_total, get_is, put_sorted, put_inserts, differ, same_exact}
@@ -15,6 +15,8 @@ use Rattle.canvas_doc.proofs.Kept.{get_removed, nothing_removed, kept_sorted, ke
 use Rattle.canvas_doc.proofs.Rooted.{dead_there, document_put, document_set}
 use Rattle.std.proofs.lemmas.List.{set-get_or}
 use Rattle.canvas_doc.proofs.Searched.{set_puts}
+use Rattle.canvas_doc.specs.Known.{IsObject, HasObjects}
+use Rattle.canvas_doc.proofs.Known.{row_put, rows_kept}
 
 -- a document of which some objects but not the root were removed
 document_kept : (p : ObjId → Bool) (d n : Doc) → ((q : ObjId) → map.get n q ≡ cond (p q) (map.get d q) None) → p root ≡ true → IsDocument d → IsDocument n
@@ -46,6 +48,9 @@ module _ (es fs : List (ObjId × Object)) (d : Doc) (id : ObjId) (sorted : T (ma
   pub removed_document : id ≢ root → IsDocument d → IsDocument (map.from_sorted {R = id_cmp} fs)
   removed_document ne h = subst IsDocument (sym removed_doc) (document_kept (is_other id_cmp id) d (map.remove d id) (get_removed ids_total exact_ids d id) (ap not (differ root id (λ e. ne (sym e)))) h)
 
+  pub removed_known : HasObjects d → HasObjects (map.from_sorted {R = id_cmp} fs)
+  removed_known h = subst HasObjects (sym removed_doc) (rows_kept (is_other id_cmp id) d (map.remove d id) (get_removed ids_total exact_ids d id) h)
+
 -- the pairs without those of some ids
 abbrev pub stays : List ObjId → ObjId → Bool
 stays ids q = not (list_any (same_id q) ids)
@@ -69,6 +74,9 @@ module _ (es fs : List (ObjId × Object)) (d : Doc) (ids : List ObjId) (sorted :
   pub without_document : (Contains ids root → ⊥) → IsDocument d → IsDocument (map.from_sorted {R = id_cmp} fs)
   without_document absent h = subst IsDocument (sym without_is) (document_kept (stays ids) d (without d ids) get_without (root_stays absent) h)
 
+  pub without_known : HasObjects d → HasObjects (map.from_sorted {R = id_cmp} fs)
+  without_known h = subst HasObjects (sym without_is) (rows_kept (stays ids) d (without d ids) get_without h)
+
 -- the pairs of which one has another object
 module _ (f : Object → Object) (es fs : List (ObjId × Object)) (d : Doc) (id : ObjId) (i : ℕ) (e : ObjId × Object) (o : Object) (sorted : T (map.is_sorted id_cmp es)) (view : map.from_sorted es ≡ d) (same : fs ≡ es) (found : IsPairAt id_cmp fs id i) (is : e ≡ get_or es i e) (changed : o ≡ f e.1) where
   found_in : IsPairAt id_cmp es id i
@@ -91,6 +99,9 @@ module _ (f : Object → Object) (es fs : List (ObjId × Object)) (d : Doc) (id 
 
   pub changed_is : map.from_sorted (slice_set es i (e.0, o)) ≡ revise d id (option_map f (map.get d id))
   changed_is = inserted ∙ sym (ap (λ x. revise d id (option_map f x)) there)
+
+  pub changed_known : IsId id → IsObject o → HasObjects d → HasObjects (map.from_sorted {R = id_cmp} (slice_set es i (e.0, o)))
+  changed_known is known h = subst HasObjects (sym inserted) (row_put d id (f e.1) h is (subst IsObject changed known))
 
   -- it stands somewhere, and isn't the root
   pub moved_document : (place : Place) → (f e.1).place ≡ Some place → id ≢ root → IsDocument d → IsDocument (map.from_sorted {R = id_cmp} (slice_set es i (e.0, o)))

@@ -21,9 +21,10 @@ use Rattle.canvas_model.specs.Document.{Doc, Object, Place, Pos, place_of}
 use Rattle.canvas_doc.specs.Siblings.{IsUnderAt}
 use Rattle.canvas_model.specs.Children.{AreChildren, parent_of, position_of, child_cmp}
 use Rattle.canvas_doc.specs.ChildRows.{child_row, child_rows, row_of}
-use Rattle.canvas_doc.proofs.Maps.{ids_total, same_exact, get_is}
+use Rattle.canvas_doc.proofs.Maps.{exact_ids, ids_total, same_exact, get_is, found_at}
 use Rattle.canvas_doc.proofs.Searched.{below, head_below, second, pair_at}
-use Rattle.canvas_doc.proofs.Standing.{listed, some_is}
+use Rattle.canvas_model.proofs.Children.{child_cmp_total, second_ties}
+use Rattle.canvas_doc.proofs.Standing.{some_is}
 
 -- ---- the row of a pair
 
@@ -135,14 +136,6 @@ row_order = then_cmp (on (λ x. x.0.now) (slice_cmp nat_cmp)) (on (λ x. x.1) id
 row_order_total : IsTotalOrder row_order
 row_order_total = then_total (on_total (λ x. x.0.now) nat_list_cmp_total) (on_total (λ x. x.1) ids_total)
 
-child_cmp_total : (d : Doc) → IsTotalOrder (child_cmp d)
-child_cmp_total d = then_total (on_total (position_of d) nat_list_cmp_total) ids_total
-
-second_ties : (a b : Ordering) → ordering_then a b ≡ Equal → b ≡ Equal
-second_ties Less b e = absurd (let f : Less ≡ Equal = e in cc)
-second_ties Equal b e = e
-second_ties Greater b e = absurd (let f : Greater ≡ Equal = e in cc)
-
 -- rows of different ids that don't fall rise
 rises_there : (x y : Bor Pos × ObjId) → is_lt (row_order y x) ≡ false → same_id x.1 y.1 ≡ false → row_order x y ≡ Less
 rises_there x y not_less differ =
@@ -236,7 +229,7 @@ module _ (es : List (ObjId × Object)) (d : Doc) (parent : ObjId) (sorted : T (f
               elim o.place as (λ p. o.place ≡ p → option_map (λ (p : Place). p.parent) p ≡ Some parent → Contains ids q) [
                 | None ↦ λ e2 child. absurd (let f : None ≡ Some parent = child in cc)
                 | Some p ↦ λ e2 child.
-                    let pair = listed es q o (sym (get_is es d q sorted view) ∙ e) in
+                    let pair = found_at exact_ids es q o (sym (get_is es d q sorted view) ∙ e) in
                     let named : p.parent ≡ parent = some_is _ _ child in
                     let there : (w : ObjId × Object) → child_row parent (get_or es pair.0 w) ≡ Some (p.pos, q) = λ w.
                     row_there parent p.pos (get_or es pair.0 w) (ap (λ (e : ObjId × Object). e.1.place) (pair.2 w) ∙ e2 ∙ ap (λ x. Some (record { parent = x; pos = p.pos })) named)

@@ -1,9 +1,8 @@
 -- Which objects stand where.
-use Rattle.std.proofs.Common.{◌≡◌, IsTrue, ◌↔◌, ℕ, suc, ◌<◌, ◌≤◌, true, false, cond, List, [], ◌∷◌, length, get_or, Option, Some, None, T, refl, sym, ap, subst, ◌∙◌, arith}
+use Rattle.std.proofs.Common.{◌≡◌, IsTrue, ◌↔◌, ℕ, ◌<◌, ◌≤◌, true, false, List, length, get_or, Option, Some, None, T, refl, sym, ap, subst, ◌∙◌, arith}
 use Rattle.std.specs.Option.{option_and_then}
 use Rattle.std.specs.List.{AllWithin}
-use Rattle.std.specs.declared.cmp.Ordering.TheVariants.{Less, Equal, Greater}
-use Rattle.std.specs.Ordering.{is_eq}
+use Rattle.std.specs.declared.cmp.Ordering.TheVariants.{Equal}
 use Rattle.std.proofs.lemmas.Cmp.{tied_itself}
 use Rattle.std.proofs.lemmas.List.{get_or_default}
 use Rattle.std.specs.FinMap as map
@@ -15,20 +14,10 @@ use Rattle.canvas_model.specs.Sibling.{IsSibling, IsTaken, IsNext}
 use Rattle.canvas_doc.specs.Siblings.{StandsThere}
 use Rattle.canvas_doc.specs.Nearest.{Nearest}
 use Rattle.canvas_doc.proofs.Searched.{pair_at}
-use Rattle.canvas_doc.proofs.Maps.{exact_ids, ids_total, get_is}
+use Rattle.canvas_doc.proofs.Maps.{exact_ids, ids_total, get_is, found_at}
 
 pub some_is : {X : Type 0} (x y : X) → Some x ≡ Some y → x ≡ y
 some_is x y e = cc
-
--- a pair of what is found
-pub listed : (es : List (ObjId × Object)) (q : ObjId) (x : Object) → map.find id_cmp q es ≡ Some x → (i : ℕ) × (i < length es) × ((d : ObjId × Object) → get_or es i d ≡ (q, x))
-listed [] q x e = absurd (let f : None ≡ Some x = e in cc)
-listed (f ∷ es) q x e =
-    elim (id_cmp q f.0) as (λ r. id_cmp q f.0 ≡ r → cond (is_eq r) (Some f.1) (map.find id_cmp q es) ≡ Some x → (i : ℕ) × (i < length (f ∷ es)) × ((d : ObjId × Object) → get_or (f ∷ es) i d ≡ (q, x))) [
-      | Less ↦ λ c e. let rest = listed es q x e in (suc rest.0, omega (arith, rest.1), rest.2)
-      | Equal ↦ λ c e. (0, omega arith, λ d. let key = exact_ids q f.0 c in let value = some_is _ _ e in ap (λ k. (k, f.1)) (sym key) ∙ ap (λ v. (q, v)) value)
-      | Greater ↦ λ c e. let rest = listed es q x e in (suc rest.0, omega (arith, rest.1), rest.2)
-    ] refl e
 
 some_pair : ObjId × Object
 some_pair = (root, new_object Document None)
@@ -40,7 +29,7 @@ module _ (es : List (ObjId × Object)) (d : Doc) (sorted : T (map.is_sorted id_c
       elim (map.get d q) as (λ r. map.get d q ≡ r → option_and_then (λ (o : Object). o.place) r ≡ Some (record { parent = parent; pos = pos }) → (i : ℕ) × (i < length es) × ((x : ObjId × Object) → StandsThere parent except pos (get_or es i x))) [
         | None ↦ λ e p. absurd (let f : None ≡ Some (record { parent = parent; pos = pos }) = p in cc)
         | Some o ↦ λ e p.
-            let pair = listed es q o (sym (get_is es d q sorted view) ∙ e) in
+            let pair = found_at exact_ids es q o (sym (get_is es d q sorted view) ∙ e) in
             (pair.0, pair.1, λ x. ((λ same. sibling.0 (sym (ap (λ e. e.0) (pair.2 x)) ∙ same)), ap (λ e. e.1.place) (pair.2 x) ∙ p))
       ] refl sibling.1
 

@@ -1,5 +1,5 @@
 -- Which lists of objects are a document.
-use Rattle.std.proofs.Common.{◌≡◌, ◌≢◌, ◌↔◌, IsTrue, inl, inr, ℕ, zero, suc, ◌<◌, Bool, true, false, cond, ◌&&◌, List, [], ◌∷◌, length, get_or, Option, Some, None, T, refl, sym, ap, subst, ◌∙◌, arith}
+use Rattle.std.proofs.Common.{◌≡◌, ◌≢◌, ◌↔◌, IsTrue, inl, inr, ℕ, zero, suc, ◌<◌, true, false, cond, List, [], ◌∷◌, length, get_or, Some, None, T, refl, sym, ap, ◌∙◌, arith}
 use Rattle.std.specs.Prelude.{is_some}
 use Rattle.std.specs.List.{list_all}
 use Rattle.std.specs.Option.{option_map, option_and_then}
@@ -12,19 +12,12 @@ use Rattle.std.proofs.lemmas.List.{get_or_default}
 use Rattle.canvas_model.specs.declared.ObjId.{ObjId}
 use Rattle.canvas_model.specs.declared.Kind.TheVariants.{Document}
 use Rattle.canvas_model.specs.Ids.{id_cmp, root}
-use Rattle.canvas_model.specs.Document.{Doc, Object, Place, place_of, live, IsDocument}
+use Rattle.canvas_model.specs.Document.{Doc, Object, Place, place_of, IsDocument}
 use Rattle.canvas_doc.specs.Whole.{AreDocument, AreRooted, IsRoot, is_placed}
 use Rattle.canvas_doc.proofs.Maps.{exact_ids, ids_total, same_or_differ}
 use Rattle.canvas_doc.proofs.Searched.{below_less, below_at, head_below, missing, pair_at}
+use Rattle.canvas_value.proofs.Forms.{both_hold, both_true}
 use Rattle.canvas_doc.proofs.Standing.{some_is}
-
-and_true : (a b : Bool) → (a && b) ≡ true → (a ≡ true) × (b ≡ true)
-and_true true b h = (refl, h)
-and_true false b h = absurd (cc)
-
-all_more : (a b : Bool) → a ≡ true → b ≡ true → (a && b) ≡ true
-all_more true b h k = k
-all_more false b h k = h
 
 -- every other id is greater than that of the root
 root_least : (q : ObjId) → q ≢ root → id_cmp root q ≡ Less
@@ -41,7 +34,7 @@ root_least q ne =
 found_placed : (q : ObjId) (o : Object) (es : List (ObjId × Object)) → IsTrue (list_all is_placed es) → map.find id_cmp q es ≡ Some o → IsTrue (is_some o.place)
 found_placed q o [] all found = absurd (let f : None ≡ Some o = found in cc)
 found_placed q o (e ∷ es) all found =
-    let each = and_true (is_placed e) (list_all is_placed es) all in
+    let each = both_hold (is_placed e) (list_all is_placed es) all in
     elim (id_cmp q e.0) as (λ r. cond (is_eq r) (Some e.1) (map.find id_cmp q es) ≡ Some o → IsTrue (is_some o.place)) [
       | Less ↦ λ found. found_placed q o es each.1 found
       | Equal ↦ λ found. ap (λ (o : Object). is_some o.place) (sym (some_is e.1 o found)) ∙ each.0
@@ -109,7 +102,7 @@ module _ (e : ObjId × Object) (es : List (ObjId × Object)) (sorted : T (map.is
 
 each_placed : (es : List (ObjId × Object)) → ((i : ℕ) (d : ObjId × Object) → i < length es → IsTrue (is_placed (get_or es i d))) → IsTrue (list_all is_placed es)
 each_placed [] each = refl
-each_placed (e ∷ es) each = all_more (is_placed e) (list_all is_placed es) (each 0 e (omega arith)) (each_placed es (λ i d lt. each (suc i) d (omega (arith, lt))))
+each_placed (e ∷ es) each = both_true (is_placed e) (list_all is_placed es) (each 0 e (omega arith)) (each_placed es (λ i d lt. each (suc i) d (omega (arith, lt))))
 
 -- objects in order are a document exactly where the first is the root and the others have places
 pub rooted_is_document : (es : List (ObjId × Object)) → T (map.is_sorted id_cmp es) → AreRooted es ↔ AreDocument es

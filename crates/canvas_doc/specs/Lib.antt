@@ -4,3 +4,4 @@ pub mod Nearest
 pub mod Seen
 pub mod ChildRows
 pub mod Whole
+pub mod Known

@@ -2,7 +2,7 @@
 #![tactic(auto)]
 
 ghost use Rattle.std.specs.Prelude.{◌≡◌, ◌≢◌, ◌↔◌, false, length, not, IsSome, IsTrue, IfOk, IfSome, OnOk, OnErr};
-ghost use Rattle.std.specs.List.{Contains, list_all, list_any};
+ghost use Rattle.std.specs.List.{All, Contains, list_all, list_any};
 ghost use Rattle.std.specs.List.Sorted.{IsStrictlySortedBy};
 ghost use Rattle.std.specs.Option.{option_copied, option_map};
 ghost use Rattle.std.specs.FinMap as map;
@@ -11,6 +11,7 @@ ghost use Rattle.canvas_model.specs.Document.{IsDocument, blank, live, new_objec
 ghost use Rattle.canvas_model.specs.Document as document;
 ghost use Rattle.canvas_model.specs.Sibling.{IsTaken, IsNext};
 ghost use Rattle.canvas_model.specs.Children.{AreChildren};
+ghost use Rattle.canvas_doc.specs.Known.{HasObjects, IsRow};
 ghost use Rattle.canvas_doc.specs.Whole.{AreDocument, AreRooted, IsRoot, is_placed};
 
 use canvas_pos::Pos;
@@ -20,6 +21,7 @@ use std::marker::Model;
 mod change;
 mod object;
 mod objects;
+mod overlay;
 mod place;
 mod siblings;
 mod sorted;
@@ -31,12 +33,13 @@ pub use object::Object;
 use object::same_object;
 pub use objects::Objects;
 pub use place::Place;
+use place::know_id;
 use siblings::{children_in, nearer_sibling, stands_there};
 use sorted::{index_of, is_sorted, put, take_out, value_of};
 
 /// A document: its live objects by their ids. The root, `ObjId::ROOT`, is always live, a `Document` without a place;
 /// every other live object has a place, whose parent may be any id.
-#[derive(Drop)]
+#[derive(Debug, Drop)]
 pub struct Doc<A: Allocator = Global> {
     objects: Vec<(ObjId, Object<A>), A>,
 }
@@ -54,7 +57,9 @@ impl<A: Allocator> Model for Doc<A> {
 
     ghost view = { λ d. map.from_sorted d.objects.items };
 
-    ghost invariant = { λ d. record { sorted : T (map.is_sorted id_cmp d.objects.items); document : document.IsDocument (map.from_sorted d.objects.items) } };
+    ghost use Rattle.canvas_doc.specs.Known.{HasObjects};
+
+    ghost invariant = { λ d. record { sorted : T (map.is_sorted id_cmp d.objects.items); document : document.IsDocument (map.from_sorted d.objects.items); known : HasObjects (map.from_sorted d.objects.items) } };
 }
 
 impl<A: Allocator + Copy> Doc<A> {
@@ -77,30 +82,6 @@ impl<A: Allocator + Copy> Doc<A> {
         put(&mut self.objects, id, Object::new(alloc, kind, Some(place)))?;
         Ok(())
     }
-
-    /// The ids of the live objects whose place names this one, in the order of their positions, and of their ids where they
-    /// share one. The object itself may be gone. Walks all objects and sorts what it finds. Fails only where memory is refused.
-    pub fn children<B: Allocator + Copy>(
-        &self,
-        alloc: B,
-        id: ObjId,
-    ) -> Result<Vec<ObjId, B>, AllocError>
-        ensures { IfOk result (λ ids. AreChildren self.now id ids.items) }
-    {
-        children_in(alloc, &self.objects, id)
-    }
-
-    /// The same document under another allocator. Fails only where memory is refused.
-    pub fn copy<B: Allocator + Copy>(&self, alloc: B) -> Result<Doc<B>, AllocError>
-        ensures { IfOk result (λ d. d ≡ self.now) }
-    {
-        let mut objects = Vec::new(alloc);
-        for pair in &self.objects {
-            let object = pair.1.copy_in(alloc)?;
-            objects.push((pair.0, object))?;
-        }
-        Ok(Doc { objects })
-    }
 }
 
 impl<A: Allocator> Doc<A> {
@@ -112,6 +93,7 @@ impl<A: Allocator> Doc<A> {
         ensures none { IsSome result ↔ AreDocument objects.items }
     {
         if is_document(&objects) {
+            know_rows(&objects);
             Some(Doc { objects })
         } else {
             None
@@ -122,6 +104,7 @@ impl<A: Allocator> Doc<A> {
     pub fn objects(&self) -> Objects<'_, A>
         ensures objects { result ≡ map.entries self.now }
         ensures document { IsDocument self.now }
+        ensures known { HasObjects self.now }
     {
         Objects::new(&self.objects)
     }
@@ -144,6 +127,7 @@ impl<A: Allocator> Doc<A> {
     pub fn object(&self, id: ObjId) -> Option<&Object<A>>
         ensures object { option_copied result ≡ map.get self.now id }
         ensures document { IsDocument self.now }
+        ensures known { HasObjects self.now }
     {
         value_of(&self.objects, &id)
     }
@@ -170,6 +154,30 @@ impl<A: Allocator> Doc<A> {
     {
         let object = self.object(id)?;
         object.get(name)
+    }
+
+    /// The ids of the live objects whose place names this one, in the order of their positions, and of their ids where they
+    /// share one. The object itself may be gone. Walks all objects and sorts what it finds. Fails only where memory is refused.
+    pub fn children<B: Allocator + Copy>(
+        &self,
+        alloc: B,
+        id: ObjId,
+    ) -> Result<Vec<ObjId, B>, AllocError>
+        ensures { IfOk result (λ ids. AreChildren self.now id ids.items) }
+    {
+        children_in(alloc, &self.objects, id)
+    }
+
+    /// The same document under another allocator. Fails only where memory is refused.
+    pub fn copy<B: Allocator + Copy>(&self, alloc: B) -> Result<Doc<B>, AllocError>
+        ensures { IfOk result (λ d. d ≡ self.now) }
+    {
+        let mut objects = Vec::new(alloc);
+        for pair in &self.objects {
+            let object = pair.1.copy_in(alloc)?;
+            objects.push((pair.0, object))?;
+        }
+        Ok(Doc { objects })
     }
 
     /// Whether a child of `parent` other than `except` stands at this position. Walks all objects.
@@ -263,6 +271,16 @@ fn is_document<A: Allocator>(objects: &[(ObjId, Object<A>)]) -> bool
     ensures { IsTrue result ↔ AreDocument objects.now }
 {
     is_sorted(objects) && is_rooted(objects)
+}
+
+// What the types of their parts say of objects and their ids.
+fn know_rows<A: Allocator>(objects: &[(ObjId, Object<A>)])
+    ensures { All IsRow objects.now }
+{
+    for pair in objects {
+        know_id(pair.0);
+        pair.1.every_part();
+    }
 }
 
 // Whether the first one is the root, and each of the others has a place.

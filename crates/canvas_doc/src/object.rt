@@ -1,19 +1,22 @@
 // What is kept of a live object.
-ghost use Rattle.std.specs.Prelude.{◌≡◌, ◌↔◌, T, IsSome, IsTrue, IfOk, IfErr, IfSome, OnOk, OnErr};
+ghost use Rattle.std.specs.Prelude.{◌≡◌, ◌↔◌, T, Some, IsSome, IsTrue, IfOk, IfErr, IfSome, OnOk, OnErr};
 ghost use Rattle.std.specs.Option.{option_copied};
 ghost use Rattle.std.specs.FinMap as map;
 ghost use Rattle.canvas_doc.specs.Sorted.{IsPairAt, IsGapAt};
+ghost use Rattle.canvas_model.specs.Document as document;
 ghost use Rattle.canvas_model.specs.Document.{name_cmp, new_object, with_place, with_prop};
+ghost use Rattle.canvas_value.specs.Props.{IsProp};
+ghost use Rattle.canvas_doc.specs.Known.{IsObject, IsPlace};
 
 use crate::sorted::{is_sorted, put, take_out};
 use crate::{Kind, Name, ObjId, Place, Value};
-use canvas_value::{copy_props, same_props};
+use canvas_value::{copy_props, every_prop, same_props};
 use std::alloc::{AllocError, Allocator, Global};
 use std::cmp::Ordering;
 use std::marker::Model;
 
 /// What is kept of a live object: its kind, its place unless it is the root, and its properties.
-#[derive(Drop)]
+#[derive(Debug, Drop)]
 pub struct Object<A: Allocator = Global> {
     kind: Kind,
     place: Option<Place<A>>,
@@ -33,14 +36,18 @@ impl<A: Allocator> Model for Object<A> {
 
     ghost view = { λ o. record { kind = o.kind; place = o.place; props = map.from_sorted o.props.items } };
 
-    ghost invariant = { λ o. T (map.is_sorted name_cmp o.props.items) };
+    ghost use Rattle.canvas_doc.specs.Known.{IsObject};
+
+    ghost invariant = { λ o. record { sorted : T (map.is_sorted name_cmp o.props.items); known : IsObject (record { kind = o.kind; place = o.place; props = map.from_sorted o.props.items }) } };
 }
 
 impl<A: Allocator> Object<A> {
     /// An object without properties.
     pub fn new(alloc: A, kind: Kind, place: Option<Place<A>>) -> Self
-        ensures { result ≡ new_object kind place }
+        ensures object { result ≡ new_object kind place }
+        ensures known { IsObject result }
     {
+        know_place(&place);
         Object {
             kind,
             place,
@@ -59,10 +66,19 @@ impl<A: Allocator> Object<A> {
         ensures none { IsSome result ↔ T (map.is_sorted name_cmp props.items) }
     {
         if is_sorted(&props) {
+            know_place(&place);
+            every_prop(&props);
             Some(Object { kind, place, props })
         } else {
             None
         }
+    }
+
+    /// What the types of its parts say of the object. It does nothing when it runs.
+    pub fn every_part(&self)
+        ensures { IsObject self.now }
+    {
+        let _kind = self.kind;
     }
 
     /// What the object is.
@@ -95,9 +111,12 @@ impl<A: Allocator> Object<A> {
 
     /// Moves the object to another place.
     pub fn put_place(&mut self, place: Place<A>)
-        ensures { self.new ≡ with_place place self.old }
+        ensures moved { self.new ≡ with_place place self.old }
+        ensures known { IsObject self.new }
     {
-        self.place = Some(place);
+        let place = Some(place);
+        know_place(&place);
+        self.place = place;
     }
 
     /// Gives a property this value, or takes the property away where there is none. Where memory is refused, nothing has
@@ -105,9 +124,13 @@ impl<A: Allocator> Object<A> {
     pub fn put_prop(&mut self, name: Name<A>, value: Option<Value<A>>) -> Result<(), AllocError>
         ensures ok { OnOk result (self.new ≡ with_prop name value self.old) }
         ensures err { OnErr result (self.new ≡ self.old) }
+        ensures known { IsObject self.new }
     {
         match value {
-            Some(value) => put(&mut self.props, name, value)?,
+            Some(value) => {
+                know_prop(&name, &value);
+                put(&mut self.props, name, value)?
+            }
             None => take_out(&mut self.props, &name),
         }
         Ok(())
@@ -169,6 +192,23 @@ fn index_named<A: Allocator, B: Allocator>(
             ensures { result ≡ name_cmp prop.now.0 name.entry.now }
         { prop.0.compare(name) },
     )
+}
+
+// What the types of its parts say of a place, if there is one.
+fn know_place<A: Allocator>(place: &Option<Place<A>>)
+    ensures { (p : document.Place) → place.now ≡ Some p → IsPlace p }
+{
+    if let Some(place) = place {
+        place.every_part();
+    }
+}
+
+// What the types of its parts say of a property.
+fn know_prop<A: Allocator>(name: &Name<A>, value: &Value<A>)
+    ensures { IsProp (name.now, value.now) }
+{
+    let _bytes = name.bytes();
+    let _variant = value.variant();
 }
 
 // The same place under another allocator, or none again.
