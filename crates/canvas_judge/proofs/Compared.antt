@@ -7,11 +7,6 @@ use Rattle.canvas_model.specs.Document.{Doc}
 use Rattle.canvas_model.specs.State.{State}
 use Rattle.canvas_model.specs.Verdict.{Outcome, Removed}
 
-pub same_ids : (a b : ObjId) → Decides (nat_eq a.client b.client && nat_eq a.counter b.counter) (a ≡ b)
-same_ids a b =
-    Decides-like _ (λ (p, q) i. record { client = p i; counter = q i }) (λ e. (ap (λ (x : ObjId). x.client) e, ap (λ (x : ObjId). x.counter) e))
-    (Decides-and _ _ (Decides-eqb a.client b.client) (Decides-eqb a.counter b.counter))
-
 pub same_counts : (a b : Counts) → Decides (nat_eq a.done b.done && nat_eq a.used b.used) (a ≡ b)
 same_counts a b =
     Decides-like _ (λ (p, q) i. record { done = p i; used = q i }) (λ e. (ap (λ (x : Counts). x.done) e, ap (λ (x : Counts). x.used) e))

@@ -7,7 +7,7 @@ use canvas_model::Reason;
 use std::alloc::{AllocError, Allocator, Global};
 
 /// What became of a request. Contracts see it by `seen_outcome`.
-#[derive(Drop)]
+#[derive(Debug, Drop)]
 pub enum Outcome<A: Allocator = Global> {
     /// A new client got this id.
     Joined(u32),

@@ -2,7 +2,8 @@ use Rattle.std.proofs.Common.{sym, ap, ◌∙◌}
 use Rattle.std.proofs.lemmas.Slice.Eq.{slice_eq-Decides}
 use Rattle.canvas_model.specs.Verdict.{Removed}
 use Rattle.canvas_judge.specs.Seen.{seen_outcome}
-use Rattle.canvas_judge.proofs.Compared.{same_ids, same_removed}
+use Rattle.canvas_doc.proofs.Laid.{same_ids}
+use Rattle.canvas_judge.proofs.Compared.{same_removed}
 use Rattle.canvas_judge.proofs.outcome.Outcome.same.Goals as goal
 
 pub returns-in-Removed-Removed : goal.returns-in-Removed-Removed
