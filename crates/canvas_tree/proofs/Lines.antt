@@ -21,10 +21,10 @@ lines_more f xs i x old out line new h w so_far is e =
     let all : flat_map f (take (i + 1) xs) ≡ flat_map f (take i xs) ++ line = ap (flat_map f) (take_more xs i x h) ∙ flat_map-append f (take i xs) (get_or xs i x ∷ []) ∙ ap (λ v. flat_map f (take i xs) ++ v) last in
     joined old (flat_map f (take i xs)) line out new _ so_far e all
 
-bare_parts : (a k : List ℕ) → a ++ (32 ∷ (k ++ (10 ∷ []))) ≡ a ++ codes " " ++ k ++ [] ++ 10 ∷ []
+pub bare_parts : (a k : List ℕ) → a ++ (32 ∷ (k ++ (10 ∷ []))) ≡ a ++ codes " " ++ k ++ [] ++ 10 ∷ []
 bare_parts a k = simp append_assoc refl
 
-placed_parts : (a k p : List ℕ) → a ++ (32 ∷ (k ++ (32 ∷ (p ++ (10 ∷ []))))) ≡ a ++ codes " " ++ k ++ (codes " " ++ p) ++ 10 ∷ []
+pub placed_parts : (a k p : List ℕ) → a ++ (32 ∷ (k ++ (32 ∷ (p ++ (10 ∷ []))))) ≡ a ++ codes " " ++ k ++ (codes " " ++ p) ++ 10 ∷ []
 placed_parts a k p = simp append_assoc refl
 
 prop_parts : (b n v : List ℕ) → b ++ (46 ∷ (n ++ (32 ∷ (v ++ (10 ∷ []))))) ≡ b ++ codes "." ++ n ++ codes " " ++ v ++ 10 ∷ []

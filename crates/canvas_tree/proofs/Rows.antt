@@ -15,9 +15,6 @@ use Rattle.canvas_model.proofs.Ids.{id_apart}
 use Rattle.canvas_tree.proofs.Members.{IsIn}
 use Rattle.canvas_tree.proofs.Climbs.{IsClimb, climb, climb_is, climb_short}
 
-pub some_is : {X : Type 0} (x y : X) → Some x ≡ Some y → x ≡ y
-some_is x y e = cc e
-
 pub some_or_none : {X : Type 0} (o : Option X) → ((x : X) × (o ≡ Some x)) ⊎ (o ≡ None)
 some_or_none None = inr refl
 some_or_none (Some x) = inl (x, refl)

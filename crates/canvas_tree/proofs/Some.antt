@@ -17,7 +17,8 @@ use Rattle.canvas_tree.specs.Shapes.{Forest, none, tree, Branch, tops}
 use Rattle.canvas_tree.specs.Trees.{label_of, AreNodes, IsTreeAt, IsTreeOf}
 use Rattle.canvas_tree.proofs.Members.{IsIn, in_from, in_to}
 use Rattle.canvas_tree.proofs.Ordered.{put, put_sorted, put_in, put_keeps, put_there, sorted_none}
-use Rattle.canvas_tree.proofs.Rows.{some_is, object_there, everyone, live_listed, child_live, root_live, child_below, room_below, room_falls}
+use Rattle.canvas_doc.proofs.Standing.{some_is}
+use Rattle.canvas_tree.proofs.Rows.{object_there, everyone, live_listed, child_live, root_live, child_below, room_below, room_falls}
 
 -- ---- the children of an object
 

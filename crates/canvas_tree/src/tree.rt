@@ -18,7 +18,7 @@ use std::marker::Model;
 /// A tree that was grown of a document has the root at its top; children stand by position and then
 /// by id, properties by name. A tree in an arena borrows the arena, and so is dropped before the
 /// arena's reset.
-#[derive(Drop)]
+#[derive(Debug, Drop)]
 pub struct Tree<A: Allocator = Global> {
     /// The id of the object at the top.
     pub id: ObjId,
