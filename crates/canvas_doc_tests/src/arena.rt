@@ -1,54 +1,82 @@
 //! Documents, objects and changes copied into an arena and back.
 use crate::samples::{coloured, creation, drawing, movement, naming, shape};
 use bumpalo::Bump;
-use canvas_doc::{Change, Doc};
+use canvas_doc::{Change, Doc, Object};
 use std::alloc::{AllocError, Global};
 use std::test::Fail;
 
 // Whether the document's copy in the arena is the same, and its copy back.
-fn carried(alloc: Global, arena: &Bump, doc: &Doc) -> Result<(bool, bool), AllocError> {
+fn carried_doc(alloc: Global, arena: &Bump, doc: &Doc) -> Result<(bool, bool), AllocError> {
     let there = doc.copy(arena)?;
     let back = there.copy(alloc)?;
     Ok((there.same(doc), back.same(doc)))
 }
 
-fn carried_change(alloc: Global, arena: &Bump, change: &Change) -> Result<bool, AllocError> {
+fn carried_change(
+    alloc: Global,
+    arena: &Bump,
+    change: &Change,
+) -> Result<(bool, bool), AllocError> {
     let there = change.copy_in(arena)?;
     let back = there.copy_in(alloc)?;
-    Ok(there.same(change) && back.same(change))
+    Ok((there.same(change), back.same(change)))
 }
 
-fn carried_shape(alloc: Global, arena: &Bump) -> Result<(bool, bool), Fail> {
-    let object = shape(alloc)?;
+fn carried_object(
+    alloc: Global,
+    arena: &Bump,
+    object: &Object,
+) -> Result<(bool, bool), AllocError> {
     let there = object.copy_in(arena)?;
     let back = there.copy_in(alloc)?;
-    Ok((there.same(&object), back.same(&object)))
+    Ok((there.same(object), back.same(object)))
 }
 
-fn documents_carried(alloc: Global) -> Result<(bool, bool), Fail> {
+fn carries_doc(alloc: Global, doc: Doc) -> Result<(bool, bool), AllocError> {
     let arena = Bump::new(alloc);
-    let plain = carried(alloc, &arena, &drawing(alloc)?)?;
-    let full = carried(alloc, &arena, &coloured(alloc)?)?;
-    Ok((plain.0 && plain.1, full.0 && full.1))
+    carried_doc(alloc, &arena, &doc)
 }
 
-fn changes_carried(alloc: Global) -> Result<(bool, bool, bool), Fail> {
+fn carries_change(alloc: Global, change: Change) -> Result<(bool, bool), AllocError> {
     let arena = Bump::new(alloc);
-    let created = carried_change(alloc, &arena, &creation(alloc)?)?;
-    let moved = carried_change(alloc, &arena, &movement(alloc)?)?;
-    let named = carried_change(alloc, &arena, &naming(alloc)?)?;
-    Ok((created, moved, named))
+    carried_change(alloc, &arena, &change)
 }
 
-fn shapes_carried(alloc: Global) -> Result<(bool, bool), Fail> {
+fn carries_object(alloc: Global, object: Object) -> Result<(bool, bool), AllocError> {
     let arena = Bump::new(alloc);
-    carried_shape(alloc, &arena)
+    carried_object(alloc, &arena, &object)
 }
 
 #[test]
-fn there_and_back(rt: HostRuntime) -> Result<(), Fail> {
-    assert_eq!(rt; documents_carried(rt.alloc())?, (true, true));
-    assert_eq!(rt; changes_carried(rt.alloc())?, (true, true, true));
-    assert_eq!(rt; shapes_carried(rt.alloc())?, (true, true));
+fn documents(rt: HostRuntime) -> Result<(), Fail> {
+    assert_eq!(rt;
+        carries_doc(rt.alloc(), drawing(rt.alloc())?)?,
+        (true, true)
+    );
+    assert_eq!(rt;
+        carries_doc(rt.alloc(), coloured(rt.alloc())?)?,
+        (true, true)
+    );
+    assert_eq!(rt;
+        carries_object(rt.alloc(), shape(rt.alloc())?)?,
+        (true, true)
+    );
+    Ok(())
+}
+
+#[test]
+fn changes(rt: HostRuntime) -> Result<(), Fail> {
+    assert_eq!(rt;
+        carries_change(rt.alloc(), creation(rt.alloc())?)?,
+        (true, true)
+    );
+    assert_eq!(rt;
+        carries_change(rt.alloc(), movement(rt.alloc())?)?,
+        (true, true)
+    );
+    assert_eq!(rt;
+        carries_change(rt.alloc(), naming(rt.alloc())?)?,
+        (true, true)
+    );
     Ok(())
 }

@@ -29,17 +29,26 @@ fn stands_at(alloc: Global, id: ObjId, parent: ObjId, pos: &[u8]) -> Result<(boo
 
 #[test]
 fn looks_up(rt: HostRuntime) -> Result<(), Fail> {
-    assert!(rt; has(rt.alloc(), FRAME)?);
-    assert!(rt; !has(rt.alloc(), OTHER)?);
-    assert_eq!(rt; kind_of(rt.alloc(), ObjId::ROOT)?, Some(Kind::Document));
-    assert_eq!(rt; kind_of(rt.alloc(), SHAPE)?, Some(Kind::Shape));
-    assert_eq!(rt; kind_of(rt.alloc(), OTHER)?, None);
-    assert_eq!(rt; stands_at(rt.alloc(), SHAPE, PAGE, b"C")?, (true, true));
-    assert_eq!(rt; stands_at(rt.alloc(), SHAPE, PAGE, b"D")?, (true, false));
-    assert_eq!(rt;
-        stands_at(rt.alloc(), ObjId::ROOT, PAGE, b"C")?,
-        (false, false)
-    );
+    for (id, want) in [
+        (ObjId::ROOT, Some(Kind::Document)),
+        (SHAPE, Some(Kind::Shape)),
+        (OTHER, None),
+    ] {
+        assert_eq!(rt; kind_of(rt.alloc(), id)?, want, "of {id}");
+        assert_eq!(rt; has(rt.alloc(), id)?, want.is_some(), "of {id}");
+    }
+    Ok(())
+}
+
+#[test]
+fn places(rt: HostRuntime) -> Result<(), Fail> {
+    for (id, pos, want) in [
+        (SHAPE, b"C", (true, true)),
+        (SHAPE, b"D", (true, false)),
+        (ObjId::ROOT, b"C", (false, false)),
+    ] {
+        assert_eq!(rt; stands_at(rt.alloc(), id, PAGE, pos)?, want, "of {id}");
+    }
     Ok(())
 }
 
@@ -86,10 +95,19 @@ fn is_next(alloc: Global, after: &[u8], bytes: &[u8]) -> Result<(bool, bool), Fa
 }
 
 #[test]
-fn siblings(rt: HostRuntime) -> Result<(), Fail> {
-    assert!(rt; taken(rt.alloc(), PAGE, b"C", FRAME)?);
-    assert!(rt; !taken(rt.alloc(), PAGE, b"C", SHAPE)?);
-    assert!(rt; !taken(rt.alloc(), ObjId::ROOT, b"C", FRAME)?);
+fn taken_positions(rt: HostRuntime) -> Result<(), Fail> {
+    for (parent, except, want) in [
+        (PAGE, FRAME, true),
+        (PAGE, SHAPE, false),
+        (ObjId::ROOT, FRAME, false),
+    ] {
+        assert_eq!(rt; taken(rt.alloc(), parent, b"C", except)?, want, "{except}");
+    }
+    Ok(())
+}
+
+#[test]
+fn next_positions(rt: HostRuntime) -> Result<(), Fail> {
     assert!(rt; is_first(rt.alloc(), ObjId::ROOT, b"C")?);
     assert!(rt; is_first(rt.alloc(), SHAPE, b"m")?);
     assert_eq!(rt; is_next(rt.alloc(), b"C", b"m")?, (true, true));

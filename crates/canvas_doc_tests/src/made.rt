@@ -52,18 +52,28 @@ fn same_as_grown(alloc: Global) -> Result<bool, Fail> {
 
 #[test]
 fn documents(rt: HostRuntime) -> Result<(), Fail> {
+    for (root, pages, want) in [
+        (ObjId::ROOT, [PAGE, SHAPE, FRAME].as_slice(), Some(4)),
+        (ObjId::ROOT, [PAGE, FRAME, SHAPE].as_slice(), None),
+        (ObjId::ROOT, [PAGE, PAGE].as_slice(), None),
+        (ObjId::ROOT, [ObjId::ROOT].as_slice(), None),
+        (PAGE, [SHAPE].as_slice(), None),
+    ] {
+        assert_eq!(rt; made(rt.alloc(), root, pages)?, want);
+    }
     assert!(rt; same_as_grown(rt.alloc())?);
-    assert_eq!(rt;
-        made(rt.alloc(), ObjId::ROOT, &[PAGE, SHAPE, FRAME])?,
-        Some(4)
-    );
-    assert_eq!(rt; made(rt.alloc(), ObjId::ROOT, &[PAGE, FRAME, SHAPE])?, None);
-    assert_eq!(rt; made(rt.alloc(), ObjId::ROOT, &[PAGE, PAGE])?, None);
-    assert_eq!(rt; made(rt.alloc(), ObjId::ROOT, &[ObjId::ROOT])?, None);
-    assert_eq!(rt; made(rt.alloc(), PAGE, &[SHAPE])?, None);
-    assert!(rt; made_with(rt.alloc(), Kind::Document, true)?);
-    assert!(rt; !made_with(rt.alloc(), Kind::Page, true)?);
-    assert!(rt; !made_with(rt.alloc(), Kind::Document, false)?);
+    Ok(())
+}
+
+#[test]
+fn parts(rt: HostRuntime) -> Result<(), Fail> {
+    for (root, is_placed, want) in [
+        (Kind::Document, true, true),
+        (Kind::Page, true, false),
+        (Kind::Document, false, false),
+    ] {
+        assert_eq!(rt; made_with(rt.alloc(), root, is_placed)?, want);
+    }
     assert!(rt; !made_of_nothing(rt.alloc()));
     Ok(())
 }
@@ -82,9 +92,13 @@ fn named(alloc: Global, names: &[&str]) -> Result<Option<usize>, Fail> {
 
 #[test]
 fn objects(rt: HostRuntime) -> Result<(), Fail> {
-    assert_eq!(rt; named(rt.alloc(), &[])?, Some(0));
-    assert_eq!(rt; named(rt.alloc(), &["blur", "fill"])?, Some(2));
-    assert_eq!(rt; named(rt.alloc(), &["fill", "blur"])?, None);
-    assert_eq!(rt; named(rt.alloc(), &["fill", "fill"])?, None);
+    for (names, want) in [
+        ([].as_slice(), Some(0)),
+        (["blur", "fill"].as_slice(), Some(2)),
+        (["fill", "blur"].as_slice(), None),
+        (["fill", "fill"].as_slice(), None),
+    ] {
+        assert_eq!(rt; named(rt.alloc(), names)?, want);
+    }
     Ok(())
 }

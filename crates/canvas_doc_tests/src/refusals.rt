@@ -6,15 +6,22 @@ use refusing::Refusing;
 use std::alloc::{AllocError, Allocator, Global};
 use std::test::Fail;
 
-// Adds the nth object. The error is that memory was refused.
-fn add<A: Allocator + Copy>(alloc: A, doc: &mut Doc<A>, nth: u32) -> Result<(), AllocError> {
+// What is done to a document.
+#[derive(Clone, Copy)]
+enum Step {
+    Add,
+    Give,
+    Replace,
+    Clear,
+}
+
+// Adds an object. The error is that memory was refused.
+fn add<A: Allocator + Copy>(alloc: A, doc: &mut Doc<A>) -> Result<(), AllocError> {
     let id = ObjId {
         client: 9,
-        counter: nth,
+        counter: 1,
     };
-    let Ok(pos) = Pos::read(alloc, b"O") else {
-        return Err(AllocError);
-    };
+    let pos = Pos::read(alloc, b"O").map_err(|_| AllocError)?;
     if doc.has(id) {
         return Err(AllocError);
     }
@@ -22,80 +29,101 @@ fn add<A: Allocator + Copy>(alloc: A, doc: &mut Doc<A>, nth: u32) -> Result<(), 
     doc.put_object(id, Kind::Shape, place)
 }
 
-// Gives the shape its nth property. The error is that memory was refused.
-fn paint<A: Allocator + Copy>(alloc: A, doc: &mut Doc<A>, nth: u32) -> Result<(), AllocError> {
-    let Some(name) = [&b"a", &b"b", &b"c", &b"d", &b"e", &b"f"].get(nth as usize % 6) else {
-        return Err(AllocError);
-    };
-    let Ok(name) = Name::read(alloc, name.as_slice()) else {
-        return Err(AllocError);
-    };
-    let text = String::from_str(alloc, "red")?;
-    doc.put_prop(SHAPE, name, Some(Value::text(text)))
-}
-
-// One of the two.
-fn step<A: Allocator + Copy>(
+// Gives a property of the object a text. The error is that memory was refused.
+fn give<A: Allocator + Copy>(
     alloc: A,
     doc: &mut Doc<A>,
-    nth: u32,
-    paints: bool,
+    id: ObjId,
+    name: &[u8],
 ) -> Result<(), AllocError> {
-    if paints {
-        paint(alloc, doc, nth)
-    } else {
-        add(alloc, doc, nth)
+    let name = Name::read(alloc, name).map_err(|_| AllocError)?;
+    let text = String::from_str(alloc, "red")?;
+    doc.put_prop(id, name, Some(Value::text(text)))
+}
+
+// Takes a property of the shape away. The error is that memory was refused.
+fn clear<A: Allocator + Copy>(alloc: A, doc: &mut Doc<A>) -> Result<(), AllocError> {
+    let name = Name::read(alloc, b"fill").map_err(|_| AllocError)?;
+    doc.put_prop(SHAPE, name, None)
+}
+
+// Takes the step.
+fn take<A: Allocator + Copy>(alloc: A, doc: &mut Doc<A>, step: Step) -> Result<(), AllocError> {
+    match step {
+        Step::Add => add(alloc, doc),
+        Step::Give => give(alloc, doc, FRAME, b"fill"),
+        Step::Replace => give(alloc, doc, SHAPE, b"fill"),
+        Step::Clear => clear(alloc, doc),
     }
 }
 
-// How many growths a copy of the document takes.
-fn growths_of_copy(alloc: Global, doc: &Doc) -> Result<u64, AllocError> {
-    let heap = Refusing::new(alloc, 1000);
-    let copy = doc.copy(&heap)?;
-    let left = if copy.same(doc) { heap.left() } else { 1000 };
-    Ok(1000u64.saturating_sub(left))
+// A document before a step and after it.
+#[derive(Drop)]
+struct Docs {
+    before: Doc,
+    after: Doc,
 }
 
-// Takes ten steps on a copy, each again where it was refused: how often that was, and whether the document was as before
-// each time, and at the end the one that it was to be.
-fn stepped(alloc: Global, number: u64, paints: bool) -> Result<(u64, bool), Fail> {
-    let mut wanted = coloured(alloc)?;
-    let before = growths_of_copy(alloc, &wanted)?;
-    let heap = Refusing::new(alloc, number.saturating_add(before));
-    let mut doc = wanted.copy(&heap)?;
-    let mut refused = 0u64;
-    let mut as_before = true;
-    for nth in 1..=10u32 {
-        if step(&heap, &mut doc, nth, paints).is_err() {
-            refused = refused.saturating_add(1);
-            as_before = as_before & doc.same(&wanted);
-            step(&heap, &mut doc, nth, paints)?;
+fn taken(alloc: Global, step: Step) -> Result<Doc, Fail> {
+    let mut doc = coloured(alloc)?;
+    take(alloc, &mut doc, step)?;
+    Ok(doc)
+}
+
+fn both(alloc: Global, step: Step) -> Result<Docs, Fail> {
+    Ok(Docs {
+        before: coloured(alloc)?,
+        after: taken(alloc, step)?,
+    })
+}
+
+// Takes the step on a copy with the nth growth refused, and once more where one was: whether one was, and whether the document
+// was as before then and is as it has to be at the end.
+fn refused(alloc: Global, docs: &Docs, step: Step, nth: u64) -> Result<(bool, bool), AllocError> {
+    let heap = Refusing::new(alloc, 0);
+    let mut doc = docs.before.copy(&heap)?;
+    heap.refuse(nth);
+    if take(&heap, &mut doc, step).is_ok() {
+        return Ok((false, heap.left() > 0 && doc.same(&docs.after)));
+    }
+    let as_before = heap.left() == 0 && doc.same(&docs.before);
+    take(&heap, &mut doc, step)?;
+    Ok((true, as_before && doc.same(&docs.after)))
+}
+
+// Whether the step has so many growths, and each may be refused.
+fn has_growths(alloc: Global, step: Step, growths: u64) -> Result<bool, Fail> {
+    let docs = both(alloc, step)?;
+    for nth in 1..=growths {
+        if refused(alloc, &docs, step, nth)? != (true, true) {
+            return Ok(false);
         }
-        step(alloc, &mut wanted, nth, paints)?;
     }
-    Ok((refused, as_before & doc.same(&wanted)))
+    let last = growths.saturating_add(1);
+    Ok(refused(alloc, &docs, step, last)? == (false, true))
 }
 
+// A position, a name or a text is a growth each, and so is room for the first property, or for a fifth object.
 #[test]
 fn steps(rt: HostRuntime) -> Result<(), Fail> {
-    for paints in [false, true] {
-        let mut growths = 0u64;
-        for number in 1..1000u64 {
-            let (refused, as_before) = stepped(rt.alloc(), number, paints)?;
-            assert!(rt; as_before, "at {number}");
-            if refused == 0 {
-                break;
-            }
-            assert_eq!(rt; refused, 1, "at {number}");
-            growths = number;
-        }
-        assert!(rt; growths > 10, "{growths}");
-        assert!(rt; growths < 999, "{growths}");
-    }
+    assert!(rt; has_growths(rt.alloc(), Step::Add, 2)?);
+    assert!(rt; has_growths(rt.alloc(), Step::Give, 3)?);
+    assert!(rt; has_growths(rt.alloc(), Step::Replace, 2)?);
+    assert!(rt; has_growths(rt.alloc(), Step::Clear, 1)?);
     Ok(())
 }
 
 // What is asked under an allocator.
+#[derive(Clone, Copy)]
+enum Question {
+    Blank,
+    Children,
+    Copy,
+    ChangeCopy,
+    ObjectCopy,
+}
+
+// What it is asked of.
 #[derive(Drop)]
 struct Kept {
     doc: Doc,
@@ -111,46 +139,63 @@ fn sample(alloc: Global) -> Result<Kept, Fail> {
     })
 }
 
-// Whether an answer that takes memory is as it should be: the children, or a copy of what is kept.
-fn is_right<A: Allocator + Copy>(alloc: A, kept: &Kept, question: u8) -> Result<bool, AllocError> {
+fn is_kept(alloc: Global, kept: &Kept) -> Result<bool, Fail> {
+    Ok(
+        kept.doc.same(&coloured(alloc)?)
+            && kept.change.same(&naming(alloc)?)
+            && kept.object.same(&shape(alloc)?),
+    )
+}
+
+// Whether the answer is as it should be.
+fn is_right<A: Allocator + Copy>(
+    alloc: A,
+    kept: &Kept,
+    question: Question,
+) -> Result<bool, AllocError> {
     match question {
-        0 => Ok(kept.doc.children(alloc, PAGE)?.as_slice() == [SHAPE, FRAME].as_slice()),
-        1 => Ok(kept.doc.copy(alloc)?.same(&kept.doc)),
-        2 => Ok(kept.change.copy_in(alloc)?.same(&kept.change)),
-        _ => Ok(kept.object.copy_in(alloc)?.same(&kept.object)),
+        Question::Blank => Ok(Doc::new(alloc)?.has(ObjId::ROOT)),
+        Question::Children => Ok(
+            kept.doc.children(alloc, PAGE)?.as_slice() == [SHAPE, FRAME].as_slice(),
+        ),
+        Question::Copy => Ok(kept.doc.copy(alloc)?.same(&kept.doc)),
+        Question::ChangeCopy => Ok(kept.change.copy_in(alloc)?.same(&kept.change)),
+        Question::ObjectCopy => Ok(kept.object.copy_in(alloc)?.same(&kept.object)),
     }
 }
 
-// Whether a growth was refused, and whether the answer was an error then, the document as before, and the answer right when
-// asked again.
-fn refused(alloc: Global, number: u64, question: u8) -> Result<(bool, bool), Fail> {
-    let kept = sample(alloc)?;
-    let heap = Refusing::new(alloc, number);
-    let first = is_right(&heap, &kept, question);
-    if heap.left() > 0 {
-        return Ok((false, first?));
+// Asks with the nth growth refused, and once more where one was: whether one was, and whether the answer was an error then and is
+// right at the end.
+fn asked(alloc: Global, kept: &Kept, question: Question, nth: u64) -> (bool, bool) {
+    let heap = Refusing::new(alloc, nth);
+    match is_right(&heap, kept, question) {
+        Ok(right) => (false, right && heap.left() > 0),
+        Err(_) => {
+            let was_refused = heap.left() == 0;
+            let again = is_right(&heap, kept, question);
+            (true, was_refused && matches!(again, Ok(true)))
+        }
     }
-    let as_before = kept.doc.same(&coloured(alloc)?);
-    Ok((
-        true,
-        first.is_err() && as_before && is_right(&heap, &kept, question)?,
-    ))
+}
+
+// Whether the answer has so many growths, each may be refused, and nothing that was asked of has changed then.
+fn answer_has_growths(alloc: Global, question: Question, growths: u64) -> Result<bool, Fail> {
+    let kept = sample(alloc)?;
+    for nth in 1..=growths {
+        if asked(alloc, &kept, question, nth) != (true, true) {
+            return Ok(false);
+        }
+    }
+    let last = asked(alloc, &kept, question, growths.saturating_add(1));
+    Ok(last == (false, true) && is_kept(alloc, &kept)?)
 }
 
 #[test]
 fn answers(rt: HostRuntime) -> Result<(), Fail> {
-    for question in 0..4u8 {
-        let mut growths = 0u64;
-        for number in 1..1000u64 {
-            let (was_refused, is_fine) = refused(rt.alloc(), number, question)?;
-            assert!(rt; is_fine, "at {number}");
-            if !was_refused {
-                break;
-            }
-            growths = number;
-        }
-        assert!(rt; growths > 1, "{growths}");
-        assert!(rt; growths < 999, "{growths}");
-    }
+    assert!(rt; answer_has_growths(rt.alloc(), Question::Blank, 1)?);
+    assert!(rt; answer_has_growths(rt.alloc(), Question::Children, 2)?);
+    assert!(rt; answer_has_growths(rt.alloc(), Question::Copy, 7)?);
+    assert!(rt; answer_has_growths(rt.alloc(), Question::ChangeCopy, 2)?);
+    assert!(rt; answer_has_growths(rt.alloc(), Question::ObjectCopy, 3)?);
     Ok(())
 }

@@ -1,53 +1,114 @@
-//! States, entries and answers in the machine's memory and in an arena.
-use crate::states::{INNER, PAGE, next_edit, place, with_frames};
+//! States, entries, changes and answers in the machine's memory and in an arena.
+ghost use Rattle.canvas_model.specs.Log.{Fits};
+
+use crate::states::{Case, Next, coming};
 use bumpalo::Bump;
 use canvas_doc::Change;
-use std::alloc::Global;
+use canvas_judge::{Entry, What};
+use std::alloc::{AllocError, Allocator, Global};
 use std::test::Fail;
 
-// The move of the inner frame to the page.
-fn to_the_page(alloc: Global) -> Result<Change, Fail> {
-    Ok(Change::move_to(INNER, place(alloc, PAGE, b"O")?))
-}
-
-// Whether the answer under the arena is that under the machine's memory.
-fn answers_alike(alloc: Global, arena: &Bump) -> Result<bool, Fail> {
-    let state = with_frames(alloc)?;
-    if !state.has_joined(1) {
-        return Err(Fail::from("client 1 hasn't joined"));
+// The change of an edit in the arena.
+fn change_there<'a>(arena: &'a Bump, case: &Case) -> Result<Option<Change<&'a Bump>>, AllocError> {
+    match &case.entry.what {
+        What::Edit(change) => Ok(Some(change.copy_in(arena)?)),
+        What::Join => Ok(None),
     }
-    let change = to_the_page(alloc)?;
-    let there = state.judge(arena, 1, &change)?;
-    Ok(there.same(&state.judge(alloc, 1, &change)?))
 }
 
-// Whether an entry in the arena does to the state what the same in the machine's memory does.
-fn applies_alike(alloc: Global, arena: &Bump) -> Result<bool, Fail> {
-    let mut here = with_frames(alloc)?;
-    let entry = next_edit(alloc, &here, 1, to_the_page(alloc)?)?;
-    let mut other = here.copy_in(alloc)?;
-    let there = entry.copy_in(arena)?;
-    here.apply(&entry)?;
-    other.apply(&there)?;
-    Ok(here.same(&other) && there.same(&entry))
+// Whether the answer to the change is the one of the entry.
+fn is_answered<A: Allocator + Copy, B: Allocator>(
+    alloc: A,
+    case: &Case,
+    change: &Change<B>,
+) -> Result<bool, AllocError> {
+    if !case.before.has_joined(1) {
+        return Ok(false);
+    }
+    Ok(
+        case.before
+            .judge(alloc, 1, change)?
+            .same(&case.entry.outcome),
+    )
 }
 
-// Whether the copy of a state in the arena is the same, until an entry is applied to it.
-fn copies_alike(alloc: Global, arena: &Bump) -> Result<bool, Fail> {
-    let here = with_frames(alloc)?;
-    let entry = next_edit(alloc, &here, 1, to_the_page(alloc)?)?;
-    let mut there = here.copy_in(arena)?;
-    let as_before = there.same(&here);
-    there.apply(&entry)?;
-    Ok(as_before && !there.same(&here))
+// Whether the change in the arena is answered as the entry says, there and in the machine's memory.
+fn judged(alloc: Global, arena: &Bump, case: &Case) -> Result<bool, AllocError> {
+    match change_there(arena, case)? {
+        Some(there) => Ok(is_answered(arena, case, &there)? && is_answered(alloc, case, &there)?),
+        None => Ok(false),
+    }
+}
+
+// Whether the entry is the one of the case, and does to a copy of the state what it has to.
+fn does<A: Allocator + Copy, B: Allocator>(
+    alloc: A,
+    case: &Case,
+    entry: &Entry<B>,
+) -> Result<bool, AllocError>
+    requires { Fits case.now.before entry.now }
+{
+    let mut state = case.before.copy_in(alloc)?;
+    let is_copy = state.same(&case.before) && entry.same(&case.entry);
+    state.apply(entry)?;
+    Ok(is_copy && state.same(&case.after))
+}
+
+// Whether the entry in the arena does so, there and in the machine's memory.
+fn applied(alloc: Global, arena: &Bump, case: &Case) -> Result<bool, AllocError>
+    requires { Fits case.now.before case.now.entry }
+{
+    let there = case.entry.copy_in(arena)?;
+    Ok(does(arena, case, &there)? && does(alloc, case, &there)?)
+}
+
+fn applied_to_copy(alloc: Global, case: &Case) -> Result<bool, AllocError>
+    requires { Fits case.now.before case.now.entry }
+{
+    let arena = Bump::new(alloc);
+    Ok(applied(alloc, &arena, case)? && does(&arena, case, &case.entry)?)
+}
+
+fn judged_in_arena(alloc: Global, case: &Case) -> Result<bool, AllocError> {
+    let arena = Bump::new(alloc);
+    judged(alloc, &arena, case)
+}
+
+fn answers_alike(alloc: Global, next: Next) -> Result<bool, Fail> {
+    let case = coming(alloc, next)?;
+    Ok(judged_in_arena(alloc, &case)?)
+}
+
+fn applies_alike(alloc: Global, next: Next) -> Result<bool, Fail> {
+    let case = coming(alloc, next)?;
+    Ok(applied_to_copy(alloc, &case)?)
 }
 
 #[test]
-fn one_state_in_both_memories(rt: HostRuntime) -> Result<(), Fail> {
-    let mut arena = Bump::new(rt.alloc());
-    assert!(rt; answers_alike(rt.alloc(), &arena)?);
-    assert!(rt; applies_alike(rt.alloc(), &arena)?);
-    assert!(rt; copies_alike(rt.alloc(), &arena)?);
-    assert!(rt; arena.reset().is_ok());
+fn answers(rt: HostRuntime) -> Result<(), Fail> {
+    for next in [
+        Next::Create,
+        Next::Set,
+        Next::Move,
+        Next::Circle,
+        Next::Delete,
+    ] {
+        assert!(rt; answers_alike(rt.alloc(), next)?);
+    }
+    Ok(())
+}
+
+#[test]
+fn entries(rt: HostRuntime) -> Result<(), Fail> {
+    for next in [
+        Next::Join,
+        Next::Create,
+        Next::Set,
+        Next::Move,
+        Next::Circle,
+        Next::Delete,
+    ] {
+        assert!(rt; applies_alike(rt.alloc(), next)?);
+    }
     Ok(())
 }

@@ -1,10 +1,12 @@
-//! Tests of `canvas_judge`: verdicts and what they do, chains, states and entries in an arena, and each growth refused in turn.
+//! Tests of `canvas_judge`: verdicts and what they do, entries that may come next, chains, states and entries in an arena, and each growth refused in turn.
 #![tactic(auto)]
 
 #[cfg(test)]
 mod arena;
 #[cfg(test)]
 mod chains;
+#[cfg(test)]
+mod fits;
 #[cfg(test)]
 mod refusals;
 #[cfg(test)]

@@ -1,128 +1,190 @@
-//! Each growth refused in turn.
-use crate::states::{INNER, OUTER, PAGE, naming, object, place, with_frames};
-use canvas_doc::{Change, Kind, Value};
-use canvas_judge::below;
+//! Each growth refused in turn: the state is looked at afterwards, and the call made again.
+ghost use Rattle.canvas_model.specs.Log.{Fits};
+
+use crate::states::{Case, INNER, Next, OUTER, PAGE, coming};
+use canvas_doc::ObjId;
+use canvas_judge::{State, What, below};
 use refusing::Refusing;
-use std::alloc::Global;
+use std::alloc::{AllocError, Allocator, Global};
 use std::test::Fail;
 
-// What client 1 asks of the state with frames.
-#[derive(Clone, Copy)]
-enum Asked {
-    Create,
-    Set,
-    Move,
-    Circle,
-    Delete,
+// Applies the entry, and once more where a growth is refused: whether one was, and whether the state was as before then and is as
+// it has to be at the end.
+fn insist<A: Allocator + Copy>(
+    heap: &Refusing<Global>,
+    state: &mut State<A>,
+    case: &Case,
+) -> Result<(bool, bool), AllocError>
+    requires { Fits state.old case.now.entry }
+{
+    match state.apply(&case.entry) {
+        Ok(()) => Ok((false, heap.left() > 0 && state.same(&case.after))),
+        Err(_) => {
+            let as_before = heap.left() == 0 && state.same(&case.before);
+            state.apply(&case.entry)?;
+            Ok((true, as_before && state.same(&case.after)))
+        }
+    }
 }
 
-// The change that is asked for.
-fn change(alloc: Global, asked: Asked) -> Result<Change, Fail> {
-    match asked {
-        Asked::Create => {
-            let place = place(alloc, OUTER, b"O")?;
-            Ok(Change::create(object(1, 4), Kind::Shape, place))
+// The same to a copy of the state, with the nth growth refused.
+fn refused(alloc: Global, case: &Case, nth: u64) -> Result<(bool, bool), AllocError>
+    requires { Fits case.now.before case.now.entry }
+{
+    let heap = Refusing::new(alloc, 0);
+    let mut state = case.before.copy_in(&heap)?;
+    heap.refuse(nth);
+    insist(&heap, &mut state, case)
+}
+
+// Whether the entry has so many growths, and each may be refused.
+fn entry_has_growths(alloc: Global, case: &Case, growths: u64) -> Result<bool, AllocError>
+    requires { Fits case.now.before case.now.entry }
+{
+    for nth in 1..=growths {
+        if refused(alloc, case, nth)? != (true, true) {
+            return Ok(false);
         }
-        Asked::Set => naming(
-            alloc,
-            INNER,
-            Some(Value::text(String::from_str(alloc, "née")?)),
+    }
+    Ok(refused(alloc, case, growths.saturating_add(1))? == (false, true))
+}
+
+// The same of what comes next.
+fn has_growths(alloc: Global, next: Next, growths: u64) -> Result<bool, Fail> {
+    let case = coming(alloc, next)?;
+    Ok(entry_has_growths(alloc, &case, growths)?)
+}
+
+// A position, a name or a text is a growth each, and so is room for a fifth client, a fifth object, or the first property.
+#[test]
+fn entries(rt: HostRuntime) -> Result<(), Fail> {
+    assert!(rt; has_growths(rt.alloc(), Next::Join, 1)?);
+    assert!(rt; has_growths(rt.alloc(), Next::Create, 2)?);
+    assert!(rt; has_growths(rt.alloc(), Next::Set, 3)?);
+    assert!(rt; has_growths(rt.alloc(), Next::Move, 1)?);
+    assert!(rt; has_growths(rt.alloc(), Next::Circle, 0)?);
+    assert!(rt; has_growths(rt.alloc(), Next::Delete, 0)?);
+    Ok(())
+}
+
+// What is asked under an allocator.
+#[derive(Clone, Copy)]
+enum Question {
+    Opening,
+    Judge,
+    Below,
+    StateCopy,
+    EntryCopy,
+}
+
+// Whether the judge answers the edit as it was answered before.
+fn judges<A: Allocator + Copy>(alloc: A, case: &Case) -> Result<bool, AllocError> {
+    let What::Edit(change) = &case.entry.what else {
+        return Ok(false);
+    };
+    if !case.before.has_joined(1) {
+        return Ok(false);
+    }
+    Ok(
+        case.before
+            .judge(alloc, 1, change)?
+            .same(&case.entry.outcome),
+    )
+}
+
+// Whether the answer is as it should be.
+fn is_right<A: Allocator + Copy>(
+    alloc: A,
+    case: &Case,
+    question: Question,
+) -> Result<bool, AllocError> {
+    match question {
+        Question::Opening => Ok(State::new(alloc)?.doc().has(ObjId::ROOT)),
+        Question::Judge => judges(alloc, case),
+        Question::Below => Ok(
+            below(alloc, case.before.doc(), PAGE)?.as_slice() == [PAGE, OUTER, INNER].as_slice(),
         ),
-        Asked::Move => Ok(Change::move_to(INNER, place(alloc, PAGE, b"O")?)),
-        Asked::Circle => Ok(Change::move_to(OUTER, place(alloc, INNER, b"O")?)),
-        Asked::Delete => Ok(Change::delete(OUTER)),
+        Question::StateCopy => Ok(case.before.copy_in(alloc)?.same(&case.before)),
+        Question::EntryCopy => Ok(case.entry.copy_in(alloc)?.same(&case.entry)),
     }
 }
 
-// How a run with one growth refused went: whether there was one, and whether all was as it must be.
-#[derive(Clone, Copy)]
-struct Run {
-    was_refused: bool,
-    is_right: bool,
-}
-
-// Judges with the nth growth refused, and once more.
-fn judged(alloc: Global, asked: Asked, nth: u64) -> Result<Run, Fail> {
-    let state = with_frames(alloc)?;
-    if !state.has_joined(1) {
-        return Err(Fail::from("client 1 hasn't joined"));
-    }
-    let change = change(alloc, asked)?;
+// Asks with the nth growth refused, and once more where one was: whether one was, and whether the answer was an error then and is
+// right at the end.
+fn asked(alloc: Global, case: &Case, question: Question, nth: u64) -> (bool, bool) {
     let heap = Refusing::new(alloc, nth);
-    let answer = state.judge(&heap, 1, &change);
-    if heap.left() > 0 {
-        return Ok(Run {
-            was_refused: false,
-            is_right: answer.is_ok(),
-        });
+    match is_right(&heap, case, question) {
+        Ok(right) => (false, right && heap.left() > 0),
+        Err(_) => {
+            let was_refused = heap.left() == 0;
+            let again = is_right(&heap, case, question);
+            (true, was_refused && matches!(again, Ok(true)))
+        }
     }
-    let again = state.judge(&heap, 1, &change)?;
-    let as_before = state.same(&with_frames(alloc)?);
-    let is_same = again.same(&state.judge(alloc, 1, &change)?);
-    Ok(Run {
-        was_refused: true,
-        is_right: answer.is_err() && as_before && is_same,
-    })
 }
 
-// How many growths a judgement has, where each may be refused.
-fn growths_judged(alloc: Global, asked: Asked) -> Result<Option<u64>, Fail> {
-    for nth in 1..100u64 {
-        let run = judged(alloc, asked, nth)?;
-        if !run.is_right {
-            return Ok(None);
-        }
-        if !run.was_refused {
-            return Ok(Some(nth - 1));
+// Whether the answer has so many growths, and each may be refused.
+fn answers(alloc: Global, case: &Case, question: Question, growths: u64) -> bool {
+    for nth in 1..=growths {
+        if asked(alloc, case, question, nth) != (true, true) {
+            return false;
         }
     }
-    Ok(None)
+    asked(alloc, case, question, growths.saturating_add(1)) == (false, true)
+}
+
+fn is_kept(alloc: Global, case: &Case, next: Next) -> Result<bool, Fail> {
+    let kept = coming(alloc, next)?;
+    Ok(case.before.same(&kept.before) && case.entry.same(&kept.entry))
+}
+
+// The same of a question about what comes next, nothing of which has changed then.
+fn answer_has_growths(
+    alloc: Global,
+    next: Next,
+    question: Question,
+    growths: u64,
+) -> Result<bool, Fail> {
+    let case = coming(alloc, next)?;
+    Ok(answers(alloc, &case, question, growths) && is_kept(alloc, &case, next)?)
+}
+
+fn judgement_has_growths(alloc: Global, next: Next, growths: u64) -> Result<bool, Fail> {
+    answer_has_growths(alloc, next, Question::Judge, growths)
 }
 
 #[test]
 fn judgements(rt: HostRuntime) -> Result<(), Fail> {
-    assert_eq!(rt; growths_judged(rt.alloc(), Asked::Create)?, Some(1));
-    assert_eq!(rt; growths_judged(rt.alloc(), Asked::Set)?, Some(0));
-    assert_eq!(rt; growths_judged(rt.alloc(), Asked::Move)?, Some(1));
-    assert_eq!(rt; growths_judged(rt.alloc(), Asked::Circle)?, Some(1));
-    assert_eq!(rt; growths_judged(rt.alloc(), Asked::Delete)?, Some(3));
+    assert!(rt; judgement_has_growths(rt.alloc(), Next::Create, 1)?);
+    assert!(rt; judgement_has_growths(rt.alloc(), Next::Set, 0)?);
+    assert!(rt; judgement_has_growths(rt.alloc(), Next::Move, 1)?);
+    assert!(rt; judgement_has_growths(rt.alloc(), Next::Circle, 1)?);
+    assert!(rt; judgement_has_growths(rt.alloc(), Next::Delete, 3)?);
     Ok(())
 }
 
-// Asks what lies below the page with the nth growth refused, and once more.
-fn gathered(alloc: Global, nth: u64) -> Result<Run, Fail> {
-    let state = with_frames(alloc)?;
-    let heap = Refusing::new(alloc, nth);
-    let answer = below(&heap, state.doc(), PAGE);
-    if heap.left() > 0 {
-        return Ok(Run {
-            was_refused: false,
-            is_right: answer.is_ok(),
-        });
+#[test]
+fn parts(rt: HostRuntime) -> Result<(), Fail> {
+    for (question, growths) in [
+        (Question::Opening, 1),
+        (Question::Below, 5),
+        (Question::StateCopy, 5),
+    ] {
+        assert!(rt; answer_has_growths(rt.alloc(), Next::Join, question, growths)?);
     }
-    let again = below(&heap, state.doc(), PAGE)?;
-    Ok(Run {
-        was_refused: true,
-        is_right: answer.is_err() && again.as_slice() == [PAGE, OUTER, INNER].as_slice(),
-    })
+    Ok(())
 }
 
-// How many growths that has, where each may be refused.
-fn growths_gathered(alloc: Global) -> Result<Option<u64>, Fail> {
-    for nth in 1..100u64 {
-        let run = gathered(alloc, nth)?;
-        if !run.is_right {
-            return Ok(None);
-        }
-        if !run.was_refused {
-            return Ok(Some(nth - 1));
-        }
-    }
-    Ok(None)
+fn copy_has_growths(alloc: Global, next: Next, growths: u64) -> Result<bool, Fail> {
+    answer_has_growths(alloc, next, Question::EntryCopy, growths)
 }
 
 #[test]
-fn ids_below(rt: HostRuntime) -> Result<(), Fail> {
-    assert_eq!(rt; growths_gathered(rt.alloc())?, Some(5));
+fn entry_copies(rt: HostRuntime) -> Result<(), Fail> {
+    assert!(rt; copy_has_growths(rt.alloc(), Next::Join, 0)?);
+    assert!(rt; copy_has_growths(rt.alloc(), Next::Create, 2)?);
+    assert!(rt; copy_has_growths(rt.alloc(), Next::Set, 2)?);
+    assert!(rt; copy_has_growths(rt.alloc(), Next::Circle, 2)?);
+    assert!(rt; copy_has_growths(rt.alloc(), Next::Delete, 1)?);
     Ok(())
 }

@@ -5,7 +5,7 @@ ghost use Rattle.canvas_model.specs.Log.{Fits};
 use canvas_doc::{Change, Kind, Name, ObjId, Place, Value};
 use canvas_judge::{Entry, Outcome, Reason, State, What};
 use canvas_pos::Pos;
-use std::alloc::Global;
+use std::alloc::{AllocError, Global};
 use std::test::Fail;
 
 pub const PAGE: ObjId = ObjId {
@@ -127,6 +127,85 @@ pub fn with_frames(alloc: Global) -> Result<State, Fail> {
     create(alloc, &mut state, 1, OUTER, Kind::Frame, PAGE, b"O")?;
     create(alloc, &mut state, 1, INNER, Kind::Frame, OUTER, b"O")?;
     Ok(state)
+}
+
+/// The same with three more clients.
+pub fn with_clients(alloc: Global) -> Result<State, Fail> {
+    let mut state = with_frames(alloc)?;
+    join(&mut state)?;
+    join(&mut state)?;
+    join(&mut state)?;
+    Ok(state)
+}
+
+/// What comes after a state with clients: a Join, or an edit of client 1.
+#[derive(Clone, Copy)]
+pub enum Next {
+    Join,
+    Create,
+    Set,
+    Move,
+    Circle,
+    Delete,
+}
+
+fn shape(alloc: Global) -> Result<Change, Fail> {
+    let place = place(alloc, OUTER, b"O")?;
+    Ok(Change::create(object(1, 4), Kind::Shape, place))
+}
+
+fn text(alloc: Global) -> Result<Change, Fail> {
+    let text = String::from_str(alloc, "née")?;
+    naming(alloc, INNER, Some(Value::text(text)))
+}
+
+fn move_to(alloc: Global, id: ObjId, parent: ObjId) -> Result<Change, Fail> {
+    Ok(Change::move_to(id, place(alloc, parent, b"O")?))
+}
+
+/// The entry that comes next.
+fn next_entry(alloc: Global, state: &State, next: Next) -> Result<Entry, Fail>
+    ensures { IfOk result (Fits state.now) }
+{
+    let change = match next {
+        Next::Join => return next_join(state),
+        Next::Create => shape(alloc)?,
+        Next::Set => text(alloc)?,
+        Next::Move => move_to(alloc, INNER, PAGE)?,
+        Next::Circle => move_to(alloc, OUTER, INNER)?,
+        Next::Delete => Change::delete(OUTER),
+    };
+    next_edit(alloc, state, 1, change)
+}
+
+/// An entry, and the states before and after it.
+#[derive(Drop)]
+pub struct Case {
+    pub before: State,
+    pub entry: Entry,
+    pub after: State,
+}
+
+fn applied(alloc: Global, state: &State, entry: &Entry) -> Result<State, AllocError>
+    requires { Fits state.now entry.now }
+{
+    let mut after = state.copy_in(alloc)?;
+    after.apply(entry)?;
+    Ok(after)
+}
+
+/// What comes next after a state with clients.
+pub fn coming(alloc: Global, next: Next) -> Result<Case, Fail>
+    ensures { IfOk result (λ c. Fits c.before c.entry) }
+{
+    let before = with_clients(alloc)?;
+    let entry = next_entry(alloc, &before, next)?;
+    let after = applied(alloc, &before, &entry)?;
+    Ok(Case {
+        before,
+        entry,
+        after,
+    })
 }
 
 /// The reason of a refusal, and the parent in the place that it carries.

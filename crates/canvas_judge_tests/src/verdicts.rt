@@ -8,10 +8,24 @@ use canvas_judge::{Counts, Outcome, Reason, State};
 use std::alloc::Global;
 use std::test::Fail;
 
+// The reason of a refusal, and the parent in the place that it carries.
+type Refusal = Option<(Reason, Option<ObjId>)>;
+
 // Client 1 makes a frame on the page with this counter.
 fn frame(alloc: Global, state: &mut State, counter: u32, pos: &[u8]) -> Result<Outcome, Fail> {
     let id = object(1, counter);
     create(alloc, state, 1, id, Kind::Frame, PAGE, pos)
+}
+
+// Why client 1 may not make a frame there.
+fn refused_frame(
+    alloc: Global,
+    state: &mut State,
+    counter: u32,
+    pos: &[u8],
+) -> Result<Refusal, Fail> {
+    let outcome = frame(alloc, state, counter, pos)?;
+    Ok(refusal(&outcome))
 }
 
 // Whether the outcome gives the object a place on the page at this position, and it stands there.
@@ -54,25 +68,27 @@ fn three_at_one_position(rt: HostRuntime) -> Result<(), Fail> {
 }
 
 // The longest position in which each digit but the last is `O`.
-fn longest(alloc: Global, last: u8) -> Result<Vec<u8>, Fail> {
-    let mut bytes = vec![in alloc; b'O'; 127]?;
-    bytes.push(last)?;
-    Ok(bytes)
+fn longest(last: u8) -> [u8; 128] {
+    let mut bytes = [b'O'; 128];
+    bytes[127] = last;
+    bytes
 }
 
-// Fills the room between two positions, and answers what a third frame is told.
-fn between_neighbours(alloc: Global) -> Result<Option<(Reason, Option<ObjId>)>, Fail> {
+// Fills the room between two positions, and answers what a third frame is told that asks for the first.
+fn between(alloc: Global, low: &[u8], high: &[u8]) -> Result<Refusal, Fail> {
     let mut state = with_page(alloc)?;
-    let low = longest(alloc, b'O')?;
-    let high = longest(alloc, b'P')?;
-    if !gets(alloc, &mut state, 2, &low, &low)? || !gets(alloc, &mut state, 3, &high, &high)? {
+    if !gets(alloc, &mut state, 2, low, low)? || !gets(alloc, &mut state, 3, high, high)? {
         return Ok(None);
     }
-    let outcome = frame(alloc, &mut state, 4, &low)?;
+    let told = refused_frame(alloc, &mut state, 4, low)?;
     if state.doc().has(object(1, 4)) {
         return Ok(None);
     }
-    Ok(refusal(&outcome))
+    Ok(told)
+}
+
+fn between_neighbours(alloc: Global) -> Result<Refusal, Fail> {
+    between(alloc, &longest(b'O'), &longest(b'P'))
 }
 
 #[test]
@@ -85,17 +101,20 @@ fn crowded(rt: HostRuntime) -> Result<(), Fail> {
     Ok(())
 }
 
+fn is_page_alone(alloc: Global, state: &State) -> Result<bool, Fail> {
+    Ok(state.doc().same(with_page(alloc)?.doc()))
+}
+
 // Why client 1 may not create this, and whether the state's objects are as before.
 fn refused_creation(
     alloc: Global,
     id: ObjId,
     kind: Kind,
     parent: ObjId,
-) -> Result<(Option<(Reason, Option<ObjId>)>, bool), Fail> {
+) -> Result<(Refusal, bool), Fail> {
     let mut state = with_page(alloc)?;
     let outcome = create(alloc, &mut state, 1, id, kind, parent, b"O")?;
-    let as_before = state.doc().same(with_page(alloc)?.doc());
-    Ok((refusal(&outcome), as_before))
+    Ok((refusal(&outcome), is_page_alone(alloc, &state)?))
 }
 
 #[test]
@@ -171,11 +190,7 @@ fn move_to(
 }
 
 // Why client 1 may not move the object there, and the parent in the place that the refusal carries.
-fn refused_move(
-    alloc: Global,
-    id: ObjId,
-    parent: ObjId,
-) -> Result<Option<(Reason, Option<ObjId>)>, Fail> {
+fn refused_move(alloc: Global, id: ObjId, parent: ObjId) -> Result<Refusal, Fail> {
     let mut state = with_frames(alloc)?;
     let outcome = move_to(alloc, &mut state, id, parent, b"O")?;
     Ok(refusal(&outcome))
@@ -200,20 +215,18 @@ fn moves_refused(rt: HostRuntime) -> Result<(), Fail> {
     Ok(())
 }
 
-// Whether the outcome moves to this position on the page.
-fn moves(outcome: &Outcome, pos: &[u8]) -> bool {
-    match outcome {
-        Outcome::Moved(place) => place.parent == PAGE && place.pos.bytes() == pos,
-        _ => false,
+// Whether client 1 can move the object to the page, where it gets this position.
+fn moves(alloc: Global, state: &mut State, id: ObjId, pos: &[u8]) -> Result<bool, Fail> {
+    match move_to(alloc, state, id, PAGE, b"O")? {
+        Outcome::Moved(place) => Ok(place.parent == PAGE && place.pos.bytes() == pos),
+        _ => Ok(false),
     }
 }
 
 // Whether an object that is moved to a taken position gets the next one, and one that stands there keeps it.
 fn moves_beside(alloc: Global) -> Result<bool, Fail> {
     let mut state = with_frames(alloc)?;
-    let beside = move_to(alloc, &mut state, INNER, PAGE, b"O")?;
-    let stays = move_to(alloc, &mut state, OUTER, PAGE, b"O")?;
-    Ok(moves(&beside, b"g") && moves(&stays, b"O"))
+    Ok(moves(alloc, &mut state, INNER, b"g")? && moves(alloc, &mut state, OUTER, b"O")?)
 }
 
 #[test]
@@ -222,23 +235,22 @@ fn moved(rt: HostRuntime) -> Result<(), Fail> {
     Ok(())
 }
 
-// Whether the outcome removes these.
-fn removes(outcome: &Outcome, ids: &[ObjId]) -> bool {
-    match outcome {
-        Outcome::Removed(removed) => removed.as_slice() == ids,
-        _ => false,
+// Whether client 1 can delete the object, and these are removed.
+fn removes(alloc: Global, state: &mut State, id: ObjId, ids: &[ObjId]) -> Result<bool, Fail> {
+    match submit(alloc, state, 1, Change::delete(id))? {
+        Outcome::Removed(removed) => Ok(removed.as_slice() == ids),
+        _ => Ok(false),
     }
 }
 
 // Whether a deletion takes what lies below with it, and leaves the rest.
 fn deletes_both(alloc: Global) -> Result<bool, Fail> {
     let mut state = with_frames(alloc)?;
-    let outcome = submit(alloc, &mut state, 1, Change::delete(OUTER))?;
-    Ok(removes(&outcome, &[OUTER, INNER]) && state.doc().same(with_page(alloc)?.doc()))
+    Ok(removes(alloc, &mut state, OUTER, &[OUTER, INNER])? && is_page_alone(alloc, &state)?)
 }
 
 // Why client 1 may not delete the object of a page alone.
-fn refused_deletion(alloc: Global, id: ObjId) -> Result<Option<(Reason, Option<ObjId>)>, Fail> {
+fn refused_deletion(alloc: Global, id: ObjId) -> Result<Refusal, Fail> {
     let mut state = with_page(alloc)?;
     let outcome = submit(alloc, &mut state, 1, Change::delete(id))?;
     Ok(refusal(&outcome))
@@ -263,18 +275,29 @@ fn is_named(alloc: Global, state: &State) -> Result<bool, Fail> {
     Ok(state.doc().get(PAGE, &name).is_some())
 }
 
-// Whether a property is there once it is set, and gone once it is cleared.
-fn sets_and_clears(alloc: Global) -> Result<bool, Fail> {
+// Whether client 1 can set the page's name, or clear it.
+fn names(alloc: Global, state: &mut State, number: Option<i64>) -> Result<bool, Fail> {
+    let change = naming(alloc, PAGE, number.map(Value::number))?;
+    let outcome = submit(alloc, state, 1, change)?;
+    Ok(matches!(outcome, Outcome::WasSet))
+}
+
+fn is_named_after_set(alloc: Global) -> Result<bool, Fail> {
     let mut state = with_page(alloc)?;
-    let change = naming(alloc, PAGE, Some(Value::number(7)))?;
-    let set = submit(alloc, &mut state, 1, change)?;
-    let named = is_named(alloc, &state)?;
-    submit(alloc, &mut state, 1, naming(alloc, PAGE, None)?)?;
-    Ok(matches!(set, Outcome::WasSet) && named && !is_named(alloc, &state)?)
+    Ok(names(alloc, &mut state, Some(7))? && is_named(alloc, &state)?)
+}
+
+fn is_named_after_clearing(alloc: Global) -> Result<bool, Fail> {
+    let mut state = with_page(alloc)?;
+    Ok(
+        names(alloc, &mut state, Some(7))?
+            && names(alloc, &mut state, None)?
+            && is_named(alloc, &state)?,
+    )
 }
 
 // Why client 1 may not clear a property of what isn't live.
-fn refused_set(alloc: Global) -> Result<Option<(Reason, Option<ObjId>)>, Fail> {
+fn refused_set(alloc: Global) -> Result<Refusal, Fail> {
     let mut state = with_page(alloc)?;
     let outcome = submit(alloc, &mut state, 1, naming(alloc, GONE, None)?)?;
     Ok(refusal(&outcome))
@@ -282,7 +305,8 @@ fn refused_set(alloc: Global) -> Result<Option<(Reason, Option<ObjId>)>, Fail> {
 
 #[test]
 fn properties(rt: HostRuntime) -> Result<(), Fail> {
-    assert!(rt; sets_and_clears(rt.alloc())?);
+    assert!(rt; is_named_after_set(rt.alloc())?);
+    assert!(rt; !is_named_after_clearing(rt.alloc())?);
     assert_eq!(rt; refused_set(rt.alloc())?, Some((Reason::Gone, None)));
     Ok(())
 }

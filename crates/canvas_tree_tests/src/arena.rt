@@ -6,59 +6,79 @@ use canvas_tree::{Tree, grow};
 use std::alloc::{AllocError, Allocator, Global};
 use std::test::Fail;
 
-fn text_of<A: Allocator>(alloc: Global, tree: &Tree<A>) -> Result<Vec<u8>, AllocError> {
-    let mut out = Vec::new(alloc);
-    tree.text(alloc, 1, &mut out)?;
-    Ok(out)
+// Whether the tree that the document has in the arena is this one, and so is the tree's copy there.
+fn same_there(arena: &Bump, doc: &Doc, tree: &Tree) -> Result<(bool, bool), AllocError> {
+    let grown = grow(arena, doc)?;
+    let copy = tree.copy_in(arena)?;
+    Ok((tree.same(&grown), copy.same(tree)))
 }
 
-// Whether the two trees of the document are the same, and those copied across.
-fn same_trees(alloc: Global, arena: &Bump, doc: &Doc) -> Result<(bool, bool, bool), AllocError> {
-    let here = grow(alloc, doc)?;
-    let there = grow(arena, doc)?;
-    Ok((
-        here.same(&there),
-        there.same(&here.copy_in(arena)?),
-        here.same(&there.copy_in(alloc)?),
-    ))
+// Whether the copy of the tree in the arena, copied back, is the same.
+fn same_back(alloc: Global, arena: &Bump, tree: &Tree) -> Result<bool, AllocError> {
+    let there = tree.copy_in(arena)?;
+    let back = there.copy_in(alloc)?;
+    Ok(back.same(tree))
 }
 
-// Whether the trees of two documents are the same.
-fn same_documents(alloc: Global, arena: &Bump, doc: &Doc, other: &Doc) -> Result<bool, AllocError> {
-    let here = grow(alloc, doc)?;
-    let there = grow(arena, other)?;
-    Ok(here.same(&there))
+fn carries(alloc: Global, doc: &Doc) -> Result<bool, AllocError> {
+    let arena = Bump::new(alloc);
+    let tree = grow(alloc, doc)?;
+    Ok(same_there(&arena, doc, &tree)? == (true, true) && same_back(alloc, &arena, &tree)?)
 }
 
-// The texts of the two trees of the document.
-fn texts(alloc: Global, arena: &Bump, doc: &Doc) -> Result<(Vec<u8>, Vec<u8>), AllocError> {
-    let here = text_of(alloc, &grow(alloc, doc)?)?;
-    let there = text_of(alloc, &grow(arena, doc)?)?;
-    Ok((here, there))
+fn carries_page(alloc: Global) -> Result<bool, Fail> {
+    Ok(carries(alloc, &coloured_page(alloc)?)?)
+}
+
+fn carries_siblings(alloc: Global) -> Result<bool, Fail> {
+    Ok(carries(alloc, &siblings(alloc)?)?)
+}
+
+fn is_tree_of(arena: &Bump, tree: &Tree, doc: &Doc) -> Result<bool, AllocError> {
+    Ok(grow(arena, doc)?.same(tree))
+}
+
+// Whether the page has the tree of the other document.
+fn has_other_tree(alloc: Global) -> Result<bool, Fail> {
+    let arena = Bump::new(alloc);
+    let tree = grow(alloc, &siblings(alloc)?)?;
+    Ok(is_tree_of(&arena, &tree, &coloured_page(alloc)?)?)
 }
 
 #[test]
 fn one_tree_in_both_memories(rt: HostRuntime) -> Result<(), Fail> {
-    let doc = coloured_page(rt.alloc())?;
-    let other = siblings(rt.alloc())?;
-    let mut arena = Bump::new(rt.alloc());
-    assert_eq!(rt; same_trees(rt.alloc(), &arena, &doc)?, (true, true, true));
-    assert_eq!(rt; same_trees(rt.alloc(), &arena, &other)?, (true, true, true));
-    assert!(rt; !same_documents(rt.alloc(), &arena, &doc, &other)?);
-    assert!(rt; arena.reset().is_ok());
+    assert!(rt; carries_page(rt.alloc())?);
+    assert!(rt; carries_siblings(rt.alloc())?);
+    assert!(rt; !has_other_tree(rt.alloc())?);
     Ok(())
+}
+
+fn has_text<A: Allocator>(
+    alloc: Global,
+    tree: &Tree<A>,
+    wanted: &[u8],
+) -> Result<bool, AllocError> {
+    let mut out = Vec::new(alloc);
+    tree.text(alloc, 1, &mut out)?;
+    Ok(out.as_slice() == wanted)
+}
+
+fn has_text_here(alloc: Global, wanted: &[u8]) -> Result<bool, Fail> {
+    let tree = grow(alloc, &coloured_page(alloc)?)?;
+    Ok(has_text(alloc, &tree, wanted)?)
+}
+
+fn has_text_there(alloc: Global, wanted: &[u8]) -> Result<bool, Fail> {
+    let arena = Bump::new(alloc);
+    let tree = grow(&arena, &coloured_page(alloc)?)?;
+    Ok(has_text(alloc, &tree, wanted)?)
 }
 
 #[test]
 fn one_text_in_both_memories(rt: HostRuntime) -> Result<(), Fail> {
-    let doc = coloured_page(rt.alloc())?;
-    let mut arena = Bump::new(rt.alloc());
-    let (here, there) = texts(rt.alloc(), &arena, &doc)?;
-    assert_eq!(rt; here.as_slice(), there.as_slice());
-    assert_eq!(rt;
-        here.as_slice(),
-        b"  0:0 document\n    .t [\"list\",1,[\"list\"]]\n    1:1 page O\n      .fill [\"rgba\",255]\n      .name \"A\"\n".as_slice()
-    );
-    assert!(rt; arena.reset().is_ok());
+    let text =
+        b"  0:0 document\n    .t [\"list\",1,[\"list\"]]\n    1:1 page O\n      .fill [\"rgba\",255]\n      .name \"A\"\n";
+    assert!(rt; has_text_here(rt.alloc(), text)?);
+    assert!(rt; has_text_there(rt.alloc(), text)?);
     Ok(())
 }
