@@ -1,0 +1,85 @@
+//! Servers to ask, and what they are asked.
+use canvas_doc::{Change, Kind, ObjId, Place};
+use canvas_judge::Entry;
+use canvas_pos::Pos;
+use canvas_server::{Request, Server, TakeError, Took};
+use std::alloc::Global;
+use std::test::Fail;
+
+/// The request of a client's edit that makes a page with the edit's number as its counter.
+pub fn page(alloc: Global, client: u32, seq: u64) -> Result<Request, Fail> {
+    let place = Place {
+        parent: ObjId::ROOT,
+        pos: Pos::read(alloc, b"O")?,
+    };
+    let id = ObjId {
+        client,
+        counter: (seq % 1000) as u32,
+    };
+    Ok(Request::Edit {
+        client,
+        seq,
+        change: Change::create(id, Kind::Page, place),
+    })
+}
+
+/// The request for an id.
+pub fn join() -> Request {
+    Request::Join
+}
+
+/// A server that client 1 has joined.
+pub fn joined(alloc: Global) -> Result<Server, Fail> {
+    let mut server = Server::new(alloc)?;
+    server.take(&join())?;
+    Ok(server)
+}
+
+/// A server that client 1 has joined, where it has made two pages. Nothing is published.
+pub fn with_pages(alloc: Global) -> Result<Server, Fail> {
+    let mut server = joined(alloc)?;
+    for seq in 1..3u64 {
+        server.take(&page(alloc, 1, seq)?)?;
+    }
+    Ok(server)
+}
+
+/// What the server makes of that edit.
+pub fn taken(
+    alloc: Global,
+    server: &mut Server,
+    client: u32,
+    seq: u64,
+) -> Result<Result<Took, TakeError>, Fail> {
+    let request = page(alloc, client, seq)?;
+    Ok(server.take(&request))
+}
+
+/// Publishes all entries.
+pub fn publish_all(server: &mut Server) {
+    let all = server.version();
+    if server.published() <= all {
+        server.publish(all);
+    }
+}
+
+/// Whether two servers hold the same.
+pub fn are_same(server: &Server, other: &Server) -> bool {
+    server.version() == other.version()
+        && server.published() == other.published()
+        && server.floor() == other.floor()
+        && server.state().same(other.state())
+}
+
+/// Whether these are the entries of client 1's edits with these numbers, in this order.
+pub fn are_edits(entries: &[Entry], numbers: &[u64]) -> bool {
+    if entries.len() != numbers.len() {
+        return false;
+    }
+    for (at, entry) in entries.iter().enumerate() {
+        if entry.author != 1 || entry.seq != numbers[at] {
+            return false;
+        }
+    }
+    true
+}
