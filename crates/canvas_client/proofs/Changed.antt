@@ -1,0 +1,72 @@
+-- Documents of which one row, or some objects, were changed.
+use Rattle.std.proofs.Common.{◌≡◌, ℕ, ◌+◌, ◌<◌, Bool, true, false, cond, List, [], ◌∷◌, ◌++◌, length, take, get_or, Option, Some, None, refl, ap, sym, ◌∙◌}
+use Rattle.std.specs.Prelude.{◌||◌}
+use Rattle.std.specs.List.{list_any}
+use Rattle.std.specs.Option.{option_map}
+use Rattle.std.specs.FinMap.{same_map, get-remove}
+use Rattle.std.specs.FinMap as map
+use Rattle.std.proofs.lemmas.List.{take_more}
+use Rattle.std.proofs.lemmas.List.Folds.{list_any-append}
+use Rattle.canvas_model.specs.declared.ObjId.{ObjId}
+use Rattle.canvas_model.specs.declared.Kind.{Kind}
+use Rattle.canvas_model.specs.Ids.{root, same_id}
+use Rattle.canvas_model.specs.Value.{Value}
+use Rattle.canvas_model.specs.Document.{Doc, Object, Place, Name, live, revise, without, new_object, with_place, with_prop}
+use Rattle.canvas_model.specs.Change.{Change}
+use Rattle.canvas_model.specs.Overlay.{lay, over}
+use Rattle.canvas_model.specs.View.{moves_it, sets_it, deletes_it, placed, valued, added}
+use Rattle.canvas_model.proofs.Overlay.{over-append}
+use Rattle.canvas_doc.proofs.Laid.{rewritten}
+use Rattle.canvas_model.proofs.Ids.{id_total, id_apart, get-without, dead_none}
+
+module _ (d : Doc) (staying : List Change) (id : ObjId) where
+  -- an edit that stays moves it
+  pub place_stays : (place : Place) → list_any (moves_it id) staying ≡ true → d ≡ revise d id (placed staying id place (map.get d id))
+  place_stays place moved = rewritten d id ∙ sym (ap (λ b. revise d id (cond b (map.get d id) (option_map (with_place place) (map.get d id)))) moved)
+
+  -- an edit that stays sets it
+  pub value_stays : (name : Name) (value : Option Value) → list_any (sets_it id name) staying ≡ true → d ≡ revise d id (valued staying id name value (map.get d id))
+  value_stays name value set = rewritten d id ∙ sym (ap (λ b. revise d id (cond b (map.get d id) (option_map (with_prop name value) (map.get d id)))) set)
+
+  -- none sets it
+  pub value_set : (name : Name) (value : Option Value) (n : Doc) → list_any (sets_it id name) staying ≡ false → n ≡ revise d id (option_map (with_prop name value) (map.get d id)) → n ≡ revise d id (valued staying id name value (map.get d id))
+  value_set name value n none is = is ∙ sym (ap (λ b. revise d id (cond b (map.get d id) (option_map (with_prop name value) (map.get d id)))) none)
+
+  -- it isn't shown, and an edit that stays deletes it
+  pub added_deleted : (kind : Kind) (place : Place) → live d id ≡ false → list_any (deletes_it id) staying ≡ true → d ≡ revise d id (added staying id kind place (map.get d id))
+  added_deleted kind place dead deleted =
+      let none = dead_none d id dead in
+      rewritten d id ∙ ap (revise d id) none ∙ sym (ap (λ x. revise d id (added staying id kind place x)) none ∙ ap (λ b. revise d id (cond b None (Some (new_object kind (Some place))))) deleted)
+
+  -- it isn't shown, and none deletes it
+  pub added_new : (kind : Kind) (place : Place) (n : Doc) → live d id ≡ false → list_any (deletes_it id) staying ≡ false → n ≡ revise d id (Some (new_object kind (Some place))) → n ≡ revise d id (added staying id kind place (map.get d id))
+  added_new kind place n dead kept is =
+      let none = dead_none d id dead in
+      is ∙ sym (ap (λ x. revise d id (added staying id kind place x)) none ∙ ap (λ b. revise d id (cond b None (Some (new_object kind (Some place))))) kept)
+
+-- one more object taken away
+pub one_more : (d n m : Doc) (ids : List ObjId) (i : ℕ) → i < length ids → n ≡ without d (take i ids) → m ≡ map.remove n (get_or ids i root) → m ≡ without d (take (i + 1) ids)
+one_more d n m ids i lt so_far now =
+    now ∙ ap (λ n. map.remove n (get_or ids i root)) so_far ∙ removed (get_or ids i root) ∙ ap (without d) (sym (take_more ids i root lt))
+  where
+    either : (a b : Bool) (x : Option Object) → cond b None (cond a None x) ≡ cond (a || (b || false)) None x
+    either true true x = refl
+    either true false x = refl
+    either false true x = refl
+    either false false x = refl
+
+    removed : (id : ObjId) → map.remove (without d (take i ids)) id ≡ without d (take i ids ++ id ∷ [])
+    removed id = same_map id_total id_apart _ _ (λ q.
+        get-remove id_total (without d (take i ids)) id q
+        ∙ ap (cond (same_id q id) None) (get-without d (take i ids) q)
+        ∙ either (list_any (same_id q) (take i ids)) (same_id q id) (map.get d q)
+        ∙ sym (ap (λ b. cond b None (map.get d q)) (list_any-append (same_id q) (take i ids) (id ∷ [])))
+        ∙ sym (get-without d (take i ids ++ id ∷ []) q))
+
+-- none taken away yet
+pub none_yet : (d : Doc) → d ≡ without d []
+none_yet d = same_map id_total id_apart d (without d []) (λ q. sym (get-without d [] q))
+
+-- one more change laid over it
+pub laid_more : (d n m : Doc) (changes : List Change) (i : ℕ) (x : Change) → i < length changes → x ≡ get_or changes i x → n ≡ over d (take i changes) → m ≡ lay n x → m ≡ over d (take (i + 1) changes)
+laid_more d n m changes i x lt is so_far now = now ∙ ap (λ n. lay n x) so_far ∙ sym (over-append d (take i changes) x) ∙ ap (λ y. over d (take i changes ++ y ∷ [])) is ∙ ap (over d) (sym (take_more changes i x lt))

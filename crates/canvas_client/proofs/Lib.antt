@@ -1,0 +1,10 @@
+pub mod Changed
+pub mod Tests
+pub mod Followed
+pub mod Roots
+pub mod Keeping
+pub mod Receiving
+pub mod Upright
+pub mod Landing
+pub mod Drafted
+pub mod Edited

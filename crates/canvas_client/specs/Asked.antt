@@ -1,0 +1,83 @@
+-- What contracts see of stored requests and of refusals.
+use Rattle.std.specs.Prelude.{◌≡◌, ℕ, ◌<◌, Option, Some, None}
+use Rattle.canvas_model.specs.declared.ObjId.{ObjId}
+use Rattle.canvas_model.specs.declared.Kind.{Kind}
+use Rattle.canvas_model.specs.Value.{IsShallow}
+use Rattle.canvas_model.specs.Document.{Doc, Place, Pos}
+use Rattle.canvas_model.specs.Sibling.{IsSibling}
+use Rattle.canvas_model.specs.Change.{Change}
+use Rattle.canvas_model.specs.Change as change
+use Rattle.canvas_model.specs.Client.{Client}
+use Rattle.canvas_model.specs.Local.{EditRequest, Create, Set, Clear, Move, Delete, Has, Lands, rank, error_number, Blocks, Refuses, Makes, edited}
+use Rattle.canvas_model.specs.Local as local
+use Rattle.canvas_model.specs.Standing.{Stands}
+use Rattle.canvas_client.specs.declared.error.EditError.{EditError}
+use Rattle.canvas_client.specs.declared.error.EditError.TheVariants as error
+use Rattle.canvas_client.specs.declared.request.EditRequestVariant.{EditRequestVariant}
+use Rattle.canvas_client.specs.declared.request.EditRequestVariant.TheVariants as variant
+use Rattle.canvas_client.specs.declared.request.Spot.{Spot}
+
+-- the spot that is stored here
+abbrev pub seen_spot : Spot → local.Spot
+seen_spot spot = record { parent = spot.parent; after = spot.after }
+
+-- the request that is stored here
+abbrev pub seen_request : {A : Type 0} → EditRequestVariant A → EditRequest
+seen_request (variant.Create kind parent after) = Create kind (record { parent = parent; after = after })
+seen_request (variant.Set id name value) = Set id name value
+seen_request (variant.Clear id name) = Clear id name
+seen_request (variant.Move id parent after) = Move id (record { parent = parent; after = after })
+seen_request (variant.Delete id) = Delete id
+
+-- the request holds no value that is too deep
+abbrev pub HoldsShallow : EditRequest → Type 0
+HoldsShallow (Set id name value) = IsShallow value
+HoldsShallow _ = Unit {0}
+
+-- the model's refusal; want of memory is none
+abbrev pub refusal : EditError → Option local.EditError
+refusal error.NotOpen = Some local.NotOpen
+refusal error.IsRoot = Some local.IsRoot
+refusal error.NotShown = Some local.NotShown
+refusal error.ParentNotShown = Some local.ParentNotShown
+refusal error.BadParent = Some local.BadParent
+refusal error.OwnDescendant = Some local.OwnDescendant
+refusal error.Crowded = Some local.Crowded
+refusal error.IdsSpent = Some local.IdsSpent
+refusal error.Full = Some local.Full
+refusal error.Memory = None
+
+-- the number of a refusal, or that of want of memory
+abbrev pub number_of : Option local.EditError → ℕ
+number_of None = 10
+number_of (Some e) = error_number e
+
+-- no refusal before the n-th holds
+abbrev pub NoneBefore : Client → EditRequest → ℕ → Type 0
+NoneBefore client r n = (earlier : local.EditError) → rank earlier < n → Blocks client r earlier → ⊥
+
+-- the client refuses the request so; want of memory can be met at any
+abbrev pub IsRefusal : Client → EditRequest → Option local.EditError → Type 0
+IsRefusal client r None = Unit {0}
+IsRefusal client r (Some e) = Refuses client r e
+
+-- the child to come after isn't denied to be another child of that parent
+abbrev pub HasAfter : Doc → ObjId → local.Spot → Type 0
+HasAfter view except spot = Has spot.after (λ after. (pos : Pos) → IsSibling view spot.parent except after pos → ⊥) → ⊥
+
+-- there is no room at the spot; want of memory can be met at any
+abbrev pub IsCrowded : Doc → ObjId → local.Spot → Option local.EditError → Type 0
+IsCrowded view except spot None = Unit {0}
+IsCrowded view except spot (Some e) = (e ≡ local.Crowded) × Lands view except spot None
+
+-- no refusal of the request holds, and the client has made its change
+abbrev pub HasMade : Client → EditRequest → Client → Type 0
+HasMade old r new = (change : Change) × Makes old r change × (new ≡ edited old change)
+
+-- the same, where this is the object that was created
+abbrev pub HasCreated : Client → EditRequest → ObjId → Client → Type 0
+HasCreated old r id new = (kind : Kind) × (place : Place) × Makes old r (change.Create id kind place) × (new ≡ edited old (change.Create id kind place))
+
+-- on each document on which the client stood it stands still
+abbrev pub StandsStill : Client → Client → Type 0
+StandsStill old new = (d : Doc) → Stands old d → Stands new d

@@ -1,0 +1,5 @@
+pub mod Seen
+pub mod Follow
+pub mod Kept
+pub mod Receives
+pub mod Asked

@@ -1,0 +1,163 @@
+// What speaks against a request in a view, and where what it asks for is to stand.
+ghost use Rattle.std.specs.Prelude.{◌≡◌, ◌↔◌, IsTrue, IfOk, IfErr, IfSome, IfNone, Some, length};
+ghost use Rattle.std.specs.Option.{option_copied};
+ghost use Rattle.canvas_model.specs.Chain.{InTree};
+ghost use Rattle.canvas_model.specs.Document as document;
+ghost use Rattle.canvas_model.specs.Local.{ComesAfterNone, GoesBelowItself, Has, IsHidden, IsPosAfter};
+ghost use Rattle.canvas_model.specs.Local.{Lands, MovesRoot, kind_asked, spot_asked};
+ghost use Rattle.canvas_model.specs.Sibling.{IsSibling};
+ghost use Rattle.canvas_model.specs.Verdict.{MayNotStand};
+ghost use Rattle.canvas_client.specs.Asked.{HasAfter, IsCrowded, refusal, seen_spot};
+
+use crate::request::Spot;
+use crate::{EditError, EditRequest, EditRequestVariant};
+use canvas_doc::{Doc, Kind, ObjId};
+use canvas_judge::is_above;
+use canvas_pos::{Pos, between};
+use std::alloc::Allocator;
+
+// Whether the request moves or deletes the root.
+pub(crate) fn moves_root<C: Allocator>(request: &EditRequest<C>) -> bool
+    ensures { IsTrue result ↔ MovesRoot request.now }
+{
+    match request.variant() {
+        EditRequestVariant::Move { id, .. } => *id == ObjId::ROOT,
+        EditRequestVariant::Delete { id } => *id == ObjId::ROOT,
+        _ => false,
+    }
+}
+
+// Whether the named object isn't in the view's tree.
+pub(crate) fn is_hidden<A: Allocator, C: Allocator>(view: &Doc<A>, request: &EditRequest<C>) -> bool
+    ensures { IsTrue result ↔ IsHidden view.now request.now }
+{
+    match request.subject() {
+        Some(id) => !is_above(view, ObjId::ROOT, id),
+        None => false,
+    }
+}
+
+// Whether the child to come after is no other child of that parent.
+pub(crate) fn comes_after_none<A: Allocator, C: Allocator>(
+    view: &Doc<A>,
+    request: &EditRequest<C>,
+) -> bool
+    ensures { IsTrue result ↔ ComesAfterNone view.now request.now }
+{
+    let Some(spot) = request.spot() else {
+        return false;
+    };
+    let Some(after) = spot.after else {
+        return false;
+    };
+    sibling_position(view, spot.parent, request.moved(), after).is_none()
+}
+
+// Whether the parent isn't in the view's tree.
+pub(crate) fn has_hidden_parent<A: Allocator, C: Allocator>(
+    view: &Doc<A>,
+    request: &EditRequest<C>,
+) -> bool
+    ensures { IsTrue result ↔ Has (spot_asked request.now) (λ spot. InTree view.now spot.parent → ⊥) }
+{
+    match request.spot() {
+        Some(spot) => !is_above(view, ObjId::ROOT, spot.parent),
+        None => false,
+    }
+}
+
+// Whether what is to stand there may not stand under that parent.
+pub(crate) fn has_bad_parent<A: Allocator, C: Allocator>(
+    view: &Doc<A>,
+    request: &EditRequest<C>,
+) -> bool
+    ensures { IsTrue result ↔ Has (spot_asked request.now)
+        (λ spot. MayNotStand (kind_asked view.now request.now) (document.kind_of view.now spot.parent)) }
+{
+    match request.spot() {
+        Some(spot) => may_not_stand(kind_asked(view, request), view.kind_of(spot.parent)),
+        None => false,
+    }
+}
+
+// The kind of what is to stand at the spot that is asked for.
+fn kind_asked<A: Allocator, C: Allocator>(view: &Doc<A>, request: &EditRequest<C>) -> Option<Kind>
+    ensures { result ≡ kind_asked view.now request.now }
+{
+    match request.variant() {
+        EditRequestVariant::Create { kind, .. } => Some(*kind),
+        EditRequestVariant::Move { id, .. } => view.kind_of(*id),
+        _ => None,
+    }
+}
+
+// Whether there aren't two kinds, the first of which may stand under the second.
+fn may_not_stand(kind: Option<Kind>, parent: Option<Kind>) -> bool
+    ensures { IsTrue result ↔ MayNotStand kind parent }
+{
+    match (kind, parent) {
+        (Some(kind), Some(parent)) => !kind.may_stand_under(parent),
+        _ => true,
+    }
+}
+
+// Whether the new parent is the moved object or lies below it.
+pub(crate) fn goes_below_itself<A: Allocator, C: Allocator>(
+    view: &Doc<A>,
+    request: &EditRequest<C>,
+) -> bool
+    ensures { IsTrue result ↔ GoesBelowItself view.now request.now }
+{
+    match request.variant() {
+        EditRequestVariant::Move { id, parent, .. } => is_above(view, *id, *parent),
+        _ => false,
+    }
+}
+
+// The position of `q`, where it is a child of `parent` other than `except`.
+fn sibling_position<A: Allocator>(
+    view: &Doc<A>,
+    parent: ObjId,
+    except: ObjId,
+    q: ObjId,
+) -> Option<&Pos<A>>
+    ensures some { IfSome result (λ pos. IsSibling view.now parent except q pos.now) }
+    ensures none { IfNone result ((pos : document.Pos) → IsSibling view.now parent except q pos → ⊥) }
+{
+    if q == except {
+        return None;
+    }
+    let place = view.place_of(q)?;
+    if place.parent == parent {
+        Some(&place.pos)
+    } else {
+        None
+    }
+}
+
+// The position of the child to come after, or none to come first.
+fn position_before<A: Allocator>(view: &Doc<A>, except: ObjId, spot: Spot) -> Option<&Pos<A>>
+    requires { HasAfter view.now except (seen_spot spot) }
+    ensures { IsPosAfter view.now spot.parent except spot.after (option_copied result) }
+{
+    match spot.after {
+        Some(after) => sibling_position(view, spot.parent, except, after),
+        None => None,
+    }
+}
+
+// The position at a spot, half way between the child to come after and the next. `Crowded` comes where there is no room.
+pub(crate) fn position_at<A: Allocator, B: Allocator + Copy>(
+    alloc: B,
+    view: &Doc<A>,
+    except: ObjId,
+    spot: Spot,
+) -> Result<Pos<B>, EditError>
+    requires { HasAfter view.now except (seen_spot spot) }
+    ensures ok { IfOk result (λ pos. Lands view.now except (seen_spot spot) (Some pos)) }
+    ensures err { IfErr result (λ error. IsCrowded view.now except (seen_spot spot) (refusal error)) }
+{
+    let low = position_before(view, except, spot);
+    let high = view.next_position(spot.parent, low, except);
+    between(alloc, low, high)?.ok_or(EditError::Crowded)
+}

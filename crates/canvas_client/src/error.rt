@@ -1,0 +1,59 @@
+// Why a client refuses an edit of its own.
+ghost use Rattle.std.specs.Prelude.{◌≡◌};
+ghost use Rattle.canvas_client.specs.Asked.{number_of, refusal};
+ghost use Rattle.canvas_client.specs.declared.error.EditError.TheVariants.{Memory};
+
+use std::alloc::AllocError;
+use thiserror::Error;
+
+/// Why a client refuses an edit: the first that holds, in this order. But memory can be refused before any of them is found.
+#[derive(Clone, Copy, Debug, PartialEq, Eq, Error)]
+pub enum EditError {
+    /// The client has no id yet.
+    #[error("the client has no id yet")]
+    NotOpen = 1,
+    /// The root can't be moved or deleted.
+    #[error("the root stays where it is")]
+    IsRoot = 7,
+    /// The object isn't in the tree that the client shows, or the one to come after is no other child of that parent.
+    #[error("the object isn't shown")]
+    NotShown = 2,
+    /// The parent isn't in the tree that the client shows.
+    #[error("the parent isn't shown")]
+    ParentNotShown = 3,
+    /// The kind may not stand under that of the parent.
+    #[error("the object may not stand under this parent")]
+    BadParent = 4,
+    /// The new parent is the object or lies below it.
+    #[error("the parent is the object or lies below it")]
+    OwnDescendant = 5,
+    /// No position is left at the spot.
+    #[error("there is no room at this spot")]
+    Crowded = 6,
+    /// The client has used all its counters, of which 4294967295 is the last.
+    #[error("the client can create no more objects")]
+    IdsSpent = 8,
+    /// The number of the client's last edit is 2^62, which is the last one.
+    #[error("the client can make no more edits")]
+    Full = 9,
+    /// Memory was refused.
+    #[error("out of memory")]
+    Memory = 10,
+}
+
+impl EditError {
+    /// The number by which the error is known.
+    pub fn number(self) -> u8
+        ensures { result ≡ number_of (refusal self) }
+    {
+        self as u8
+    }
+}
+
+impl From<AllocError> for EditError {
+    ghost from_gives = { λ _ e. e ≡ Memory };
+
+    fn from(_: AllocError) -> EditError {
+        EditError::Memory
+    }
+}

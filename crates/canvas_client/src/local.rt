@@ -1,0 +1,367 @@
+// A client's edits of its own.
+ghost use Rattle.std.specs.Prelude.{◌≡◌, ◌≢◌, ◌↔◌, ℕ, ◌+◌, ◌^◌, IsTrue, IfOk, IfErr, IfSome, IfNone, OnOk, OnErr, Some, None};
+ghost use Rattle.canvas_model.specs.Change.{object_of};
+ghost use Rattle.canvas_model.specs.Client.{last_number};
+ghost use Rattle.canvas_model.specs.Local.{Clear, Create, Delete, EditRequest as Asked, Has, Makes, Move, Refuses, Set};
+ghost use Rattle.canvas_model.specs.Local.{counter_after, edited};
+ghost use Rattle.canvas_model.specs.Value.{IsShallow};
+ghost use Rattle.canvas_client.specs.Asked.{HasCreated, HasMade, IsRefusal, NoneBefore, StandsStill};
+ghost use Rattle.canvas_client.specs.Asked.{refusal, seen_spot};
+
+use crate::drafting::{
+    comes_after_none, goes_below_itself, has_bad_parent, has_hidden_parent, is_hidden, moves_root,
+    position_at,
+};
+use crate::request::Spot;
+use crate::{Client, EditError, EditRequest, EditRequestVariant};
+use canvas_doc::{Change, ChangeVariant, Kind, Name, ObjId, Place, Value};
+use canvas_model::{LAST_VERSION, every_view};
+use std::alloc::{AllocError, Allocator};
+
+impl<A: Allocator> Client<A> {
+    /// The change that the request makes at this client, or the first refusal that holds, in the order of `EditError`; but memory can
+    /// be refused before. It changes nothing: `commit` makes the edit. A new object gets the client's id and its next counter, and a
+    /// place half way between the child to come after and the next one.
+    pub fn draft<B: Allocator + Copy, C: Allocator>(
+        &self,
+        alloc: B,
+        request: &EditRequest<C>,
+    ) -> Result<Change<B>, EditError>
+        ensures ok { IfOk result (Makes self.now request.now) }
+        ensures err { IfErr result (λ error. IsRefusal self.now request.now (refusal error)) }
+    {
+        let Some(client) = self.id() else {
+            return Err(EditError::NotOpen);
+        };
+        if let Some(error) = self.refusal_shown(request) {
+            return Err(error);
+        }
+        self.draft_variant(alloc, client, request)
+    }
+
+    // The first refusal that the view gives, apart from want of room.
+    fn refusal_shown<C: Allocator>(&self, request: &EditRequest<C>) -> Option<EditError>
+        requires { self.now.id ≡ None → ⊥ }
+        ensures some { IfSome result (λ error. Has (refusal error) (Refuses self.now request.now)) }
+        ensures none { IfNone result (NoneBefore self.now request.now 6) }
+    {
+        if moves_root(request) {
+            return Some(EditError::IsRoot);
+        }
+        if is_hidden(self.view(), request) {
+            return Some(EditError::NotShown);
+        }
+        if comes_after_none(self.view(), request) {
+            return Some(EditError::NotShown);
+        }
+        if has_hidden_parent(self.view(), request) {
+            return Some(EditError::ParentNotShown);
+        }
+        if has_bad_parent(self.view(), request) {
+            return Some(EditError::BadParent);
+        }
+        if goes_below_itself(self.view(), request) {
+            return Some(EditError::OwnDescendant);
+        }
+        None
+    }
+
+    // The change that the request makes, or one of the last three refusals.
+    fn draft_variant<B: Allocator + Copy, C: Allocator>(
+        &self,
+        alloc: B,
+        client: u32,
+        request: &EditRequest<C>,
+    ) -> Result<Change<B>, EditError>
+        requires id { self.now.id ≡ Some client }
+        requires none { NoneBefore self.now request.now 6 }
+        ensures ok { IfOk result (Makes self.now request.now) }
+        ensures err { IfErr result (λ error. IsRefusal self.now request.now (refusal error)) }
+    {
+        match request.variant() {
+            EditRequestVariant::Create {
+                kind,
+                parent,
+                after,
+            } => {
+                let spot = Spot {
+                    parent: *parent,
+                    after: *after,
+                };
+                self.draft_create(alloc, client, *kind, spot)
+            }
+            EditRequestVariant::Set { id, name, value } => self.draft_set(alloc, *id, name, value),
+            EditRequestVariant::Clear { id, name } => self.draft_clear(alloc, *id, name),
+            EditRequestVariant::Move { id, parent, after } => {
+                let spot = Spot {
+                    parent: *parent,
+                    after: *after,
+                };
+                self.draft_move(alloc, *id, spot)
+            }
+            EditRequestVariant::Delete { id } => self.draft_delete(*id),
+        }
+    }
+
+    // The creation of an object at the spot.
+    fn draft_create<B: Allocator + Copy>(
+        &self,
+        alloc: B,
+        client: u32,
+        kind: Kind,
+        spot: Spot,
+    ) -> Result<Change<B>, EditError>
+        requires id { self.now.id ≡ Some client }
+        requires none { NoneBefore self.now (Create kind (seen_spot spot)) 6 }
+        ensures ok { IfOk result (Makes self.now (Create kind (seen_spot spot))) }
+        ensures err { IfErr result (λ error. IsRefusal self.now (Create kind (seen_spot spot)) (refusal error)) }
+    {
+        let pos = position_at(alloc, self.view(), ObjId::ROOT, spot)?;
+        let Some(counter) = self.next_counter() else {
+            return Err(EditError::IdsSpent);
+        };
+        if self.is_full() {
+            return Err(EditError::Full);
+        }
+        let place = Place {
+            parent: spot.parent,
+            pos,
+        };
+        Ok(Change::create(ObjId { client, counter }, kind, place))
+    }
+
+    // A property given a value.
+    fn draft_set<B: Allocator + Copy, C: Allocator>(
+        &self,
+        alloc: B,
+        id: ObjId,
+        name: &Name<C>,
+        value: &Value<C>,
+    ) -> Result<Change<B>, EditError>
+        requires shallow { IsShallow value.now }
+        requires none { NoneBefore self.now (Set id name.now value.now) 6 }
+        ensures ok { IfOk result (Makes self.now (Set id name.now value.now)) }
+        ensures err { IfErr result (λ error. IsRefusal self.now (Set id name.now value.now) (refusal error)) }
+    {
+        if self.is_full() {
+            return Err(EditError::Full);
+        }
+        let name = name.copy_in(alloc)?;
+        let value = value.copy_in(alloc)?;
+        match Change::set(id, name, Some(value)) {
+            Ok(change) => Ok(change),
+            Err(_) => unreachable!(),
+        }
+    }
+
+    // A property taken away.
+    fn draft_clear<B: Allocator + Copy, C: Allocator>(
+        &self,
+        alloc: B,
+        id: ObjId,
+        name: &Name<C>,
+    ) -> Result<Change<B>, EditError>
+        requires { NoneBefore self.now (Clear id name.now) 6 }
+        ensures ok { IfOk result (Makes self.now (Clear id name.now)) }
+        ensures err { IfErr result (λ error. IsRefusal self.now (Clear id name.now) (refusal error)) }
+    {
+        if self.is_full() {
+            return Err(EditError::Full);
+        }
+        let name = name.copy_in(alloc)?;
+        match Change::set(id, name, None) {
+            Ok(change) => Ok(change),
+            Err(_) => unreachable!(),
+        }
+    }
+
+    // The move of an object to the spot.
+    fn draft_move<B: Allocator + Copy>(
+        &self,
+        alloc: B,
+        id: ObjId,
+        spot: Spot,
+    ) -> Result<Change<B>, EditError>
+        requires { NoneBefore self.now (Move id (seen_spot spot)) 6 }
+        ensures ok { IfOk result (Makes self.now (Move id (seen_spot spot))) }
+        ensures err { IfErr result (λ error. IsRefusal self.now (Move id (seen_spot spot)) (refusal error)) }
+    {
+        let pos = position_at(alloc, self.view(), id, spot)?;
+        if self.is_full() {
+            return Err(EditError::Full);
+        }
+        let place = Place {
+            parent: spot.parent,
+            pos,
+        };
+        Ok(Change::move_to(id, place))
+    }
+
+    // The deletion of an object.
+    fn draft_delete<B: Allocator>(&self, id: ObjId) -> Result<Change<B>, EditError>
+        requires { NoneBefore self.now (Delete id) 6 }
+        ensures ok { IfOk result (Makes self.now (Delete id)) }
+        ensures err { IfErr result (λ error. IsRefusal self.now (Delete id) (refusal error)) }
+    {
+        if self.is_full() {
+            return Err(EditError::Full);
+        }
+        Ok(Change::delete(id))
+    }
+
+    // The counter of the next object that it creates, unless all are used.
+    fn next_counter(&self) -> Option<u32>
+        ensures some { IfSome result (λ counter. (self.now.counter ≢ 4294967295) × (counter ≡ self.now.counter + 1)) }
+        ensures none { IfNone result (self.now.counter ≡ 4294967295) }
+    {
+        self.counter.checked_add(1)
+    }
+
+    // Whether the last number of an edit is given.
+    fn is_full(&self) -> bool
+        ensures { IsTrue result ↔ (last_number self.now ≡ 2 ^ 62) }
+    {
+        self.acknowledged + self.waiting.len() as u64 == LAST_VERSION
+    }
+}
+
+impl<A: Allocator + Copy> Client<A> {
+    /// Makes the edit that was drafted here: it waits, and the view shows it. Answers its number, from 1. Where memory is refused,
+    /// nothing has changed.
+    pub fn commit(&mut self, change: Change<A>) -> Result<u64, AllocError>
+        requires { (request : Asked) × Makes self.old request change }
+        ensures ok { OnOk result (self.new ≡ edited self.old change) }
+        ensures number { IfOk result (λ n. n ≡ last_number self.old + 1) }
+        ensures stands { OnOk result (StandsStill self.old self.new) }
+        ensures err { OnErr result (self.new ≡ self.old) }
+    {
+        every_view();
+        self.waiting.reserve(1)?;
+        self.view.overlay(&change)?;
+        self.counter = counter_after(self.counter, &change);
+        self.waiting.push_reserved(change);
+        Ok(self.acknowledged + self.waiting.len() as u64)
+    }
+
+    /// Makes the edit that is asked for: it waits, and the view shows it. Answers its number, from 1. The refusals are those of
+    /// `draft`, and after each nothing has changed.
+    pub fn edit<B: Allocator>(&mut self, request: &EditRequest<B>) -> Result<u64, EditError>
+        ensures ok { OnOk result (HasMade self.old request.now self.new) }
+        ensures number { IfOk result (λ n. n ≡ last_number self.old + 1) }
+        ensures stands { OnOk result (StandsStill self.old self.new) }
+        ensures refused { IfErr result (λ error. IsRefusal self.old request.now (refusal error)) }
+        ensures err { OnErr result (self.new ≡ self.old) }
+    {
+        let change = self.draft(self.allocator(), request)?;
+        let number = self.commit(change)?;
+        Ok(number)
+    }
+
+    /// Creates an object under `parent`, after its child `after`, or first where there is none. Answers the edit's number and the
+    /// object's id. The refusals are those of `draft`, and after each nothing has changed.
+    pub fn create(
+        &mut self,
+        kind: Kind,
+        parent: ObjId,
+        after: Option<ObjId>,
+    ) -> Result<(u64, ObjId), EditError>
+        ensures ok { IfOk result (λ made. HasCreated self.old (Create kind (record { parent = parent; after = after })) made.1 self.new) }
+        ensures number { IfOk result (λ made. made.0 ≡ last_number self.old + 1) }
+        ensures stands { OnOk result (StandsStill self.old self.new) }
+        ensures refused { IfErr result (λ error. IsRefusal self.old (Create kind (record { parent = parent; after = after })) (refusal error)) }
+        ensures err { OnErr result (self.new ≡ self.old) }
+    {
+        let request: EditRequest<A> = EditRequest::create(kind, parent, after);
+        let change = self.draft(self.allocator(), &request)?;
+        let id = object_of(&change);
+        let number = self.commit(change)?;
+        Ok((number, id))
+    }
+
+    /// Gives a property of an object this value, which must not be too deep. Answers the edit's number. The refusals are those of
+    /// `draft`, and after each nothing has changed.
+    pub fn set(&mut self, id: ObjId, name: Name<A>, value: Value<A>) -> Result<u64, EditError>
+        requires { IsShallow value }
+        ensures ok { OnOk result (HasMade self.old (Set id name value) self.new) }
+        ensures number { IfOk result (λ n. n ≡ last_number self.old + 1) }
+        ensures stands { OnOk result (StandsStill self.old self.new) }
+        ensures refused { IfErr result (λ error. IsRefusal self.old (Set id name value) (refusal error)) }
+        ensures err { OnErr result (self.new ≡ self.old) }
+    {
+        let Ok(request) = EditRequest::set(id, name, value) else {
+            unreachable!()
+        };
+        self.edit(&request)
+    }
+
+    /// Takes a property of an object away. Answers the edit's number. The refusals are those of `draft`, and after each nothing has
+    /// changed.
+    pub fn clear(&mut self, id: ObjId, name: Name<A>) -> Result<u64, EditError>
+        ensures ok { OnOk result (HasMade self.old (Clear id name) self.new) }
+        ensures number { IfOk result (λ n. n ≡ last_number self.old + 1) }
+        ensures stands { OnOk result (StandsStill self.old self.new) }
+        ensures refused { IfErr result (λ error. IsRefusal self.old (Clear id name) (refusal error)) }
+        ensures err { OnErr result (self.new ≡ self.old) }
+    {
+        let request = EditRequest::clear(id, name);
+        self.edit(&request)
+    }
+
+    /// Moves an object under `parent`, after its child `after`, or first where there is none. Answers the edit's number. The refusals
+    /// are those of `draft`, and after each nothing has changed.
+    pub fn move_to(
+        &mut self,
+        id: ObjId,
+        parent: ObjId,
+        after: Option<ObjId>,
+    ) -> Result<u64, EditError>
+        ensures ok { OnOk result (HasMade self.old (Move id (record { parent = parent; after = after })) self.new) }
+        ensures number { IfOk result (λ n. n ≡ last_number self.old + 1) }
+        ensures stands { OnOk result (StandsStill self.old self.new) }
+        ensures refused { IfErr result (λ error. IsRefusal self.old (Move id (record { parent = parent; after = after })) (refusal error)) }
+        ensures err { OnErr result (self.new ≡ self.old) }
+    {
+        let request: EditRequest<A> = EditRequest::move_to(id, parent, after);
+        self.edit(&request)
+    }
+
+    /// Removes an object; what lies below it is shown no more. Answers the edit's number. The refusals are those of `draft`, and after
+    /// each nothing has changed.
+    pub fn delete(&mut self, id: ObjId) -> Result<u64, EditError>
+        ensures ok { OnOk result (HasMade self.old (Delete id) self.new) }
+        ensures number { IfOk result (λ n. n ≡ last_number self.old + 1) }
+        ensures stands { OnOk result (StandsStill self.old self.new) }
+        ensures refused { IfErr result (λ error. IsRefusal self.old (Delete id) (refusal error)) }
+        ensures err { OnErr result (self.new ≡ self.old) }
+    {
+        let request: EditRequest<A> = EditRequest::delete(id);
+        self.edit(&request)
+    }
+
+    // The allocator under which it stands.
+    fn allocator(&self) -> A {
+        *self.waiting.allocator()
+    }
+}
+
+// The counter of a client's last creation, after this change.
+fn counter_after<A: Allocator>(counter: u32, change: &Change<A>) -> u32
+    ensures { result ≡ counter_after counter change.now }
+{
+    match change.variant() {
+        ChangeVariant::Create { id, .. } => id.counter,
+        _ => counter,
+    }
+}
+
+// The object that is changed.
+fn object_of<A: Allocator>(change: &Change<A>) -> ObjId
+    ensures { result ≡ object_of change.now }
+{
+    match change.variant() {
+        ChangeVariant::Create { id, .. } => *id,
+        ChangeVariant::Set { id, .. } => *id,
+        ChangeVariant::Move { id, .. } => *id,
+        ChangeVariant::Delete { id } => *id,
+    }
+}
