@@ -1,0 +1,13 @@
+pub mod Version
+pub mod Numbered
+pub mod Tree
+pub mod Ids
+pub mod Kinds
+pub mod Places
+pub mod Changes
+pub mod Outcomes
+pub mod Entries
+pub mod Faults
+pub mod Text
+pub mod Laws
+pub mod Drafts

@@ -1,0 +1,44 @@
+// Why bytes are refused.
+use std::alloc::{AllocError, AllocFailed};
+use thiserror::Error;
+
+/// Why bytes are no message or entry: the first reason that holds, in this order, each looked for over the whole text before the
+/// next. But memory can be refused before the text is read whole.
+#[derive(Clone, Copy, Debug, PartialEq, Eq, Error)]
+pub enum WireError {
+    /// The bytes aren't JSON: not UTF-8, cut short, or nested more than 127 deep.
+    #[error("the bytes aren't JSON")]
+    NotJson,
+    /// The tree has the shape of no message, or of no entry, whatever its whole numbers.
+    #[error("the JSON isn't that of a message")]
+    NotAMessage,
+    /// The shape fits, and some whole number is out of its range.
+    #[error("a number is out of range")]
+    OutOfRange,
+    /// All else fits, and a value has lists more than 16 deep.
+    #[error("a value has lists more than 16 deep")]
+    TooDeep,
+    /// Memory was refused.
+    #[error("out of memory")]
+    Memory,
+}
+
+impl From<AllocError> for WireError {
+    ghost use Rattle.canvas_wire.specs.Faults.{IsMemory};
+
+    ghost from_gives = { λ _ e. IsMemory e };
+
+    fn from(_error: AllocError) -> WireError {
+        WireError::Memory
+    }
+}
+
+impl<T: Drop> From<AllocFailed<T>> for WireError {
+    ghost use Rattle.canvas_wire.specs.Faults.{IsMemory};
+
+    ghost from_gives = { λ _ e. IsMemory e };
+
+    fn from(_error: AllocFailed<T>) -> WireError {
+        WireError::Memory
+    }
+}

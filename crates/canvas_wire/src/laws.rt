@@ -1,0 +1,11 @@
+// The laws of the wire.
+ghost use Rattle.canvas_wire.specs.Laws.{EntriesAreForms, EntriesComeBack, BytesSpellOneEntry};
+
+/// The laws of entries: what [`encode_entry`](crate::encode_entry) writes of an entry in range whose value isn't too deep is what
+/// [`decode_entry`](crate::decode_entry) reads as that entry, and bytes are read as one entry at most. It does nothing when it runs:
+/// call it where a proof needs the laws.
+pub fn every_entry()
+    ensures form { EntriesAreForms }
+    ensures back { EntriesComeBack }
+    ensures one { BytesSpellOneEntry }
+{}

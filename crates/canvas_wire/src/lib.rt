@@ -1,0 +1,17 @@
+//! Messages and entries as JSON, both ways.
+#![tactic(auto)]
+
+mod changes;
+mod entries;
+mod fault;
+mod ids;
+mod kinds;
+mod laws;
+mod outcomes;
+mod places;
+mod sound;
+mod tree;
+
+pub use entries::{decode_entry, encode_entry};
+pub use fault::WireError;
+pub use laws::every_entry;
