@@ -1,0 +1,6 @@
+pub mod Placed
+pub mod Posts
+pub mod Taken
+pub mod Served
+pub mod Runs
+pub mod Synced

@@ -1,0 +1,4 @@
+pub mod Seen
+pub mod Running
+pub mod Synced
+pub mod Parts
