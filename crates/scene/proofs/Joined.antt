@@ -6,16 +6,11 @@ use Rattle.canvas_model.specs.declared.ObjId.{ObjId}
 use Rattle.canvas_model.specs.declared.Kind.{Kind}
 use Rattle.canvas_model.specs.Document.{Object, Place}
 use Rattle.canvas_model.specs.Text.{id_text, kind_word, place_text}
+use Rattle.canvas_tree.proofs.Lines.{bare_parts, placed_parts}
 use Rattle.scene.specs.Report.{stands_text, object_line}
 
 pub place_parts : (p q : List ℕ) → p ++ 32 ∷ q ≡ p ++ codes " " ++ q
 place_parts p q = sym (append_assoc p (32 ∷ []) q)
-
-line_parts : (a k : List ℕ) → a ++ (32 ∷ (k ++ (10 ∷ []))) ≡ a ++ codes " " ++ k ++ [] ++ 10 ∷ []
-line_parts a k = simp append_assoc refl
-
-placed_parts : (a k p : List ℕ) → a ++ (32 ∷ (k ++ (32 ∷ (p ++ (10 ∷ []))))) ≡ a ++ codes " " ++ k ++ (codes " " ++ p) ++ 10 ∷ []
-placed_parts a k p = simp append_assoc refl
 
 -- the line of an object with a place
 pub placed_line : (e : ObjId × Object) (kind : Kind) (stands : Option Place) (place : Place) (text : List ℕ) → kind ≡ e.1.kind → stands ≡ e.1.place → stands ≡ Some place → text ≡ place_text place
@@ -29,7 +24,7 @@ placed_line e kind stands place text k s is t =
 pub bare_line : (e : ObjId × Object) (kind : Kind) (stands : Option Place) → kind ≡ e.1.kind → stands ≡ e.1.place → stands ≡ None
     → id_text e.0 ++ (32 ∷ (kind_word kind ++ (10 ∷ []))) ≡ object_line e
 bare_line e kind stands k s is =
-    line_parts (id_text e.0) (kind_word kind)
+    bare_parts (id_text e.0) (kind_word kind)
     ∙ ap (λ w. id_text e.0 ++ codes " " ++ w ++ [] ++ 10 ∷ []) (ap kind_word k)
     ∙ ap (λ w. id_text e.0 ++ codes " " ++ kind_word e.1.kind ++ w ++ 10 ∷ []) (ap stands_text (sym is ∙ s))
 

@@ -1,7 +1,9 @@
 -- The log that requests make, and what they are answered.
 use Rattle.std.specs.Prelude.{◌≡◌, ◌⊎◌, ℕ, ◌+◌, ◌<◌, false, List, [], ◌∷◌, ◌++◌, length, codes, if◌then◌else◌}
-use Rattle.canvas_model.specs.State.{State, opening, joined, next}
+use Rattle.canvas_model.specs.State.{State, opening, joined, done, next}
 use Rattle.canvas_model.specs.Log.{Entry, Join, Edit, Fits, effect, fold, IsLegal, last_version}
+use Rattle.canvas_server.specs.Asked.{Asked}
+use Rattle.canvas_server.specs.Served.{Served}
 use Rattle.scene.specs.Answers.{answer_line}
 use Rattle.canvas_lines.specs.Spelling.{Requested, RequestedJoin, RequestedEdit}
 
@@ -51,6 +53,16 @@ pub record AddsAnswers (requested : List Requested) (log : List Entry) (before a
 pub record IsFold (log : List Entry) (s : State) : Type 0 where
   pub legal : IsLegal opening log
   pub state : s ≡ fold opening log
+
+-- what a request asks of the server: an edit, to which its line gives no number, is its author's next
+abbrev pub asked_of : State → Requested → Asked
+asked_of s RequestedJoin = record { author = 0; seq = 0; what = Join }
+asked_of s (RequestedEdit author change) = record { author = author; seq = done s author + 1; what = Edit change }
+
+-- the server keeps every entry, since no checkpoint passed any, and its version is their number
+pub record IsWhole (s : Served) : Type 0 where
+  pub floor : s.floor ≡ 0
+  pub version : s.version ≡ length s.kept
 
 -- the request was answered: it makes no entry and nothing has changed, or it makes one more, which
 -- fits; its answer was added to the text

@@ -8,9 +8,10 @@ ghost use Rattle.canvas_lines.specs.Faults.{fault_line};
 ghost use Rattle.canvas_lines.specs.Spelling.{IsBadLine};
 ghost use Rattle.scene.specs.Results.{IsErrorOf, IsLeft, IsLogOf, IsReport};
 ghost use Rattle.scene.specs.Results.{IsCutBy, IsEnd, IsPlayed, IsRefused, IsRun, IsStatus, IsStopped};
-ghost use Rattle.scene.specs.Runs.{IsFold};
+ghost use Rattle.scene.specs.Runs.{IsFold, IsWhole};
 
 use canvas_lines::{Fault, Reading, one_bad_line, read_input, read_requests, tell, write_out};
+use canvas_server::Server;
 use std::alloc::{AllocError, Global};
 use std::env;
 use std::io::{self, ErrorKind, Read, Write};
@@ -21,7 +22,6 @@ mod answers;
 mod play;
 mod report;
 
-pub use play::LogRun;
 use play::play;
 use report::write_report;
 
@@ -60,9 +60,9 @@ impl From<SceneError> for Fault {
     }
 }
 
-/// Plays the requests of an input on an empty server. To `out` it adds a line that answers each
-/// request, then the version and a line for each live object, each followed by one for each of its
-/// properties.
+/// Plays the requests of an input on an empty server, and answers this server as it is then, with
+/// every entry kept. To `out` it adds a line that answers each request, then the version and a line
+/// for each live object, each followed by one for each of its properties.
 ///
 /// The lines end with a line feed, which the last may lack. Empty lines and lines that begin with
 /// `#` are passed over. The first other line is `log`, and each later one a request: `join`, or one
@@ -71,11 +71,12 @@ impl From<SceneError> for Fault {
 ///
 /// The errors: `BadLine`, where a line can't be read, and then the answers to the lines before it
 /// were added to `out`; `Memory`, only where memory is refused, and then `out` is as it was.
-pub fn log_run(alloc: Global, input: &[u8], out: &mut Vec<u8>) -> Result<LogRun, SceneError>
-    ensures log { IfOk result (λ run. IsLogOf input.now run.entries.items) }
-    ensures fold { IfOk result (λ run. IsFold run.entries.items run.state) }
+pub fn log_run(alloc: Global, input: &[u8], out: &mut Vec<u8>) -> Result<Server, SceneError>
+    ensures log { IfOk result (λ run. IsLogOf input.now run.kept) }
+    ensures fold { IfOk result (λ run. IsFold run.kept run.state) }
+    ensures whole { IfOk result IsWhole }
     ensures report { IfOk result
-        (λ run. IsReport input.now run.entries.items run.state out.old.items out.new.items) }
+        (λ run. IsReport input.now run.kept run.state out.old.items out.new.items) }
     ensures error { IfErr result (IsErrorOf input.now) }
     ensures left { IfErr result (IsLeft input.now out.old.items out.new.items) }
     ensures readable { IfOk result (λ _. (n : ℕ) → IsBadLine input.now n → ⊥) }
@@ -89,7 +90,7 @@ pub fn log_run(alloc: Global, input: &[u8], out: &mut Vec<u8>) -> Result<LogRun,
         out.extend_from_slice(&text)?;
         return Err(SceneError::BadLine(line));
     }
-    write_report(alloc, run.version(), run.state.doc(), &mut text)?;
+    write_report(alloc, run.version(), run.state().doc(), &mut text)?;
     out.extend_from_slice(&text)?;
     Ok(run)
 }

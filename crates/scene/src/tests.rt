@@ -365,7 +365,7 @@ fn shows(alloc: Global, input: &[&str], output: &[&str]) -> Result<bool, Fail> {
     let mut out = Vec::new(alloc);
     let run = log_run(alloc, &joined(alloc, input)?, &mut out)?;
     out.clear();
-    block(alloc, b"server", run.state.doc(), &mut out)?;
+    block(alloc, b"server", run.state().doc(), &mut out)?;
     Ok(out == joined(alloc, output)?)
 }
 

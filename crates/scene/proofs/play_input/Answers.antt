@@ -7,10 +7,10 @@ pub returns-clause-played : goal.returns-clause-played
 returns-clause-played g c =
     let run = c.in_ok-played.field-0 in
     let report = c.in_ok-played.ensures.report in
-    let end = version_line (length run.entries.items) in
+    let end = version_line (length run.kept) in
     record {
       text = c.deref.result.now;
-      log = run.entries.items;
+      log = run.kept;
       state = run.state;
       answers = report.answers;
       is_read = subst (Consumes (g.R.Read.remaining c.args.input.now) (g.R.Read.remaining c.read_input.new.input)) (sym c.deref.ensures.value) c.in_ok-text.ensures.bytes;
