@@ -88,10 +88,10 @@ module _ (f : Object → Object) (es fs : List (ObjId × Object)) (d : Doc) (id 
       ∙ ap (λ (x : ObjId × Object). slice_set es i (x.0, f e.1)) is
       ∙ set_puts ids_total es sorted id i found_in.in_range found_in.tied e (f e.1)
 
-  there : map.get d id ≡ Some e.1
+  pub there : map.get d id ≡ Some e.1
   there = get_is es d id sorted view ∙ found_in.found e ∙ ap (λ (x : ObjId × Object). Some x.1) (sym is)
 
-  inserted : map.from_sorted (slice_set es i (e.0, o)) ≡ map.insert d id (f e.1)
+  pub inserted : map.from_sorted (slice_set es i (e.0, o)) ≡ map.insert d id (f e.1)
   inserted = put_inserts ids_total es _ d id (f e.1) sorted view changed_pairs
 
   pub changed_sorted : T (map.is_sorted id_cmp (slice_set es i (e.0, o)))

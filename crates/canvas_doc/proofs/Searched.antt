@@ -1,5 +1,5 @@
 -- What a binary search by key finds among pairs that are in order.
-use Rattle.std.proofs.Common.{◌≡◌, ◌↔◌, IsTrue, ℕ, zero, suc, ◌+◌, ◌<◌, ◌≤◌, Bool, true, false, cond, ◌&&◌, List, [], ◌∷◌, length, get_or, Some, None, Result, Ok, Err, IfOk, IfErr, T, refl, sym, ap, subst, ◌∙◌, arith, add-one}
+use Rattle.std.proofs.Common.{◌≡◌, ◌↔◌, IsTrue, ℕ, zero, suc, ◌+◌, ◌<◌, ◌≤◌, Bool, true, false, cond, ◌&&◌, List, [], ◌∷◌, ◌++◌, length, get_or, Some, None, Result, Ok, Err, IfOk, IfErr, T, refl, sym, ap, subst, ◌∙◌, arith, add-one}
 use Rattle.std.specs.Prelude.{slice_set}
 use Rattle.std.specs.List.{insert, remove, AllWithin, AllAdjacentBelow, IsAllAdjacentAnswer}
 use Rattle.std.specs.List.Sorted.{IsSearchInRange, IsBinarySearchResult, IsNonDecreasingBy, IsSortedBy}
@@ -61,6 +61,15 @@ module _ {K X : Type 0} {R : K → K → Ordering} (o : IsTotalOrder R) where
   pub head_below : (e : K × X) (es : List (K × X)) → T (is_sorted R (e ∷ es)) → below e.0 es
   head_below e es h = below_from_test e.0 es (first _ _ h)
 
+  -- the same without what follows
+  pub below_front : (x : K) (es fs : List (K × X)) → below x (es ++ fs) → below x es
+  below_front x [] fs h = tt
+  below_front x (e ∷ es) fs h = (h.0, below_front x es fs h.1)
+
+  pub front_sorted : (es fs : List (K × X)) → T (is_sorted R (es ++ fs)) → T (is_sorted R es)
+  front_sorted [] fs h = tt
+  front_sorted (e ∷ es) fs h = both _ _ (test_from_below e.0 es (below_front e.0 es fs (head_below e (es ++ fs) h))) (front_sorted es fs (second _ _ h))
+
   -- neighbours are in order
   adjacent : (es : List (K × X)) → T (is_sorted R es) → (i : ℕ) (d : K × X) → i + 1 < length es → R (get_or es i d).0 (get_or es (i + 1) d).0 ≡ Less
   adjacent [] h i d lt = absurd (omega arith)
@@ -84,7 +93,7 @@ module _ {K X : Type 0} {R : K → K → Ordering} (o : IsTotalOrder R) where
   sorted_by : (es : List (K × X)) → T (is_sorted R es) → IsSortedBy (λ a b. is_lt (R a.0 b.0)) es
   sorted_by es h i d low lt = rw (greater o _ _ (adjacent es h i d lt)) refl
 
-  rises : (es : List (K × X)) → T (is_sorted R es) → (k : K) → IsNonDecreasingBy (λ e. ordering_index (R e.0 k)) es
+  pub rises : (es : List (K × X)) → T (is_sorted R es) → (k : K) → IsNonDecreasingBy (λ e. ordering_index (R e.0 k)) es
   rises es h k = searchable_from_sorted o (λ e. e.0) es k (sorted_by es h)
 
   -- a pair that ties with k is found

@@ -1,81 +1,125 @@
--- Which objects stand where.
-use Rattle.std.proofs.Common.{◌≡◌, IsTrue, ◌↔◌, ℕ, ◌<◌, ◌≤◌, true, false, List, length, get_or, Option, Some, None, T, refl, sym, ap, subst, ◌∙◌, arith}
-use Rattle.std.specs.Option.{option_and_then}
-use Rattle.std.specs.List.{AllWithin}
-use Rattle.std.specs.declared.cmp.Ordering.TheVariants.{Equal}
+-- Which objects stand where, as the walk through the spots from a cut finds them.
+use Rattle.std.proofs.Common.{◌≡◌, ◌≢◌, ◌⊎◌, ◌↔◌, inl, inr, IsTrue, ℕ, suc, zero, ◌+◌, ◌<◌, ◌≤◌, Bool, true, false, List, [], ◌∷◌, length, get_or, drop, Option, Some, None, refl, sym, ap, subst, ◌∙◌, arith}
+use Rattle.std.specs.List.{AllWithin, Contains}
+use Rattle.std.specs.Option.{option_map, option_map_or}
+use Rattle.std.specs.FinMap.{nat_cmp-IsAntisymmetric, slice_cmp-IsAntisymmetric}
+use Rattle.std.specs.Cmp.Lexicographic.{slice_cmp, nat_list_cmp_total}
 use Rattle.std.proofs.lemmas.Cmp.{tied_itself}
-use Rattle.std.proofs.lemmas.List.{get_or_default}
-use Rattle.std.specs.FinMap as map
+use Rattle.std.specs.Cmp.{nat_cmp_is}
+use Rattle.std.specs.Ordering.{is_lt, nat_cmp, ordering_then}
+use Rattle.std.specs.declared.cmp.Ordering.{Ordering}
+use Rattle.std.specs.declared.cmp.Ordering.TheVariants.{Less, Equal, Greater}
+use Rattle.std.proofs.lemmas.Bool.{cases_lt}
+use Rattle.std.proofs.lemmas.List.{drop_more, get_or_default}
+use Rattle.std.proofs.lemmas.Map.Keys.{Less-from_sorted}
 use Rattle.canvas_model.specs.declared.ObjId.{ObjId}
-use Rattle.canvas_model.specs.declared.Kind.TheVariants.{Document}
 use Rattle.canvas_model.specs.Ids.{id_cmp, root}
-use Rattle.canvas_model.specs.Document.{Doc, Object, new_object, Pos}
-use Rattle.canvas_model.specs.Sibling.{IsSibling, IsTaken, IsNext}
-use Rattle.canvas_doc.specs.Siblings.{StandsThere}
-use Rattle.canvas_doc.specs.Nearest.{Nearest}
-use Rattle.canvas_doc.proofs.Searched.{pair_at}
-use Rattle.canvas_doc.proofs.Maps.{exact_ids, ids_total, get_is, found_at}
+use Rattle.canvas_model.specs.Document.{Doc, Place, Pos, place_of}
+use Rattle.canvas_model.specs.Sibling.{IsTaken}
+use Rattle.canvas_doc.specs.Spots.{AreSpots, IsCut, Places, pos_at, parent_at, position_at, spot_cmp}
+use Rattle.canvas_doc.proofs.Maps.{exact_ids, ids_total}
+use Rattle.canvas_doc.proofs.Spotted.{Key, cut_below, cut_above, key, key_at, key_cmp, placed}
 
 pub some_is : {X : Type 0} (x y : X) → Some x ≡ Some y → x ≡ y
 some_is x y e = cc
 
-some_pair : ObjId × Object
-some_pair = (root, new_object Document None)
+above_zero : (n : ℕ) → nat_cmp (suc n) 0 ≡ Greater
+above_zero n = sym (nat_cmp_is (suc n) 0 Greater (omega arith))
 
-module _ (es : List (ObjId × Object)) (d : Doc) (sorted : T (map.is_sorted id_cmp es)) (view : map.from_sorted es ≡ d) (parent except : ObjId) where
-  -- a sibling is a pair that stands there
-  pub sibling_listed : (q : ObjId) (pos : Pos) → IsSibling d parent except q pos → (i : ℕ) × (i < length es) × ((x : ObjId × Object) → StandsThere parent except pos (get_or es i x))
-  sibling_listed q pos sibling =
-      elim (map.get d q) as (λ r. map.get d q ≡ r → option_and_then (λ (o : Object). o.place) r ≡ Some (record { parent = parent; pos = pos }) → (i : ℕ) × (i < length es) × ((x : ObjId × Object) → StandsThere parent except pos (get_or es i x))) [
-        | None ↦ λ e p. absurd (let f : None ≡ Some (record { parent = parent; pos = pos }) = p in cc)
-        | Some o ↦ λ e p.
-            let pair = found_at exact_ids es q o (sym (get_is es d q sorted view) ∙ e) in
-            (pair.0, pair.1, λ x. ((λ same. sibling.0 (sym (ap (λ e. e.0) (pair.2 x)) ∙ same)), ap (λ e. e.1.place) (pair.2 x) ∙ p))
-      ] refl sibling.1
+zero_least : (n : ℕ) → is_lt (nat_cmp n 0) ≡ false
+zero_least zero = refl
+zero_least (suc n) = ap is_lt (above_zero n)
 
-  -- a pair that stands there is a sibling
-  pub sibling_at : (i : ℕ) (x : ObjId × Object) (pos : Pos) → i < length es → ((y : ObjId × Object) → get_or es i y ≡ x) → StandsThere parent except pos x → IsSibling d parent except x.0 pos
-  sibling_at i x pos lt is there =
-      let found : map.find id_cmp x.0 es ≡ Some (get_or es i x).1 = pair_at ids_total es sorted x.0 i lt (λ e. subst (λ (y : ObjId × Object). id_cmp y.0 x.0 ≡ Equal) (sym (is e)) (tied_itself ids_total x.0)) x in
-      (there.0, ap (option_and_then (λ o. o.place)) (get_is es d x.0 sorted view ∙ found) ∙ ap (λ e. e.1.place) (is x) ∙ there.1)
+pub root_least : (q : ObjId) → is_lt (id_cmp q root) ≡ false
+root_least q = go q.client q.counter
+  where
+    go : (a b : ℕ) → is_lt (ordering_then (nat_cmp a 0) (nat_cmp b 0)) ≡ false
+    go zero b = zero_least b
+    go (suc a) b = ap (λ r. is_lt (ordering_then r (nat_cmp b 0))) (above_zero a)
 
-  pub not_taken : (pos : Pos) → AllWithin (λ e. StandsThere parent except pos e → ⊥) es 0 (length es) → IsTaken d parent except pos → ⊥
-  not_taken pos none taken =
-      let pair = sibling_listed taken.0 pos taken.1 in
-      none pair.0 some_pair (omega arith) pair.1 (pair.2 some_pair)
+then_third : (a b c : Ordering) → a ≡ Equal → b ≡ Equal → ordering_then a (ordering_then b c) ≡ Less → c ≡ Less
+then_third Equal Equal c ea eb l = l
+then_third Less b c ea eb l = absurd (let f : Less ≡ Equal = ea in cc)
+then_third Greater b c ea eb l = absurd (let f : Greater ≡ Equal = ea in cc)
+then_third Equal Less c ea eb l = absurd (let f : Less ≡ Equal = eb in cc)
+then_third Equal Greater c ea eb l = absurd (let f : Greater ≡ Equal = eb in cc)
 
-  -- what the search through all pairs answers
-  pub taken_answer : (i : ℕ) (x : ObjId × Object) (pos : Pos) → i < length es → x ≡ get_or es i x → StandsThere parent except pos x → IsTrue true ↔ IsTaken d parent except pos
-  taken_answer i x pos lt is there = (λ _. (x.0, sibling_at i x pos lt (λ y. sym (is ∙ get_or_default es i x y lt)) there), λ _. refl)
+-- what lies between the least and another key of one parent and position is of that parent and position
+between : (a b c : Ordering) → ordering_then a (ordering_then b c) ≡ Less → (e : Ordering) → is_lt (ordering_then a (ordering_then b e)) ≡ false → (a ≡ Equal) × (b ≡ Equal)
+between Less b c l e n = absurd (let f : true ≡ false = n in cc)
+between Greater b c l e n = absurd (let f : Greater ≡ Less = l in cc)
+between Equal Less c l e n = absurd (let f : true ≡ false = n in cc)
+between Equal Greater c l e n = absurd (let f : Greater ≡ Less = l in cc)
+between Equal Equal c l e n = (refl, refl)
 
-  pub free_answer : (pos : Pos) → AllWithin (λ e. StandsThere parent except pos e → ⊥) es 0 (length es) → IsTrue false ↔ IsTaken d parent except pos
-  free_answer pos none = (λ t. absurd (cc), λ taken. absurd (not_taken pos none taken))
+pub rest_step : {X : Type 0} (xs rest more : List X) (n : ℕ) (x : X) → rest ≡ drop n xs → rest ≡ x ∷ more → (n < length xs) × ((d : X) → get_or xs n d ≡ x) × (more ≡ drop (suc n) xs)
+rest_step [] rest more zero x at is = absurd (let f : [] ≡ x ∷ more = sym at ∙ is in cc)
+rest_step [] rest more (suc n) x at is = absurd (let f : [] ≡ x ∷ more = sym at ∙ is in cc)
+rest_step (y ∷ xs) rest more zero x at is =
+    let both : y ∷ xs ≡ x ∷ more = sym at ∙ is in
+    let first : y ≡ x = cc in
+    let others : xs ≡ more = cc in
+    (omega arith, λ d. first, sym others)
+rest_step (y ∷ xs) rest more (suc n) x at is = let h = rest_step xs rest more n x at is in (omega (arith, h.0), h.1, h.2)
 
-  pub next_answer : (low r : Option Pos) → Nearest parent except low es (length es) r → IsNext d parent except low r
-  next_answer low None nearest = λ q other sibling after.
-      let pair = sibling_listed q other sibling in
-      nearest pair.0 pair.1 some_pair other (pair.2 some_pair) after
-  next_answer low (Some least) nearest = (
-    ((get_or es nearest.at some_pair).0, sibling_at nearest.at (get_or es nearest.at some_pair) least nearest.within (λ y. get_or_default es nearest.at y some_pair nearest.within) (nearest.there some_pair)),
-    nearest.after,
-    λ q other sibling after before.
-        let pair = sibling_listed q other sibling in
-        nearest.first pair.0 pair.1 some_pair other (pair.2 some_pair) after before,
-  )
+pub rest_done : {X : Type 0} (xs rest : List X) (n : ℕ) → rest ≡ drop n xs → rest ≡ [] → length xs ≤ n
+rest_done [] rest n at is = omega arith
+rest_done (y ∷ xs) rest zero at is = absurd (let f : y ∷ xs ≡ [] = sym at ∙ is in cc)
+rest_done (y ∷ xs) rest (suc n) at is = let h = rest_done xs rest n at is in omega (arith, h)
 
--- the same for a slice of the pairs
-module _ (es fs : List (ObjId × Object)) (d : Doc) (sorted : T (map.is_sorted id_cmp es)) (view : map.from_sorted es ≡ d) (same : fs ≡ es) (parent except : ObjId) where
-  sorted_slice : T (map.is_sorted id_cmp fs)
-  sorted_slice = subst (λ es. T (map.is_sorted id_cmp es)) (sym same) sorted
+module _ (p : Places) (spots : List (ObjId × ObjId)) (are : AreSpots p spots) where
+  -- a child's spot
+  spot_there : (q : ObjId) (s : Place) → p q ≡ Some s → Contains spots (s.parent, q)
+  spot_there q s stands = (are.each (s.parent, q)).1 (ap (option_map (λ x. x.parent)) stands)
 
-  view_slice : map.from_sorted {R = id_cmp} fs ≡ d
-  view_slice = ap map.from_sorted same ∙ view
+  -- a spot at this position is of an object that stands there
+  pub stands_at : (s : ObjId × ObjId) (parent : ObjId) (pos : Pos) → Contains spots s → s.0 ≡ parent → pos_at p s.1 ≡ Some pos → p s.1 ≡ Some (record { parent = parent; pos = pos })
+  stands_at s parent pos inside named at =
+      let there = placed p spots are s inside in
+      let same : Some there.0.pos ≡ Some pos = sym (ap (option_map (λ x. x.pos)) there.1) ∙ at in
+      let pos_is : there.0.pos ≡ pos = cc in
+      let parent_is : there.0.parent ≡ parent = there.2 ∙ named in
+      there.1 ∙ (λ t. Some (record { parent = parent_is t; pos = pos_is t }))
 
-  pub taken_in : (i : ℕ) (x : ObjId × Object) (pos : Pos) → i < length fs → x ≡ get_or fs i x → StandsThere parent except pos x → IsTrue true ↔ IsTaken d parent except pos
-  taken_in = taken_answer fs d sorted_slice view_slice parent except
+  module _ (parent : ObjId) (pos : Pos) (except : ObjId) (first n : ℕ) (cut : IsCut p parent pos root spots first) (from : first ≤ n) (passed : AllWithin (λ s. s.1 ≡ except) spots first n) where
+    -- none stands there, where the next spot is at another place
+    pub none_stands : ((d : ObjId × ObjId) → n < length spots → (get_or spots n d).0 ≡ parent → pos_at p (get_or spots n d).1 ≡ Some pos → ⊥) → (q : ObjId) → q ≢ except → p q ≡ Some (record { parent = parent; pos = pos }) → ⊥
+    none_stands other q ne stands =
+        let s : Place = record { parent = parent; pos = pos } in
+        let there = spot_there q s stands in
+        let own : key p (parent, q) ≡ (parent, (pos, q)) = key_at p (parent, q) s stands in
+        let own_at : key p (get_or spots there.0 (parent, q)) ≡ (parent, (pos, q)) = ap (key p) there.2 ∙ own in
+        elim (cases_lt there.0 first) as (λ _. ⊥) [
+          | inl before ↦
+              let less : key_cmp (parent, (pos, q)) (parent, (pos, root)) ≡ Less = subst (λ k. key_cmp k (parent, (pos, root)) ≡ Less) own_at (cut_below p spots are parent pos root first cut there.0 (parent, q) (omega arith) before) in
+              let ids : id_cmp q root ≡ Less = then_third (id_cmp parent parent) (slice_cmp nat_cmp pos pos) (id_cmp q root) (tied_itself ids_total parent) (tied_itself nat_list_cmp_total pos) less in
+              let f : true ≡ false = sym (ap is_lt ids) ∙ root_least q in cc
+          | inr later ↦ elim (cases_lt there.0 n) as (λ _. ⊥) [
+            | inl within ↦ ne (sym (ap (λ (x : ObjId × ObjId). x.1) there.2) ∙ passed there.0 (parent, q) (omega arith) within)
+            | inr beyond ↦ elim (cases_lt n there.0) as (λ _. ⊥) [
+              | inr not_after ↦
+                  let same : there.0 ≡ n = omega arith in
+                  let here : get_or spots n (parent, q) ≡ (parent, q) = ap (λ k. get_or spots k (parent, q)) (sym same) ∙ there.2 in
+                  other (parent, q) (omega (arith, there.1)) (ap (λ (x : ObjId × ObjId). x.0) here) (ap (λ (x : ObjId × ObjId). pos_at p x.1) here ∙ ap (option_map (λ x. x.pos)) stands)
+              | inl after ↦
+                  let d : ObjId × ObjId = (parent, q) in
+                  let less : key_cmp (key p (get_or spots n d)) (parent, (pos, q)) ≡ Less = subst (λ k. key_cmp (key p (get_or spots n (parent, q))) k ≡ Less) own_at (Less-from_sorted (spot_cmp p) spots n there.0 d are.in_order after there.1) in
+                  let not_less = cut_above p spots are parent pos root first cut n d from (omega (arith, there.1)) in
+                  let x = get_or spots n d in
+                  let eqs = between (id_cmp x.0 parent) (slice_cmp nat_cmp (position_at p x.1) pos) (id_cmp x.1 q) less (id_cmp x.1 root) not_less in
+                  let lt : n < length spots = omega (arith, there.1) in
+                  let inside : Contains spots x = (n, lt, get_or_default spots n x d lt) in
+                  let placed_x = placed p spots are x inside in
+                  let pos_is : position_at p x.1 ≡ pos = slice_cmp-IsAntisymmetric nat_cmp-IsAntisymmetric (position_at p x.1) pos eqs.1 in
+                  let pos_eq : placed_x.0.pos ≡ pos = sym (ap (λ (o : Option Place). option_map_or (λ (s : Place). s.pos) o []) placed_x.1) ∙ pos_is in
+                  other d lt (exact_ids x.0 parent eqs.0) (ap (option_map (λ (s : Place). s.pos)) placed_x.1 ∙ ap Some pos_eq)
+            ]
+          ]
+        ]
 
-  pub free_in : (n : ℕ) (pos : Pos) → length fs ≤ n → AllWithin (λ e. StandsThere parent except pos e → ⊥) fs 0 n → IsTrue false ↔ IsTaken d parent except pos
-  free_in n pos le none = free_answer fs d sorted_slice view_slice parent except pos (λ k e low lt. none k e low (omega arith))
-
-  pub next_in : (n : ℕ) (low r : Option Pos) → n ≡ length fs → Nearest parent except low fs n r → IsNext d parent except low r
-  next_in n low r is nearest = next_answer fs d sorted_slice view_slice parent except low r (subst (λ n. Nearest parent except low fs n r) is nearest)
+pub pass_more : {X : Type 0} (P : X → Type 0) (xs : List X) (low n : ℕ) (x : X) → AllWithin P xs low n → ((d : X) → get_or xs n d ≡ x) → P x → AllWithin P xs low (suc n)
+pass_more P xs low n x passed is here k d le lt =
+    elim (cases_lt k n) as (λ _. P (get_or xs k d)) [
+      | inl before ↦ passed k d le before
+      | inr not_before ↦ let same : n ≡ k = omega arith in subst P (sym (is d) ∙ ap (λ k. get_or xs k d) same) here
+    ]

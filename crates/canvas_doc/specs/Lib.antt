@@ -1,7 +1,5 @@
 pub mod Sorted
-pub mod Siblings
-pub mod Nearest
+pub mod Spots
 pub mod Seen
-pub mod ChildRows
 pub mod Whole
 pub mod Known

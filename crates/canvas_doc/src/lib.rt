@@ -1,12 +1,12 @@
 //! The document of a canvas: its live objects by their ids, and the changes that are asked of it.
 #![tactic(auto)]
 
-ghost use Rattle.std.specs.Prelude.{◌≡◌, ◌≢◌, ◌↔◌, false, length, not, IsSome, IsTrue, IfOk, IfSome, OnOk, OnErr};
-ghost use Rattle.std.specs.List.{All, Contains, list_all, list_any};
+ghost use Rattle.std.specs.Prelude.{◌≡◌, ◌≢◌, ◌↔◌, false, length, IsSome, IsTrue, IfOk, IfSome, OnOk, OnErr};
+ghost use Rattle.std.specs.List.{All, Contains, list_all};
 ghost use Rattle.std.specs.List.Sorted.{IsStrictlySortedBy};
 ghost use Rattle.std.specs.Option.{option_copied, option_map};
 ghost use Rattle.std.specs.FinMap as map;
-ghost use Rattle.canvas_model.specs.Ids.{id_cmp, root, same_id};
+ghost use Rattle.canvas_model.specs.Ids.{id_cmp, root};
 ghost use Rattle.canvas_model.specs.Document.{IsDocument, blank, live, new_object, revise, with_place, with_prop, without};
 ghost use Rattle.canvas_model.specs.Document as document;
 ghost use Rattle.canvas_model.specs.Sibling.{IsTaken, IsNext};
@@ -14,6 +14,7 @@ ghost use Rattle.canvas_model.specs.Children.{AreChildren};
 ghost use Rattle.canvas_doc.specs.Known.{HasObjects, IsRow};
 ghost use Rattle.canvas_doc.specs.Whole.{AreDocument, AreRooted, IsRoot, is_placed};
 
+use canvas_blocks::BlockList;
 use canvas_pos::Pos;
 use std::alloc::{AllocError, Allocator, Global};
 use std::marker::Model;
@@ -23,25 +24,30 @@ mod object;
 mod objects;
 mod overlay;
 mod place;
-mod siblings;
+mod rows;
 mod sorted;
+mod spots;
 
 pub use canvas_model::{Kind, ObjId};
 pub use canvas_value::{Name, TooDeep, Value};
 pub use change::{Change, ChangeVariant};
 pub use object::Object;
-use object::same_object;
 pub use objects::Objects;
 pub use place::Place;
 use place::know_id;
-use siblings::{children_in, nearer_sibling, stands_there};
-use sorted::{index_of, is_sorted, put, take_out, value_of};
+use rows::{Rows, copy_rows, gap_of, object_of, row_of, rows_and_spots, same_rows};
+use sorted::is_sorted;
+use spots::{Spots, copy_spots, cut, first_of, ids_under, next_from, spot_of, stands_there};
 
 /// A document: its live objects by their ids. The root, `ObjId::ROOT`, is always live, a `Document` without a place;
 /// every other live object has a place, whose parent may be any id.
+///
+/// The objects stand in blocks in id order, and beside them their spots in the order of parents, positions and ids: what is asked
+/// of one object or of one place takes the logarithm of their number, and what adds, moves or removes one moves a block at most.
 #[derive(Debug, Drop)]
 pub struct Doc<A: Allocator = Global> {
-    objects: Vec<(ObjId, Object<A>), A>,
+    rows: Rows<A>,
+    spots: Spots<A>,
 }
 
 impl<A: Allocator> Model for Doc<A> {
@@ -50,16 +56,18 @@ impl<A: Allocator> Model for Doc<A> {
     ghost use Rattle.canvas_model.specs.Ids.{id_cmp};
     ghost use Rattle.canvas_model.specs.Codes.{doc_code};
     ghost use Rattle.canvas_model.specs.Document as document;
+    ghost use Rattle.canvas_model.specs.Document.{place_of};
 
     ghost Value = { document.Doc };
 
     ghost coded = { doc_code };
 
-    ghost view = { λ d. map.from_sorted d.objects.items };
+    ghost view = { λ d. map.from_sorted d.rows };
 
     ghost use Rattle.canvas_doc.specs.Known.{HasObjects};
+    ghost use Rattle.canvas_doc.specs.Spots.{AreSpots};
 
-    ghost invariant = { λ d. record { sorted : T (map.is_sorted id_cmp d.objects.items); document : document.IsDocument (map.from_sorted d.objects.items); known : HasObjects (map.from_sorted d.objects.items) } };
+    ghost invariant = { λ d. record { sorted : T (map.is_sorted id_cmp d.rows); document : document.IsDocument (map.from_sorted d.rows); known : HasObjects (map.from_sorted d.rows); spots : AreSpots (place_of (map.from_sorted d.rows)) d.spots } };
 }
 
 impl<A: Allocator + Copy> Doc<A> {
@@ -67,9 +75,12 @@ impl<A: Allocator + Copy> Doc<A> {
     pub fn new(alloc: A) -> Result<Self, AllocError>
         ensures { IfOk result (λ d. d ≡ blank) }
     {
-        let mut objects = Vec::new(alloc);
-        objects.push((ObjId::ROOT, Object::new(alloc, Kind::Document, None)))?;
-        Ok(Doc { objects })
+        let mut rows = BlockList::new(alloc);
+        rows.push((ObjId::ROOT, Object::new(alloc, Kind::Document, None)))?;
+        Ok(Doc {
+            rows,
+            spots: BlockList::new(alloc),
+        })
     }
 
     /// Adds an object without properties, whose id must not be live. Where memory is refused, nothing has changed.
@@ -78,42 +89,88 @@ impl<A: Allocator + Copy> Doc<A> {
         ensures ok { OnOk result (self.new ≡ revise self.old id (Some (new_object kind (Some place)))) }
         ensures err { OnErr result (self.new ≡ self.old) }
     {
-        let alloc = *self.objects.allocator();
-        put(&mut self.objects, id, Object::new(alloc, kind, Some(place)))?;
+        let alloc = self.rows.allocator();
+        let parent = place.parent;
+        let spot = cut(&self.rows, &self.spots, parent, &place.pos, id);
+        let row = gap_of(&self.rows, id);
+        self.rows
+            .insert(row, (id, Object::new(alloc, kind, Some(place))))?;
+        if self.spots.insert(spot, (parent, id)).is_err() {
+            self.rows.remove(row);
+            return Err(AllocError);
+        }
+        Ok(())
+    }
+
+    /// The document of exactly these objects, where their ids rise strictly, the first is the root, a `Document` without a
+    /// place, and each of the others has a place; else none. Fails only where memory is refused.
+    pub fn from_objects(objects: Vec<(ObjId, Object<A>), A>) -> Result<Option<Self>, AllocError>
+        ensures some { IfOk result (λ made. IfSome made (λ d. d ≡ map.from_sorted objects.items)) }
+        ensures entries { IfOk result (λ made. IfSome made (λ d. map.entries d ≡ objects.items)) }
+        ensures none { IfOk result (λ made. IsSome made ↔ AreDocument objects.items) }
+    {
+        if !is_document(&objects) {
+            return Ok(None);
+        }
+        know_rows(&objects);
+        let (rows, spots) = rows_and_spots(objects)?;
+        Ok(Some(Doc { rows, spots }))
+    }
+
+    /// Moves an object, which must not be the root, to another place. Where it isn't live, nothing changes.
+    pub fn put_place(&mut self, id: ObjId, place: Place<A>)
+        requires { id ≢ root }
+        ensures { self.new ≡ revise self.old id (option_map (with_place place) (map.get self.old id)) }
+    {
+        if let Ok(row) = row_of(&self.rows, id) {
+            let to = cut(&self.rows, &self.spots, place.parent, &place.pos, id);
+            let from = spot_of(&self.rows, &self.spots, id);
+            let to = if from < to { to - 1 } else { to };
+            self.spots.move_to(from, to, (place.parent, id));
+            let bare = Object::new(self.rows.allocator(), Kind::Document, None);
+            let mut object = self.rows.replace(row, (id, bare)).1;
+            object.put_place(place);
+            let _ = self.rows.replace(row, (id, object));
+        }
+    }
+
+    /// Gives a property of an object this value, or takes the property away where there is none. Where the object isn't live,
+    /// nothing changes; nor where memory is refused.
+    pub fn put_prop(
+        &mut self,
+        id: ObjId,
+        name: Name<A>,
+        value: Option<Value<A>>,
+    ) -> Result<(), AllocError>
+        ensures ok { OnOk result (self.new ≡ revise self.old id (option_map (with_prop name value) (map.get self.old id))) }
+        ensures err { OnErr result (self.new ≡ self.old) }
+    {
+        if let Ok(row) = row_of(&self.rows, id) {
+            let bare = Object::new(self.rows.allocator(), Kind::Document, None);
+            let mut object = self.rows.replace(row, (id, bare)).1;
+            let done = object.put_prop(name, value);
+            let _ = self.rows.replace(row, (id, object));
+            done?;
+        }
         Ok(())
     }
 }
 
 impl<A: Allocator> Doc<A> {
-    /// The document of exactly these objects, where their ids rise strictly, the first is the root, a `Document` without a
-    /// place, and each of the others has a place. Takes no memory.
-    pub fn from_objects(objects: Vec<(ObjId, Object<A>), A>) -> Option<Self>
-        ensures some { IfSome result (λ d. d ≡ map.from_sorted objects.items) }
-        ensures entries { IfSome result (λ d. map.entries d ≡ objects.items) }
-        ensures none { IsSome result ↔ AreDocument objects.items }
-    {
-        if is_document(&objects) {
-            know_rows(&objects);
-            Some(Doc { objects })
-        } else {
-            None
-        }
-    }
-
     /// All live objects with their ids in id order, the root first.
     pub fn objects(&self) -> Objects<'_, A>
         ensures objects { result ≡ map.entries self.now }
         ensures document { IsDocument self.now }
         ensures known { HasObjects self.now }
     {
-        Objects::new(&self.objects)
+        Objects::new(self.rows.iter())
     }
 
     /// How many objects are live.
     pub fn len(&self) -> usize
         ensures { result ≡ length (map.entries self.now) }
     {
-        self.objects.len()
+        self.rows.len()
     }
 
     /// Whether the object is live.
@@ -129,7 +186,7 @@ impl<A: Allocator> Doc<A> {
         ensures document { IsDocument self.now }
         ensures known { HasObjects self.now }
     {
-        value_of(&self.objects, &id)
+        object_of(&self.rows, id)
     }
 
     /// The kind of the object, or none if it isn't live.
@@ -157,7 +214,7 @@ impl<A: Allocator> Doc<A> {
     }
 
     /// The ids of the live objects whose place names this one, in the order of their positions, and of their ids where they
-    /// share one. The object itself may be gone. Walks all objects and sorts what it finds. Fails only where memory is refused.
+    /// share one. The object itself may be gone. Fails only where memory is refused.
     pub fn children<B: Allocator + Copy>(
         &self,
         alloc: B,
@@ -165,27 +222,29 @@ impl<A: Allocator> Doc<A> {
     ) -> Result<Vec<ObjId, B>, AllocError>
         ensures { IfOk result (λ ids. AreChildren self.now id ids.items) }
     {
-        children_in(alloc, &self.objects, id)
+        ids_under(alloc, &self.spots, id)
     }
 
     /// The same document under another allocator. Fails only where memory is refused.
     pub fn copy<B: Allocator + Copy>(&self, alloc: B) -> Result<Doc<B>, AllocError>
         ensures { IfOk result (λ d. d ≡ self.now) }
     {
-        let mut objects = Vec::new(alloc);
-        for pair in &self.objects {
-            let object = pair.1.copy_in(alloc)?;
-            objects.push((pair.0, object))?;
-        }
-        Ok(Doc { objects })
+        let rows = copy_rows(alloc, &self.rows)?;
+        let spots = copy_spots(alloc, &self.spots)?;
+        Ok(Doc { rows, spots })
     }
 
-    /// Whether a child of `parent` other than `except` stands at this position. Walks all objects.
+    /// Whether a child of `parent` other than `except` stands at this position.
     pub fn taken<B: Allocator>(&self, parent: ObjId, pos: &Pos<B>, except: ObjId) -> bool
         ensures { IsTrue result ↔ IsTaken self.now parent except pos.now }
     {
-        for pair in &self.objects {
-            if stands_there(pair, parent, pos, except) {
+        let first = cut(&self.rows, &self.spots, parent, pos, ObjId::ROOT);
+        let mut rest = self.spots.iter_from(first);
+        while let Some(spot) = rest.next() {
+            if !stands_there(&self.rows, spot, parent, pos) {
+                return false;
+            }
+            if spot.1 != except {
                 return true;
             }
         }
@@ -193,7 +252,7 @@ impl<A: Allocator> Doc<A> {
     }
 
     /// The least position greater than `after` among the children of `parent` other than `except`, if there is one; without
-    /// `after`, the least of all. Walks all objects.
+    /// `after`, the least of all.
     pub fn next_position<'a, B: Allocator>(
         &'a self,
         parent: ObjId,
@@ -202,38 +261,8 @@ impl<A: Allocator> Doc<A> {
     ) -> Option<&'a Pos<A>>
         ensures { IsNext self.now parent except (option_copied after.entry) (option_copied result) }
     {
-        let mut least = None;
-        for pair in &self.objects {
-            least = nearer_sibling(least, pair, parent, after, except);
-        }
-        least
-    }
-
-    /// Moves an object, which must not be the root, to another place. Where it isn't live, nothing changes.
-    pub fn put_place(&mut self, id: ObjId, place: Place<A>)
-        requires { id ≢ root }
-        ensures { self.new ≡ revise self.old id (option_map (with_place place) (map.get self.old id)) }
-    {
-        if let Ok(at) = index_of(&self.objects, &id) {
-            self.objects[at].1.put_place(place);
-        }
-    }
-
-    /// Gives a property of an object this value, or takes the property away where there is none. Where the object isn't live,
-    /// nothing changes; nor where memory is refused.
-    pub fn put_prop(
-        &mut self,
-        id: ObjId,
-        name: Name<A>,
-        value: Option<Value<A>>,
-    ) -> Result<(), AllocError>
-        ensures ok { OnOk result (self.new ≡ revise self.old id (option_map (with_prop name value) (map.get self.old id))) }
-        ensures err { OnErr result (self.new ≡ self.old) }
-    {
-        if let Ok(at) = index_of(&self.objects, &id) {
-            self.objects[at].1.put_prop(name, value)?;
-        }
-        Ok(())
+        let first = first_of(&self.rows, &self.spots, parent, after);
+        next_from(&self.rows, &self.spots, first, parent, after, except)
     }
 
     /// Removes an object, which must not be the root; what lies below it stays. Where it isn't live, nothing changes.
@@ -241,28 +270,30 @@ impl<A: Allocator> Doc<A> {
         requires { id ≢ root }
         ensures { self.new ≡ map.remove self.old id }
     {
-        take_out(&mut self.objects, &id);
+        if let Ok(row) = row_of(&self.rows, id) {
+            let spot = spot_of(&self.rows, &self.spots, id);
+            self.spots.remove(spot);
+            self.rows.remove(row);
+        }
     }
 
     /// Removes these objects, of which some may not be live. The ids must stand in order, each once, and the root must not be
-    /// among them. Walks all objects, with a binary search in the ids at each.
+    /// among them. It takes the work of removing each of them.
     pub fn remove_all(&mut self, ids: &[ObjId])
         requires in_order { IsStrictlySortedBy id_cmp ids.now }
         requires not_root { Contains ids.now root → ⊥ }
         ensures { self.new ≡ without self.old ids.now }
     {
-        self.objects.retain(
-            |pair: &(ObjId, Object<A>)| -> bool
-                ensures { IsStrictlySortedBy id_cmp ids.entry.now → result ≡ not (list_any (same_id pair.now.0) ids.entry.now) }
-            { !is_listed(ids, pair.0) },
-        );
+        for id in ids {
+            self.remove(*id);
+        }
     }
 
     /// Whether two documents are the same.
     pub fn same<B: Allocator>(&self, other: &Doc<B>) -> bool
         ensures { IsTrue result ↔ (self.now ≡ other.now) }
     {
-        same_objects(&self.objects, &other.objects)
+        same_rows(&self.rows, &other.rows)
     }
 }
 
@@ -312,29 +343,4 @@ fn is_placed<A: Allocator>(pair: &(ObjId, Object<A>)) -> bool
     ensures { result ≡ is_placed pair.now }
 {
     pair.1.place().is_some()
-}
-
-// Whether the id is one of these, where they stand in order.
-fn is_listed(ids: &[ObjId], id: ObjId) -> bool
-    ensures { IsStrictlySortedBy id_cmp ids.now → result ≡ list_any (same_id id) ids.now }
-{
-    ids.binary_search(&id).is_ok()
-}
-
-// Whether two lists of objects and their ids are the same.
-fn same_objects<A: Allocator, B: Allocator>(
-    objects: &[(ObjId, Object<A>)],
-    others: &[(ObjId, Object<B>)],
-) -> bool
-    ensures { IsTrue result ↔ (objects.now ≡ others.now) }
-{
-    if objects.len() != others.len() {
-        return false;
-    }
-    for (at, pair) in objects.iter().enumerate() {
-        if !same_object(pair, &others[at]) {
-            return false;
-        }
-    }
-    true
 }

@@ -3,6 +3,7 @@ ghost use Rattle.std.specs.Prelude.{◌≡◌};
 ghost use Rattle.std.specs.Iterator.{YieldsFirstRef, item_count};
 
 use crate::{ObjId, Object};
+use canvas_blocks::Iter;
 use std::alloc::{Allocator, Global};
 use std::iter::FusedIterator;
 use std::marker::Model;
@@ -10,7 +11,7 @@ use std::marker::Model;
 /// The objects of a document that are still to come, with their ids, in id order. A contract sees it as their list.
 #[derive(Drop)]
 pub struct Objects<'a, A: Allocator = Global> {
-    left: &'a [(ObjId, Object<A>)],
+    left: Iter<'a, (ObjId, Object<A>), A>,
 }
 
 impl<'a, A: Allocator> Model for Objects<'a, A> {
@@ -24,12 +25,12 @@ impl<'a, A: Allocator> Model for Objects<'a, A> {
 
     ghost coded = { coded_list (coded× id_code object_code) };
 
-    ghost view = { λ o. o.left.now };
+    ghost view = { λ o. o.left };
 }
 
 impl<'a, A: Allocator> Objects<'a, A> {
-    pub(crate) fn new(left: &'a [(ObjId, Object<A>)]) -> Self
-        ensures { result ≡ left.now }
+    pub(crate) fn new(left: Iter<'a, (ObjId, Object<A>), A>) -> Self
+        ensures { result ≡ left.entry }
     {
         Objects { left }
     }
@@ -43,14 +44,11 @@ impl<'a, A: Allocator> Iterator for Objects<'a, A> {
     ghost remaining = { item_count (λ left. left) };
 
     fn next(&mut self) -> Option<&'a (ObjId, Object<A>)> {
-        let (pair, left) = self.left.split_first()?;
-        self.left = left;
-        Some(pair)
+        self.left.next()
     }
 
     fn size_hint(&self) -> (usize, Option<usize>) {
-        let len = self.left.len();
-        (len, Some(len))
+        self.left.size_hint()
     }
 }
 

@@ -47,6 +47,6 @@ impl<A: Allocator + Copy> Doc<A> {
 
     // The allocator under which the document stands.
     fn allocator(&self) -> A {
-        *self.objects.allocator()
+        self.rows.allocator()
     }
 }

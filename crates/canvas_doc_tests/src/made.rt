@@ -17,7 +17,7 @@ fn pairs(alloc: Global, root: ObjId, pages: &[ObjId]) -> Result<Vec<(ObjId, Obje
 
 // How many objects the document of these pairs has, if they are one.
 fn made(alloc: Global, root: ObjId, pages: &[ObjId]) -> Result<Option<usize>, Fail> {
-    match Doc::from_objects(pairs(alloc, root, pages)?) {
+    match Doc::from_objects(pairs(alloc, root, pages)?)? {
         Some(doc) => Ok(Some(doc.len())),
         None => Ok(None),
     }
@@ -33,18 +33,18 @@ fn made_with(alloc: Global, root: Kind, is_placed: bool) -> Result<bool, Fail> {
         None
     };
     pairs.push((PAGE, Object::new(alloc, Kind::Page, place)))?;
-    Ok(Doc::from_objects(pairs).is_some())
+    Ok(Doc::from_objects(pairs)?.is_some())
 }
 
-fn made_of_nothing(alloc: Global) -> bool {
-    Doc::from_objects(Vec::<(ObjId, Object)>::new(alloc)).is_some()
+fn made_of_nothing(alloc: Global) -> Result<bool, Fail> {
+    Ok(Doc::from_objects(Vec::<(ObjId, Object)>::new(alloc))?.is_some())
 }
 
 // Whether a document made at once is the one that grew by one page.
 fn same_as_grown(alloc: Global) -> Result<bool, Fail> {
     let mut doc = Doc::new(alloc)?;
     put(alloc, &mut doc, PAGE, Kind::Page, ObjId::ROOT, b"O")?;
-    match Doc::from_objects(pairs(alloc, ObjId::ROOT, &[PAGE])?) {
+    match Doc::from_objects(pairs(alloc, ObjId::ROOT, &[PAGE])?)? {
         Some(made) => Ok(made.same(&doc)),
         None => Ok(false),
     }
@@ -74,7 +74,7 @@ fn parts(rt: HostRuntime) -> Result<(), Fail> {
     ] {
         assert_eq!(rt; made_with(rt.alloc(), root, is_placed)?, want);
     }
-    assert!(rt; !made_of_nothing(rt.alloc()));
+    assert!(rt; !made_of_nothing(rt.alloc())?);
     Ok(())
 }
 

@@ -192,9 +192,9 @@ fn answer_has_growths(alloc: Global, question: Question, growths: u64) -> Result
 
 #[test]
 fn answers(rt: HostRuntime) -> Result<(), Fail> {
-    assert!(rt; answer_has_growths(rt.alloc(), Question::Blank, 1)?);
-    assert!(rt; answer_has_growths(rt.alloc(), Question::Children, 2)?);
-    assert!(rt; answer_has_growths(rt.alloc(), Question::Copy, 7)?);
+    assert!(rt; answer_has_growths(rt.alloc(), Question::Blank, 2)?);
+    assert!(rt; answer_has_growths(rt.alloc(), Question::Children, 1)?);
+    assert!(rt; answer_has_growths(rt.alloc(), Question::Copy, 10)?);
     assert!(rt; answer_has_growths(rt.alloc(), Question::ChangeCopy, 2)?);
     assert!(rt; answer_has_growths(rt.alloc(), Question::ObjectCopy, 3)?);
     Ok(())

@@ -80,11 +80,11 @@ fn has_growths(alloc: Global, question: Question, growths: u64) -> Result<bool, 
     Ok(answers_each(alloc, &grown, question, growths) && is_kept(alloc, &grown)?)
 }
 
-// Two for the children of the root, one for room for their trees, one for the page's position; and for properties, room for an
+// One for the children of the root, one for room for their trees, one for the page's position; and for properties, room for an
 // object's, one for each name, and one for a text or a list that isn't empty.
 #[test]
 fn answers(rt: HostRuntime) -> Result<(), Fail> {
-    assert!(rt; has_growths(rt.alloc(), Question::Grow, 11)?);
+    assert!(rt; has_growths(rt.alloc(), Question::Grow, 10)?);
     assert!(rt; has_growths(rt.alloc(), Question::Copy, 9)?);
     assert!(rt; has_growths(rt.alloc(), Question::Path, 1)?);
     Ok(())

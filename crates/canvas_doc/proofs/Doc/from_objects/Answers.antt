@@ -1,21 +1,31 @@
-use Rattle.std.proofs.Common.{All, T, subst}
+use Rattle.std.proofs.Common.{All, T, ap, sym, subst, ◌∙◌}
 use Rattle.std.specs.FinMap as map
 use Rattle.canvas_model.specs.Ids.{id_cmp}
-use Rattle.canvas_model.specs.Document.{IsDocument}
-use Rattle.canvas_doc.specs.Known.{IsRow}
+use Rattle.canvas_model.specs.Document.{IsDocument, place_of}
+use Rattle.canvas_doc.specs.Known.{HasObjects, IsRow}
+use Rattle.canvas_doc.specs.Spots.{AreSpots}
 use Rattle.canvas_doc.proofs.Known.{rows_found}
 use Rattle.canvas_doc.proofs.Doc.from_objects.Goals as goal
 
-pub returns-then-is_document-clause-entries : goal.returns-then-is_document-clause-entries
-returns-then-is_document-clause-entries g c =
-    map.entries-from_sorted id_cmp c.args.objects.items (subst (λ es. T (map.is_sorted id_cmp es)) c.deref.ensures.value (c.is_document.ensures.0 c.if-is_document.true).sorted)
+pub rows_and_spots-requires : goal.rows_and_spots-requires
+rows_and_spots-requires g c = subst (λ es. T (map.is_sorted id_cmp es)) c.deref.ensures.value (c.is_document.ensures.0 c.if-not-is_document.false).sorted
+
+pub returns-clause-some : goal.returns-clause-some
+returns-clause-some g c = ap map.from_sorted c.in_ok-rows.ensures.rows
+
+pub returns-clause-entries : goal.returns-clause-entries
+returns-clause-entries g c =
+    let sorted = subst (λ es. T (map.is_sorted id_cmp es)) c.deref.ensures.value (c.is_document.ensures.0 c.if-not-is_document.false).sorted in
+    ap (λ es. map.entries (map.from_sorted {R = id_cmp} es)) c.in_ok-rows.ensures.rows ∙ map.entries-from_sorted id_cmp c.args.objects.items sorted
 
 pub invariant_of-result : goal.invariant_of-result
 invariant_of-result g c =
-    let are = c.is_document.ensures.0 c.if-is_document.true in
+    let are = c.is_document.ensures.0 c.if-not-is_document.false in
     let sorted = subst (λ es. T (map.is_sorted id_cmp es)) c.deref.ensures.value are.sorted in
+    let same = sym c.in_ok-rows.ensures.rows in
     record {
-      sorted = sorted;
-      document = subst (λ es. IsDocument (map.from_sorted {R = id_cmp} es)) c.deref.ensures.value are.document;
-      known = rows_found _ sorted (subst (All IsRow) c.deref-then-is_document.ensures.value c.know_rows.ensures);
+      sorted = subst (λ es. T (map.is_sorted id_cmp es)) same sorted;
+      document = subst (λ es. IsDocument (map.from_sorted {R = id_cmp} es)) same (subst (λ es. IsDocument (map.from_sorted {R = id_cmp} es)) c.deref.ensures.value are.document);
+      known = subst (λ es. HasObjects (map.from_sorted {R = id_cmp} es)) same (rows_found _ sorted (subst (All IsRow) c.deref-2.ensures.value c.know_rows.ensures));
+      spots = subst (λ es. AreSpots (place_of (map.from_sorted {R = id_cmp} es)) c.in_ok-rows.spots) same c.in_ok-rows.ensures.spots;
     }

@@ -1,19 +1,52 @@
-use Rattle.std.proofs.Common.{arith}
-use Rattle.std.proofs.lemmas.List.Elements.{AllWithin-more, at_read}
-use Rattle.canvas_model.specs.declared.ObjId.{ObjId}
-use Rattle.canvas_model.specs.Document.{Object}
-use Rattle.canvas_doc.specs.Siblings.{StandsThere}
-use Rattle.canvas_doc.proofs.Standing.{taken_in, free_in}
+use Rattle.std.proofs.Common.{◌≡◌, ◌∙◌, suc, true, false, get_or, refl, sym, ap, subst, arith}
+use Rattle.std.specs.FinMap as map
+use Rattle.canvas_model.specs.Document.{place_of}
+use Rattle.canvas_doc.specs.Spots.{pos_at}
+use Rattle.canvas_doc.proofs.Told.{told_other, not_other}
+use Rattle.canvas_doc.proofs.Standing.{none_stands, pass_more, rest_done, rest_step, stands_at}
 use Rattle.canvas_doc.proofs.Doc.taken.Goals as goal
 
-pub returns-then-stands_there : goal.returns-then-stands_there
-returns-then-stands_there g c = taken_in _ _ _ c.self.invariant.sorted c.self.view_is c.deref-pair-items.ensures.value _ _ c.loop-pair.pair-index c.pair-item.result _ (omega arith) c.pair-item.is (c.stands_there.ensures.0 c.if-stands_there.true)
+pub loop-spot-init : goal.loop-spot-init
+loop-spot-init g c = (c.cut-first.result, c.iter_from-rest.ensures, omega arith, λ k d low lt. absurd (omega arith))
 
-pub loop-pair-preserved : goal.loop-pair-preserved
-loop-pair-preserved g c =
-    let items = c.deref-pair-items.result.now in
-    let P = λ (e : ObjId × Object). StandsThere c.args.parent c.args.except c.args.pos.now e → ⊥ in
-    AllWithin-more P items 0 _ c.loop-pair.invariant (at_read items P _ c.pair-item.result (omega arith) c.pair-item.is (λ there. let t = c.stands_there.ensures.1 there in let f = c.if-stands_there.false in cc))
+pub loop-spot-preserved : goal.loop-spot-preserved
+loop-spot-preserved g c =
+    let inv = c.loop-spot.invariant in
+    let x = c.in-Some.spot.now in
+    let step = rest_step c.self.inside.spots c.loop-spot.rest c.next.new.self inv.0 x inv.1 c.in-Some.ensures.steps in
+    (suc inv.0, step.2, omega arith, pass_more (λ s. s.1 ≡ c.args.except) c.self.inside.spots c.cut-first.result inv.0 x inv.3 step.1 (not_other x.1 c.args.except c.ne.result c.ne.ensures c.if-ne.false))
+
+pub returns-then-not-stands_there : goal.returns-then-not-stands_there
+returns-then-not-stands_there g c =
+    let inv = c.loop-spot.invariant in
+    let x = c.in-Some.spot.now in
+    let step = rest_step c.self.inside.spots c.loop-spot.rest c.next.new.self inv.0 x inv.1 c.in-Some.ensures.steps in (
+      λ t. absurd (let f : false ≡ true = t in cc),
+      λ taken. absurd (none_stands (place_of (map.from_sorted c.self.inside.rows)) c.self.inside.spots c.self.invariant.spots c.args.parent c.args.pos.now c.args.except c.cut-first.result inv.0 c.cut-first.ensures inv.2 inv.3 (λ d lt named at.
+          let yes = (c.stands_there.ensures c.self.invariant.sorted).1 (ap (λ s. s.0) (sym (step.1 d)) ∙ named, ap (λ s. pos_at (place_of (map.from_sorted c.self.inside.rows)) s.1) (sym (step.1 d)) ∙ at) in
+          let no = c.if-not-stands_there.true in cc) taken.0 taken.1.0 (ap (λ d. place_of d taken.0) c.self.view_is ∙ taken.1.1)),
+    )
+
+pub returns-then-ne : goal.returns-then-ne
+returns-then-ne g c =
+    let inv = c.loop-spot.invariant in
+    let x = c.in-Some.spot.now in
+    let step = rest_step c.self.inside.spots c.loop-spot.rest c.next.new.self inv.0 x inv.1 c.in-Some.ensures.steps in
+    let there = (c.stands_there.ensures c.self.invariant.sorted).0 c.if-not-stands_there.false in (
+      λ _. (
+        x.1,
+        (
+          told_other x.1 c.args.except c.ne.result c.ne.ensures c.if-ne.true,
+          sym (ap (λ d. place_of d x.1) c.self.view_is) ∙ stands_at (place_of (map.from_sorted c.self.inside.rows)) c.self.inside.spots c.self.invariant.spots x c.args.parent c.args.pos.now (inv.0, step.0, step.1 x) there.0 there.1,
+        ),
+      ),
+      λ _. refl,
+    )
 
 pub returns : goal.returns
-returns g c = free_in _ _ _ c.self.invariant.sorted c.self.view_is c.deref-pair-items.ensures.value _ _ c.loop-pair.pair-index _ (omega arith) c.loop-pair.invariant
+returns g c =
+    let inv = c.loop-spot.invariant in
+    let past = rest_done c.self.inside.spots c.loop-spot.rest inv.0 inv.1 c.in_default.ensures.steps.0 in (
+      λ t. absurd (let f : false ≡ true = t in cc),
+      λ taken. absurd (none_stands (place_of (map.from_sorted c.self.inside.rows)) c.self.inside.spots c.self.invariant.spots c.args.parent c.args.pos.now c.args.except c.cut-first.result inv.0 c.cut-first.ensures inv.2 inv.3 (λ d lt named at. omega (arith, past)) taken.0 taken.1.0 (ap (λ d. place_of d taken.0) c.self.view_is ∙ taken.1.1)),
+    )

@@ -1,0 +1,13 @@
+use Rattle.std.proofs.Common.{Some, None, sym, ap, subst}
+use Rattle.std.specs.Option.{option_copied}
+use Rattle.std.specs.FinMap as map
+use Rattle.canvas_model.specs.Ids.{id_cmp}
+use Rattle.canvas_model.specs.Document.{place_of}
+use Rattle.canvas_doc.specs.Spots.{IsFirst}
+use Rattle.canvas_doc.proofs.spots.first_of.Goals as goal
+
+pub returns-in-Some : goal.returns-in-Some
+returns-in-Some g c = subst (λ o. IsFirst (place_of (map.from_sorted {R = id_cmp} c.args.rows.now)) c.args.parent (option_copied o) c.args.spots.now c.cut.result) (sym c.in-Some.is) c.cut.ensures
+
+pub returns-in-None : goal.returns-in-None
+returns-in-None g c = subst (λ o. IsFirst (place_of (map.from_sorted {R = id_cmp} c.args.rows.now)) c.args.parent (option_copied o) c.args.spots.now c.start.result) (sym c.in-None.is) c.start.ensures
