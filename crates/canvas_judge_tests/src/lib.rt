@@ -1,4 +1,4 @@
-//! Tests of `canvas_judge`: verdicts and what they do, entries that may come next, chains, states and entries in an arena, and each growth refused in turn.
+//! Tests of `canvas_judge`: verdicts and what they do, entries that may come next, chains, states made from parts, states and entries in an arena, and each growth refused in turn.
 #![tactic(auto)]
 
 #[cfg(test)]
@@ -7,6 +7,8 @@ mod arena;
 mod chains;
 #[cfg(test)]
 mod fits;
+#[cfg(test)]
+mod parts;
 #[cfg(test)]
 mod refusals;
 #[cfg(test)]

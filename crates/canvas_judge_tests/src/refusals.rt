@@ -159,16 +159,16 @@ fn judgements(rt: HostRuntime) -> Result<(), Fail> {
     assert!(rt; judgement_has_growths(rt.alloc(), Next::Set, 0)?);
     assert!(rt; judgement_has_growths(rt.alloc(), Next::Move, 1)?);
     assert!(rt; judgement_has_growths(rt.alloc(), Next::Circle, 1)?);
-    assert!(rt; judgement_has_growths(rt.alloc(), Next::Delete, 3)?);
+    assert!(rt; judgement_has_growths(rt.alloc(), Next::Delete, 2)?);
     Ok(())
 }
 
 #[test]
 fn parts(rt: HostRuntime) -> Result<(), Fail> {
     for (question, growths) in [
-        (Question::Opening, 1),
-        (Question::Below, 5),
-        (Question::StateCopy, 5),
+        (Question::Opening, 2),
+        (Question::Below, 3),
+        (Question::StateCopy, 8),
     ] {
         assert!(rt; answer_has_growths(rt.alloc(), Next::Join, question, growths)?);
     }
