@@ -2,5 +2,11 @@ pub mod Forms
 pub mod Members
 pub mod Positions
 pub mod Decoding
+pub mod Entry
 pub mod Texts
 pub mod SoundTexts
+pub mod MessageForms
+pub mod Orders
+pub mod Docs
+pub mod Message
+pub mod RowReading

@@ -3,7 +3,6 @@ use Rattle.std.specs.Prelude.{◌≡◌, ℕ, List, Some}
 use Rattle.std.specs.Str.{IsUtf8}
 use Rattle.serde_json.specs.Data.{Data}
 use Rattle.serde_json.specs.Read.{read as read_text}
-use Rattle.canvas_value.specs.Codec.{Codec, HasShape, StandsFor, IsOutOfRange}
 use Rattle.canvas_value.specs.declared.json_fault.JsonFault.{JsonFault}
 use Rattle.canvas_value.specs.declared.json_fault.JsonFault.TheVariants as value
 use Rattle.canvas_wire.specs.declared.fault.WireError.{WireError}
@@ -13,30 +12,37 @@ use Rattle.canvas_wire.specs.declared.fault.WireError.TheVariants.{NotJson, NotA
 abbrev pub IsJson : List ℕ → Data → Type 0
 IsJson bytes d = IsUtf8 bytes × (read_text bytes ≡ Some d)
 
-module _ {X : Type 0} (form : Codec X) (IsShallow : X → Type 0) where
-  -- the tree is that of this thing, its numbers in range and its values not too deep
+module _ {X : Type 0} (IsTreeOf : Data → X → Type 0) (IsShallow : X → Type 0) where
+  -- the tree is that of this thing, whose values aren't too deep
   abbrev pub Means : Data → X → Type 0
-  Means d x = StandsFor form d x × IsShallow x
+  Means d x = IsTreeOf d x × IsShallow x
 
   -- the bytes are a text of it
   abbrev pub IsTextOf : List ℕ → X → Type 0
   IsTextOf bytes x = (d : Data) × IsJson bytes d × Means d x
 
+-- which trees have the shape of a thing, but for their whole numbers, and which is that of which thing, its whole numbers in range
+module _ {X : Type 0} (IsShaped : Data → Type 0) (IsTreeOf : Data → X → Type 0) where
+  -- the tree has the shape, and some whole number is out of range
+  abbrev pub IsOut : Data → Type 0
+  IsOut d = IsShaped d × ((x : X) → IsTreeOf d x → ⊥)
+
+module _ {X : Type 0} (IsShaped : Data → Type 0) (IsTreeOf : Data → X → Type 0) (IsShallow : X → Type 0) where
   -- why a tree is refused: it has no such shape; it has one, and some whole number is out of range; all but the depth of a value fits; want of
   -- memory can be met at any
   abbrev pub IsTreeFault : Data → WireError → Type 0
   IsTreeFault d NotJson = ⊥
-  IsTreeFault d NotAMessage = HasShape form d → ⊥
-  IsTreeFault d OutOfRange = IsOutOfRange form d
-  IsTreeFault d TooDeep = (x : X) × StandsFor form d x × (IsShallow x → ⊥)
+  IsTreeFault d NotAMessage = IsShaped d → ⊥
+  IsTreeFault d OutOfRange = IsOut IsShaped IsTreeOf d
+  IsTreeFault d TooDeep = (x : X) × IsTreeOf d x × (IsShallow x → ⊥)
   IsTreeFault d Memory = Unit {0}
 
   -- why bytes are refused: they aren't JSON, or their tree is refused
   abbrev pub IsWireError : List ℕ → WireError → Type 0
   IsWireError bytes NotJson = (d : Data) → IsJson bytes d → ⊥
-  IsWireError bytes NotAMessage = (d : Data) × IsJson bytes d × (HasShape form d → ⊥)
-  IsWireError bytes OutOfRange = (d : Data) × IsJson bytes d × IsOutOfRange form d
-  IsWireError bytes TooDeep = (d : Data) × (x : X) × IsJson bytes d × StandsFor form d x × (IsShallow x → ⊥)
+  IsWireError bytes NotAMessage = (d : Data) × IsJson bytes d × (IsShaped d → ⊥)
+  IsWireError bytes OutOfRange = (d : Data) × IsJson bytes d × IsOut IsShaped IsTreeOf d
+  IsWireError bytes TooDeep = (d : Data) × (x : X) × IsJson bytes d × IsTreeOf d x × (IsShallow x → ⊥)
   IsWireError bytes Memory = Unit {0}
 
 -- what a fault of the shape is answered as
@@ -48,6 +54,18 @@ refusal value.Memory = Memory
 -- memory was refused
 abbrev pub IsMemory : WireError → Type 0
 IsMemory e = e ≡ Memory
+
+-- lists nest too deep
+abbrev pub IsTooDeep : WireError → Type 0
+IsTooDeep e = e ≡ TooDeep
+
+-- what was read isn't shallow, or memory was refused
+abbrev pub IsUnfinished : Type 0 → WireError → Type 0
+IsUnfinished IsShallow TooDeep = IsShallow → ⊥
+IsUnfinished IsShallow Memory = Unit {0}
+IsUnfinished IsShallow NotJson = ⊥
+IsUnfinished IsShallow NotAMessage = ⊥
+IsUnfinished IsShallow OutOfRange = ⊥
 
 -- the bytes aren't JSON, or memory was refused
 abbrev pub IsNotJson : List ℕ → WireError → Type 0

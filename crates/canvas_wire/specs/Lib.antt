@@ -1,5 +1,6 @@
 pub mod Version
 pub mod Numbered
+pub mod Only
 pub mod Tree
 pub mod Ids
 pub mod Kinds
@@ -7,7 +8,11 @@ pub mod Places
 pub mod Changes
 pub mod Outcomes
 pub mod Entries
+pub mod Rows
+pub mod RowOrder
+pub mod Messages
 pub mod Faults
 pub mod Text
 pub mod Laws
 pub mod Drafts
+pub mod Shallow

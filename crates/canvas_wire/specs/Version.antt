@@ -2,9 +2,13 @@
 use Rattle.std.specs.Prelude.{ℕ}
 
 pub record Version : Type 0 where
+  -- the number that a node names as it joins
+  pub number : ℕ
   -- the greatest number of a reason for which a change is refused
   pub last_reason : ℕ
+  -- the greatest number of a reason for which a message is refused
+  pub last_no : ℕ
 
 -- the first version
 abbrev pub version_one : Version
-version_one = record { last_reason = 7 }
+version_one = record { number = 1; last_reason = 7; last_no = 9 }

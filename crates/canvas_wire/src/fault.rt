@@ -1,4 +1,5 @@
 // Why bytes are refused.
+use canvas_doc::TooDeep;
 use std::alloc::{AllocError, AllocFailed};
 use thiserror::Error;
 
@@ -21,6 +22,16 @@ pub enum WireError {
     /// Memory was refused.
     #[error("out of memory")]
     Memory,
+}
+
+impl From<TooDeep> for WireError {
+    ghost use Rattle.canvas_wire.specs.Faults.{IsTooDeep};
+
+    ghost from_gives = { λ _ e. IsTooDeep e };
+
+    fn from(_error: TooDeep) -> WireError {
+        WireError::TooDeep
+    }
 }
 
 impl From<AllocError> for WireError {

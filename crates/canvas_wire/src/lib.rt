@@ -7,11 +7,15 @@ mod fault;
 mod ids;
 mod kinds;
 mod laws;
+mod messages;
+mod order;
 mod outcomes;
 mod places;
+mod rows;
 mod sound;
 mod tree;
 
 pub use entries::{decode_entry, encode_entry};
 pub use fault::WireError;
-pub use laws::every_entry;
+pub use laws::{every_entry, every_message};
+pub use messages::{decode, encode};

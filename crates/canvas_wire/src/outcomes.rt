@@ -4,15 +4,14 @@ ghost use Rattle.serde_json.specs.Data.{array};
 ghost use Rattle.serde_json.specs.View.{view, items_view};
 ghost use Rattle.canvas_judge.specs.Seen.{seen_outcome};
 ghost use Rattle.canvas_model.specs.Verdict.{Refused};
-ghost use Rattle.canvas_value.specs.Parts.{maybe, each_in, each_written};
+ghost use Rattle.canvas_value.specs.Parts.{each_in, each_written};
 ghost use Rattle.canvas_value.specs.Faults.{RefusesShape};
 ghost use Rattle.canvas_wire.specs.Version.{version_one};
 ghost use Rattle.canvas_wire.specs.Ids.{id_form};
-ghost use Rattle.canvas_wire.specs.Places.{place_form};
 ghost use Rattle.canvas_wire.specs.Outcomes.{outcome_form, outcome_after, reason_form, reason_of};
 
 use crate::ids::{read_id, write_id};
-use crate::places::{read_place, write_place};
+use crate::places::{read_maybe_place, read_place, write_maybe_place, write_place};
 use crate::tree::{array, members, one, two, whole32, worded};
 use canvas_doc::{ObjId, Place};
 use canvas_judge::{Outcome, Reason};
@@ -65,18 +64,8 @@ fn write_refused<A: Allocator>(
     ensures { IfOk result (λ j. view j ≡ (outcome_form version_one).write (Refused reason stands.now)) }
 {
     let word = Json::try_from_str(alloc, "refused")?;
-    let stands = write_stands(alloc, stands)?;
+    let stands = write_maybe_place(alloc, stands.as_ref())?;
     array(alloc, [word, Json::from(reason.number()), stands])
-}
-
-// The JSON of a place that may be missing.
-fn write_stands<A: Allocator>(alloc: Global, stands: &Option<Place<A>>) -> Result<Json, AllocError>
-    ensures { IfOk result (λ j. view j ≡ (maybe place_form).write stands.now) }
-{
-    match stands {
-        Some(place) => write_place(alloc, place),
-        None => Ok(Json::Null),
-    }
 }
 
 // The JSON of a list of ids.
@@ -218,7 +207,7 @@ fn read_refused<A: Allocator>(alloc: A, rest: &[Json]) -> Result<(Outcome<A>, bo
     let Some((reason, reason_fits)) = read_reason(reason) else {
         return Err(JsonFault::NotAValue);
     };
-    match read_stands(alloc, stands) {
+    match read_maybe_place(alloc, stands) {
         Ok((stands, fits)) => Ok((Outcome::Refused { reason, stands }, reason_fits & fits)),
         Err(e) => Err(e),
     }
@@ -244,20 +233,6 @@ fn reason_of(n: u64) -> Reason
         6 => Reason::Cycle,
         7 => Reason::Crowded,
         _ => Reason::IsRoot,
-    }
-}
-
-// The place that a tree is read as, or none for `null`, and whether its numbers were in range.
-fn read_stands<A: Allocator>(alloc: A, json: &Json) -> Result<(Option<Place<A>>, bool), JsonFault>
-    ensures ok { IfOk result (λ r. (maybe place_form).read (view json.now) ≡ Some r) }
-    ensures fault { IfErr result (RefusesShape ((maybe place_form).read (view json.now))) }
-{
-    if let Json::Null = json {
-        return Ok((None, true));
-    }
-    match read_place(alloc, json) {
-        Ok((place, fits)) => Ok((Some(place), fits)),
-        Err(e) => Err(e),
     }
 }
 

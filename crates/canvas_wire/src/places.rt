@@ -1,6 +1,8 @@
 // Positions and places.
 ghost use Rattle.std.specs.Prelude.{◌≡◌, true, IfOk, IfErr, Some};
 ghost use Rattle.serde_json.specs.View.{view};
+ghost use Rattle.std.specs.Option.{option_copied};
+ghost use Rattle.canvas_value.specs.Parts.{maybe};
 ghost use Rattle.canvas_value.specs.Faults.{RefusesShape};
 ghost use Rattle.canvas_wire.specs.Places.{pos_form, pos_fault, place_form};
 
@@ -19,6 +21,19 @@ pub(crate) fn write_place<A: Allocator>(alloc: Global, place: &Place<A>) -> Resu
     let parent = write_id(alloc, place.parent)?;
     let pos = Json::try_from_str(alloc, place.pos.as_str())?;
     array(alloc, [parent, pos])
+}
+
+// The JSON of a place that may be missing.
+pub(crate) fn write_maybe_place<A: Allocator>(
+    alloc: Global,
+    place: Option<&Place<A>>,
+) -> Result<Json, AllocError>
+    ensures { IfOk result (λ j. view j ≡ (maybe place_form).write (option_copied place.entry)) }
+{
+    match place {
+        Some(place) => write_place(alloc, place),
+        None => Ok(Json::Null),
+    }
 }
 
 // The position of which a tree is the text.
@@ -63,6 +78,23 @@ pub(crate) fn read_place<A: Allocator>(alloc: A, json: &Json) -> Result<(Place<A
     };
     match read_pos(alloc, pos) {
         Ok(pos) => Ok((Place { parent, pos }, fits)),
+        Err(e) => Err(e),
+    }
+}
+
+// The place that a tree is read as, or none for `null`, and whether its numbers were in range.
+pub(crate) fn read_maybe_place<A: Allocator>(
+    alloc: A,
+    json: &Json,
+) -> Result<(Option<Place<A>>, bool), JsonFault>
+    ensures ok { IfOk result (λ r. (maybe place_form).read (view json.now) ≡ Some r) }
+    ensures fault { IfErr result (RefusesShape ((maybe place_form).read (view json.now))) }
+{
+    if let Json::Null = json {
+        return Ok((None, true));
+    }
+    match read_place(alloc, json) {
+        Ok((place, fits)) => Ok((Some(place), fits)),
         Err(e) => Err(e),
     }
 }

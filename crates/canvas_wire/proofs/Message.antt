@@ -1,0 +1,168 @@
+-- What is proved of messages, in the first version.
+use Rattle.std.proofs.Common.{◌≡◌, ℕ, ◌&&◌, inl, inr, List, Bool, true, false, true≢false, cond, Option, Some, None, codes, bytes_eq, refl, ap, sym, subst, ◌∙◌, arith}
+use Rattle.std.specs.Prelude.{IsSome, is_some}
+use Rattle.std.specs.FinMap as map
+use Rattle.serde_json.specs.Data.{Data, Items, no_items, item}
+use Rattle.canvas_model.specs.declared.ObjId.{ObjId}
+use Rattle.canvas_model.specs.Ids.{id_cmp}
+use Rattle.canvas_model.specs.Document.{Object}
+use Rattle.canvas_model.specs.Receive.{Message, Joins, Welcome, Sends, Asks, Tells, Copies, Idle, No}
+use Rattle.canvas_value.specs.Shape.{shape}
+use Rattle.canvas_value.specs.Codec.{IsCodec, StandsFor}
+use Rattle.canvas_value.specs.Parts.{is_within, whole_in}
+use Rattle.canvas_value.specs.Faults.{RefusesShape}
+use Rattle.canvas_value.specs.declared.json_fault.JsonFault.{JsonFault}
+use Rattle.canvas_value.specs.declared.json_fault.JsonFault.TheVariants as value
+use Rattle.canvas_value.proofs.Forms.{both_hold, stands_for, out_of_range, no_shape}
+use Rattle.canvas_wire.specs.Version.{version_one}
+use Rattle.canvas_wire.specs.Tree.{worded}
+use Rattle.canvas_wire.specs.Messages.{MessageParts, message_words, copied, parts_form, message_of, parts_of, message_in, message_after, rows_in, copy_in_order, is_orderly, IsMessageShape, IsMessageTree}
+use Rattle.canvas_wire.specs.Rows.{rows_form}
+use Rattle.canvas_wire.specs.RowOrder.{are_in_order}
+use Rattle.canvas_wire.specs.Drafts.{IsMade}
+use Rattle.canvas_wire.specs.Faults.{refusal, Means, IsOut, IsUnfinished}
+use Rattle.canvas_wire.specs.Text.{IsShallowMessage, IsMessageFault}
+use Rattle.canvas_wire.specs.declared.fault.WireError.{WireError}
+use Rattle.canvas_wire.specs.declared.fault.WireError.TheVariants.{NotJson, NotAMessage, OutOfRange, TooDeep, Memory}
+use Rattle.canvas_wire.proofs.MessageForms.{parts_are}
+use Rattle.canvas_wire.proofs.Members.{no_word, word_first, and_true}
+use Rattle.canvas_wire.proofs.Orders.{ordered_document}
+use Rattle.canvas_wire.proofs.Decoding.{stands_one}
+
+pub is_form : IsCodec (parts_form version_one)
+is_form = parts_are version_one (omega arith)
+
+pub never_none : {X : Type 0} (r : Option X) → IsSome r → r ≡ None → ⊥
+never_none r some is = true≢false (sym some ∙ ap is_some is)
+
+-- a message is that of its parts
+pub message_back : (m : Message) → message_of (parts_of m) ≡ m
+message_back Joins = refl
+message_back (Welcome client) = refl
+message_back (Sends client seq change) = refl
+message_back (Asks client version) = refl
+message_back (Tells version entry) = refl
+message_back (Copies version done doc) = ap (Copies version done) (map.same_entries_map _ _ (map.entries-from_sorted id_cmp (map.entries doc) (map.entries_sorted doc)))
+message_back Idle = refl
+message_back (No reason) = refl
+
+pub one_message : (d : Data) (m n : Message) → IsMessageTree version_one d m → IsMessageTree version_one d n → m ≡ n
+one_message d m n (o, s) (p, t) = sym (message_back m) ∙ ap message_of (stands_one (parts_form version_one) is_form (λ _. Unit {0}) d (parts_of m) (parts_of n) s t) ∙ message_back n
+
+pub message_shaped : (d : Data) (m : Message) → IsMessageTree version_one d m → IsMessageShape version_one d
+message_shaped d m (o, s) = (o, (parts_of m, s.0, ap shape s.2))
+
+-- ---- what was read of an orderly tree
+
+orderly_case : (b : Bool) (o : Option (MessageParts × Bool)) (r : MessageParts × Bool) → cond b o None ≡ Some r → (b ≡ true) × (o ≡ Some r)
+orderly_case true o r e = (refl, e)
+orderly_case false o r e = cc
+
+was_orderly : (d : Data) (r : MessageParts × Bool) → message_in version_one d ≡ Some r → (is_orderly d ≡ true) × ((parts_form version_one).read d ≡ Some r)
+was_orderly d r e = orderly_case (is_orderly d) ((parts_form version_one).read d) r e
+
+unread_case : (b : Bool) (o : Option (MessageParts × Bool)) → cond b o None ≡ None → b ≡ true → o ≡ None
+unread_case true o e t = e
+unread_case false o e t = absurd (true≢false (sym t))
+
+-- what a fault of the shape says of the tree
+pub message_fault : (d : Data) (f : JsonFault) → RefusesShape (message_in version_one d) f → IsMessageFault d (refusal f)
+message_fault d value.NotAValue e = λ s. no_shape (parts_form version_one) is_form d (unread_case (is_orderly d) ((parts_form version_one).read d) e s.0) s.1
+message_fault d value.OutOfRange e = absurd e
+message_fault d value.Memory e = tt
+
+-- parts whose rows are a document are those of their message
+pub parts_back : (p : MessageParts) → IsMade p → parts_of (message_of p) ≡ p
+parts_back (inl p) h = refl
+parts_back (inr (inl p)) h = refl
+parts_back (inr (inr (inl p))) h = refl
+parts_back (inr (inr (inr (inl p)))) h = refl
+parts_back (inr (inr (inr (inr (inl p))))) h = refl
+parts_back (inr (inr (inr (inr (inr (inl p)))))) h = ap (λ es. inr (inr (inr (inr (inr (inl (p.0, (p.1.0, (es, tt))))))))) (map.entries-from_sorted id_cmp p.1.1.0 h.sorted)
+parts_back (inr (inr (inr (inr (inr (inr (inl p))))))) h = refl
+parts_back (inr (inr (inr (inr (inr (inr (inr p))))))) h = refl
+
+made_written : (p : MessageParts) → is_orderly ((parts_form version_one).write p) ≡ true → (parts_form version_one).fits p ≡ true → IsMade p
+made_written (inl p) o f = tt
+made_written (inr (inl p)) o f = tt
+made_written (inr (inr (inl p))) o f = tt
+made_written (inr (inr (inr (inl p)))) o f = tt
+made_written (inr (inr (inr (inr (inl p))))) o f = tt
+made_written (inr (inr (inr (inr (inr (inl p)))))) o f = ordered_document p.1.1.0 o
+made_written (inr (inr (inr (inr (inr (inr (inl p))))))) o f = tt
+made_written (inr (inr (inr (inr (inr (inr (inr p))))))) o f = (both_hold (is_within 1 9 p.0) true f).0
+
+-- ---- the word at the head
+
+neither : {X : Type 0} (b : Bool) → ◌≡◌ {A = Option X} (cond b None None) None
+neither true = refl
+neither false = refl
+
+pub unworded : (d : Data) → worded d ≡ None → message_in version_one d ≡ None
+unworded d e = ap (λ o. cond (is_orderly d) o None) (no_word (message_words version_one).read d e) ∙ neither (is_orderly d)
+
+pub unknown : (d : Data) (w : List ℕ) (ds : Items) → worded d ≡ Some (w, ds) → bytes_eq w (codes "join") ≡ false → bytes_eq w (codes "welcome") ≡ false → bytes_eq w (codes "edit") ≡ false → bytes_eq w (codes "ask") ≡ false
+    → bytes_eq w (codes "entry") ≡ false → bytes_eq w (codes "copy") ≡ false → bytes_eq w (codes "idle") ≡ false → bytes_eq w (codes "no") ≡ false → message_in version_one d ≡ None
+unknown d w ds e h1 h2 h3 h4 h5 h6 h7 h8 = ap (message_in version_one) (word_first d w ds e) ∙ rw (h1, h2, h3, h4, h5, h6, h7, h8) refl
+
+-- ---- the members of a copy
+
+pub unread_copy : (ds : Items) → copied.read ds ≡ None → message_after version_one (codes "copy") ds ≡ None
+unread_copy ds e = rw e (neither (copy_in_order ds))
+
+tested_case : {X : Type 0} (b : Bool) (o : Option X) (x : X) → cond b o None ≡ Some x → (b ≡ true) × (o ≡ Some x)
+tested_case true o x e = (refl, e)
+tested_case false o x e = cc
+
+module _ (a b r : Data) (version done : ℕ) (version_fits done_fits : Bool) (h : whole_in 0 4611686018427387904 a ≡ Some (version, version_fits)) (k : whole_in 0 4611686018427387904 b ≡ Some (done, done_fits)) where
+  pub copy_read : (es : List (ObjId × Object)) (fits : Bool) → rows_in r ≡ Some (es, fits)
+      → message_after version_one (codes "copy") (item a (item b (item r no_items))) ≡ Some (inr (inr (inr (inr (inr (inl (version, (done, (es, tt)))))))), version_fits && (done_fits && fits))
+  copy_read es fits e =
+      let t = tested_case (are_in_order r) (rows_form.read r) (es, fits) e in
+      rw (t.0, h, k, t.1, and_true fits) refl
+
+  rows_case : (t : Bool) (o : Option (List (ObjId × Object) × Bool)) → are_in_order r ≡ t → rows_form.read r ≡ o → cond t o None ≡ None
+      → message_after version_one (codes "copy") (item a (item b (item r no_items))) ≡ None
+  rows_case true o i j e = rw (i, h, k, j, e) refl
+  rows_case false o i j e = rw i refl
+
+  pub copy_refused : (f : JsonFault) → RefusesShape (rows_in r) f → RefusesShape (message_after version_one (codes "copy") (item a (item b (item r no_items)))) f
+  copy_refused value.NotAValue e = rows_case (are_in_order r) (rows_form.read r) refl refl e
+  copy_refused value.OutOfRange e = e
+  copy_refused value.Memory e = tt
+
+module _ (d : Data) (p : MessageParts) (b : Bool) (e : message_in version_one d ≡ Some (p, b)) where
+  in_range_was : b ≡ true → (is_orderly d ≡ true) × StandsFor (parts_form version_one) d p
+  in_range_was t =
+      let w = was_orderly d (p, b) e in
+      (w.0, stands_for (parts_form version_one) is_form d p (w.1 ∙ ap (λ (f : Bool). Some (p, f)) t))
+
+  -- what was read in range can be made a message
+  pub made : b ≡ true → IsMade p
+  made t =
+      let w = in_range_was t in
+      made_written p (ap is_orderly w.1.2 ∙ w.0) w.1.1
+
+  tree_was : b ≡ true → IsMessageTree version_one d (message_of p)
+  tree_was t =
+      let w = in_range_was t in
+      (w.0, subst (StandsFor (parts_form version_one) d) (sym (parts_back p (made t))) w.1)
+
+  pub message_means : b ≡ true → IsShallowMessage (message_of p) → Means (IsMessageTree version_one) IsShallowMessage d (message_of p)
+  message_means t s = (tree_was t, s)
+
+  pub message_deep : b ≡ true → (IsShallowMessage (message_of p) → ⊥) → IsMessageFault d TooDeep
+  message_deep t s = (message_of p, tree_was t, s)
+
+  pub message_unfinished : b ≡ true → (f : WireError) → IsUnfinished (IsShallowMessage (message_of p)) f → IsMessageFault d f
+  message_unfinished t TooDeep deep = message_deep t deep
+  message_unfinished t Memory h = tt
+  message_unfinished t NotJson h = absurd h
+  message_unfinished t NotAMessage h = absurd h
+  message_unfinished t OutOfRange h = absurd h
+
+  pub message_out : b ≡ false → IsOut (IsMessageShape version_one) (IsMessageTree version_one) d
+  message_out t =
+      let w = was_orderly d (p, b) e in
+      let out = out_of_range (parts_form version_one) is_form d p (w.1 ∙ ap (λ (f : Bool). Some (p, f)) t) in
+      ((w.0, out.0), λ m s. out.1 (parts_of m) s.1)
