@@ -1,0 +1,50 @@
+//! `canvas_player` plays scripts of random events in worlds of nodes. After each event it compares what the world shows with
+//! a plain model of its own, which shares no code with the world. It prints how often they differed, and what was met.
+#![tactic(auto)]
+
+mod compare;
+mod dice;
+mod draw;
+mod follow;
+mod log;
+mod model;
+mod play;
+mod reading;
+mod rows;
+mod steps;
+
+use play::{Tally, play_script};
+use std::alloc::{AllocError, Global};
+use std::io;
+
+// How many scripts are played, and how many events each has: most begin with an opening of 34, and then 100 are drawn.
+const SCRIPTS: u64 = 300;
+
+const EVENTS: u64 = 134;
+
+// Plays all scripts.
+fn play_all(alloc: Global) -> Result<Tally, AllocError> {
+    let mut tally = Tally::new();
+    for seed in 1..=SCRIPTS {
+        play_script(alloc, seed, EVENTS, &mut tally)?;
+    }
+    Ok(tally)
+}
+
+fn main(rt: HostRuntime) -> io::Result<()> {
+    let tally = play_all(rt.alloc())?;
+    println!(rt;
+        "{SCRIPTS} scripts, {} events, {} differences",
+        tally.events, tally.differences
+    )?;
+    println!(rt; "edits refused by a node: {}", tally.refused_by_node)?;
+    println!(rt; "edits granted by the server: {}", tally.granted)?;
+    println!(rt; "edits refused by the server: {}", tally.refused_by_server)?;
+    println!(rt; "messages taken by a node: {}", tally.taken)?;
+    println!(rt; "restarts: {}", tally.restarts)?;
+    println!(rt;
+        "two nodes at one version with nothing unacknowledged, and equal: {}",
+        tally.equal
+    )?;
+    Ok(())
+}

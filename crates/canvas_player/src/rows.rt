@@ -1,0 +1,158 @@
+// A document as plain rows.
+use canvas_doc::{Kind, ObjId};
+use std::alloc::{AllocError, Global};
+
+/// An object as plain data. A position is its first eight bytes as one number; a property that isn't there is 0.
+#[derive(Clone, Copy, PartialEq, Eq)]
+pub struct Row {
+    pub id: ObjId,
+    pub kind: Kind,
+    pub parent: Option<ObjId>,
+    pub pos: u64,
+    pub fill: u64,
+    pub size: u64,
+}
+
+/// The row of the root.
+pub const ROOT: Row = Row {
+    id: ObjId::ROOT,
+    kind: Kind::Document,
+    parent: None,
+    pos: 0,
+    fill: 0,
+    size: 0,
+};
+
+/// The row of the object, if it has one.
+pub fn find(rows: &[Row], id: ObjId) -> Option<Row> {
+    for row in rows {
+        if row.id == id {
+            return Some(*row);
+        }
+    }
+    None
+}
+
+/// Whether there is a row of the object.
+pub fn has(rows: &[Row], id: ObjId) -> bool {
+    find(rows, id).is_some()
+}
+
+// Whether each of the rows is one of the others.
+fn are_among(rows: &[Row], others: &[Row]) -> bool {
+    for row in rows {
+        if find(others, row.id) != Some(*row) {
+            return false;
+        }
+    }
+    true
+}
+
+/// Whether both have the same rows, in any order.
+pub fn have_same(rows: &[Row], others: &[Row]) -> bool {
+    rows.len() == others.len() && are_among(rows, others) && are_among(others, rows)
+}
+
+/// Whether a chain of parents leads from one object to the other, or they are one object.
+pub fn is_below(rows: &[Row], from: ObjId, to: ObjId) -> bool {
+    let mut at = from;
+    for _ in 0..rows.len() {
+        if at == to {
+            return true;
+        }
+        let Some(parent) = parent_of(rows, at) else {
+            return false;
+        };
+        at = parent;
+    }
+    at == to
+}
+
+// The parent of the object, if it has one.
+fn parent_of(rows: &[Row], id: ObjId) -> Option<ObjId> {
+    let row = find(rows, id)?;
+    row.parent
+}
+
+/// Whether from each object a chain of parents leads to the root, and each but the root has a position.
+pub fn is_tree(rows: &[Row]) -> bool {
+    for row in rows {
+        if !is_below(rows, row.id, ObjId::ROOT) {
+            return false;
+        }
+        if row.pos == 0 && row.id != ObjId::ROOT {
+            return false;
+        }
+    }
+    true
+}
+
+/// The rows of the objects that aren't below this one.
+pub fn without_below(alloc: Global, rows: &[Row], id: ObjId) -> Result<Vec<Row>, AllocError> {
+    let mut kept = Vec::new(alloc);
+    for row in rows {
+        if !is_below(rows, row.id, id) {
+            kept.push(*row)?;
+        }
+    }
+    Ok(kept)
+}
+
+/// The rows of all objects but this one.
+pub fn without(alloc: Global, rows: &[Row], id: ObjId) -> Result<Vec<Row>, AllocError> {
+    let mut kept = Vec::new(alloc);
+    for row in rows {
+        if row.id != id {
+            kept.push(*row)?;
+        }
+    }
+    Ok(kept)
+}
+
+/// Moves the object, if it has a row.
+pub fn put_place(rows: &mut [Row], id: ObjId, parent: ObjId, pos: u64) {
+    for row in rows.iter_mut() {
+        if row.id == id {
+            row.parent = Some(parent);
+            row.pos = pos;
+        }
+    }
+}
+
+/// Puts the property `fill` of the object to this value, if it has a row.
+pub fn put_fill(rows: &mut [Row], id: ObjId, value: u64) {
+    for row in rows.iter_mut() {
+        if row.id == id {
+            row.fill = value;
+        }
+    }
+}
+
+/// Puts the property `size` of the object to this value, if it has a row.
+pub fn put_size(rows: &mut [Row], id: ObjId, value: u64) {
+    for row in rows.iter_mut() {
+        if row.id == id {
+            row.size = value;
+        }
+    }
+}
+
+/// Whether no child of the parent, other than this object, has a position above the one and up to the other.
+pub fn none_between(rows: &[Row], parent: ObjId, id: ObjId, low: u64, high: u64) -> bool {
+    for row in rows {
+        if row.parent == Some(parent) && row.id != id && row.pos > low && row.pos <= high {
+            return false;
+        }
+    }
+    true
+}
+
+/// Whether a child of the parent, other than this object, has the position.
+pub fn is_taken(rows: &[Row], parent: ObjId, id: ObjId, pos: u64) -> bool {
+    for row in rows {
+        if row.parent == Some(parent) && row.id != id && row.pos == pos {
+            return true;
+        }
+    }
+    false
+}
