@@ -8,7 +8,7 @@ use Rattle.canvas_lines.specs.Lines.{lines_of, is_passed, meaningful}
 use Rattle.canvas_lines.specs.Spelling.{Requested, SpellsRequest, SpellEach, SpellLog, LinesSpell, InputSpells, IsBadLine}
 use Rattle.canvas_lines.specs.Reading.{IsRead, IsUnread, NoneIsBad, OneIsBad}
 
-meaningful_append : (xs ys : List (List ℕ)) → meaningful (xs ++ ys) ≡ meaningful xs ++ meaningful ys
+pub meaningful_append : (xs ys : List (List ℕ)) → meaningful (xs ++ ys) ≡ meaningful xs ++ meaningful ys
 meaningful_append xs ys = filter-append (λ line. not (is_passed line)) xs ys
 
 pub meaningful_passed : (xs : List (List ℕ)) (line : List ℕ) → is_passed line ≡ true → meaningful (xs ++ line ∷ []) ≡ meaningful xs
@@ -68,7 +68,7 @@ spelled_by_first xs ys requested spelled = all_before (meaningful xs) (meaningfu
 spelled_first : (ls : List (List ℕ)) (n : ℕ) (requested : List Requested) → LinesSpell ls requested → (a : List Requested) × LinesSpell (take n ls) a
 spelled_first ls n requested spelled = spelled_by_first (take n ls) (drop n ls) requested (subst (λ ls. LinesSpell ls requested) (sym (take-append-drop n ls)) spelled)
 
-fewer : (n m : ℕ) (ls : List (List ℕ)) → n ≤ m → take n (take m ls) ≡ take n ls
+pub fewer : (n m : ℕ) (ls : List (List ℕ)) → n ≤ m → take n (take m ls) ≡ take n ls
 fewer zero m ls le = refl
 fewer (suc n) zero ls le = absurd (omega arith)
 fewer (suc n) (suc m) [] le = refl
@@ -92,7 +92,7 @@ one_is_bad input m n first second =
 
 -- one line on
 module _ {A : Type 0} where
-  next_within : (n : ℕ) (ls : List A) (x : A) (xs : List A) → drop n ls ≡ x ∷ xs → n < length ls
+  pub next_within : (n : ℕ) (ls : List A) (x : A) (xs : List A) → drop n ls ≡ x ∷ xs → n < length ls
   next_within zero [] x xs e = absurd (let f : ⊥ = cc in f)
   next_within zero (l ∷ ls) x xs e = omega arith
   next_within (suc n) [] x xs e = absurd (let f : ⊥ = cc in f)
@@ -110,13 +110,13 @@ module _ {A : Type 0} where
   left_suc (suc n) [] x xs e = absurd (let f : ⊥ = cc in f)
   left_suc (suc n) (l ∷ ls) x xs e = left_suc n ls x xs e
 
-  next_taken : (n : ℕ) (ls : List A) (x : A) (xs : List A) → drop n ls ≡ x ∷ xs → take (n + 1) ls ≡ take n ls ++ x ∷ []
+  pub next_taken : (n : ℕ) (ls : List A) (x : A) (xs : List A) → drop n ls ≡ x ∷ xs → take (n + 1) ls ≡ take n ls ++ x ∷ []
   next_taken n ls x xs e = ap (λ k. take k ls) (add-one n) ∙ taken_suc n ls x xs e
 
   pub next_left : (n : ℕ) (ls : List A) (x : A) (xs : List A) → drop n ls ≡ x ∷ xs → drop (n + 1) ls ≡ xs
   next_left n ls x xs e = ap (λ k. drop k ls) (add-one n) ∙ left_suc n ls x xs e
 
-  all_taken : (n : ℕ) (ls : List A) → drop n ls ≡ [] → take n ls ≡ ls
+  pub all_taken : (n : ℕ) (ls : List A) → drop n ls ≡ [] → take n ls ≡ ls
   all_taken zero ls e = sym e
   all_taken (suc n) [] e = refl
   all_taken (suc n) (l ∷ ls) e = ap (λ r. l ∷ r) (all_taken n ls e)

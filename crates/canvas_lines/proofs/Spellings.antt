@@ -33,7 +33,7 @@ kind_blank Frame = lacks_written 32 (codes "frame") refl
 kind_blank Shape = lacks_written 32 (codes "shape") refl
 kind_blank Text = lacks_written 32 (codes "text") refl
 
-verb_blank : (v : Verb) → Lacks 32 (verb_word v)
+pub verb_blank : (v : Verb) → Lacks 32 (verb_word v)
 verb_blank verb.Create = lacks_written 32 (codes "create") refl
 verb_blank verb.Set = lacks_written 32 (codes "set") refl
 verb_blank verb.Clear = lacks_written 32 (codes "clear") refl
@@ -52,7 +52,7 @@ back_is verb.Clear = refl
 back_is verb.Move = refl
 back_is verb.Delete = refl
 
-one_verb : (v w : Verb) → verb_word v ≡ verb_word w → v ≡ w
+pub one_verb : (v w : Verb) → verb_word v ≡ verb_word w → v ≡ w
 one_verb v w e = sym (back_is v) ∙ ap verb_back e ∙ back_is w
 
 -- ---- what each verb wants

@@ -1,0 +1,11 @@
+pub mod Answers
+pub mod Asked
+pub mod Edits
+pub mod Lines
+pub mod Names
+pub mod Plays
+pub mod Reading
+pub mod Report
+pub mod Results
+pub mod Script
+pub mod Words

@@ -1,0 +1,122 @@
+// The blocks of a world, and its report.
+ghost use Rattle.std.specs.Prelude.{◌≡◌, IfOk, OnErr, OnOk, length, string_bytes};
+ghost use Rattle.canvas_lines.specs.Blocks.{IsBlock};
+ghost use Rattle.canvas_script.specs.Report.{AddsBlocks, AddsNodeBlock, AddsReport, AddsServerBlock};
+ghost use Rattle.canvas_script.specs.Report as report;
+
+use crate::Names;
+use canvas_client::Client;
+use canvas_lines::block;
+use canvas_world::World;
+use std::alloc::{AllocError, Global};
+
+/// Adds the report: the server's block, and then one for each node in its order. Fails only where
+/// memory is refused, and then `out` may have grown.
+pub fn write_report(
+    alloc: Global,
+    names: &Names,
+    world: &World,
+    out: &mut Vec<u8>,
+) -> Result<(), AllocError>
+    ensures { OnOk result (AddsReport names.now world.now out.old.items out.new.items) }
+{
+    write_server(alloc, world, out)?;
+    write_nodes(alloc, names, world, out)
+}
+
+// Adds the block of each node.
+fn write_nodes(
+    alloc: Global,
+    names: &Names,
+    world: &World,
+    out: &mut Vec<u8>,
+) -> Result<(), AllocError>
+    ensures { OnOk result
+        (AddsBlocks names.now world.now (length names.now) out.old.items out.new.items) }
+{
+    for k in 0..names.len() {
+        write_node(alloc, names, world, k + 1, out)?;
+    }
+    Ok(())
+}
+
+/// Adds the server's block: what the server holds, and the tree of its whole log. Fails only where
+/// memory is refused, and then `out` is as it was.
+pub fn write_server(alloc: Global, world: &World, out: &mut Vec<u8>) -> Result<(), AllocError>
+    ensures ok { OnOk result (AddsServerBlock world.now out.old.items out.new.items) }
+    ensures err { OnErr result (out.new.items ≡ out.old.items) }
+{
+    let head = server_head(alloc, world)?;
+    block(alloc, head.as_bytes(), world.server().state().doc(), out)
+}
+
+// What the server holds.
+fn server_head(alloc: Global, world: &World) -> Result<String, AllocError>
+    ensures { IfOk result (λ head. string_bytes head ≡ report.server_head world.now) }
+{
+    let server = world.server();
+    let version = server.version();
+    let synced = world.synced();
+    let published = server.published();
+    let floor = server.floor();
+    format!(in alloc;
+        "server version {version} synced {synced} published {published} floor {floor}"
+    )
+}
+
+/// Adds the block of node `k`, counted from 1: its name, id, version and number of edits that wait,
+/// and the tree of its view; nothing where there is no such node. Fails only where memory is
+/// refused, and then `out` is as it was.
+pub fn write_node(
+    alloc: Global,
+    names: &Names,
+    world: &World,
+    k: u64,
+    out: &mut Vec<u8>,
+) -> Result<(), AllocError>
+    ensures ok { OnOk result (AddsNodeBlock names.now world.now k out.old.items out.new.items) }
+    ensures err { OnErr result (out.new.items ≡ out.old.items) }
+{
+    let (Some(name), Some(client)) = (names.name(k), world.client(k)) else {
+        return Ok(());
+    };
+    write_client(alloc, name, client, out)
+}
+
+// Adds the block of a client of this name.
+fn write_client(
+    alloc: Global,
+    name: &[u8],
+    client: &Client,
+    out: &mut Vec<u8>,
+) -> Result<(), AllocError>
+    ensures ok { OnOk result (IsBlock (report.node_head name.now client.now) client.now.view
+        out.old.items out.new.items) }
+    ensures err { OnErr result (out.new.items ≡ out.old.items) }
+{
+    let head = node_head(alloc, name, client)?;
+    block(alloc, &head, client.view(), out)
+}
+
+// A node's name, its id, its version, and how many of its edits wait.
+fn node_head(alloc: Global, name: &[u8], client: &Client) -> Result<Vec<u8>, AllocError>
+    ensures { IfOk result (λ head. head.items ≡ report.node_head name.now client.now) }
+{
+    let id = id_word(alloc, client)?;
+    let version = client.version();
+    let waiting = client.unacknowledged();
+    let rest = format!(in alloc; " id {id} version {version} waiting {waiting}")?;
+    let mut head = Vec::from_slice(alloc, name)?;
+    head.extend_from_slice(rest.as_bytes())?;
+    Ok(head)
+}
+
+// A node's id, or - where it has none.
+fn id_word(alloc: Global, client: &Client) -> Result<String, AllocError>
+    ensures { IfOk result (λ word. string_bytes word ≡ report.id_word client.now.id) }
+{
+    match client.id() {
+        Some(id) => format!(in alloc; "{id}"),
+        None => String::from_str(alloc, "-"),
+    }
+}
