@@ -3,8 +3,11 @@ use Rattle.std.specs.Prelude.{◌≡◌, ◌⊎◌, ℕ, ◌-◌, List, ◌++◌
 use Rattle.std.specs.Io.KnownBytes.{Appends, Consumes, IsAtEnd}
 use Rattle.canvas_model.specs.State.{State, opening}
 use Rattle.canvas_model.specs.Log.{Entry, IsLegal}
-use Rattle.scene.specs.declared.SceneError.{SceneError}
-use Rattle.scene.specs.declared.SceneError.TheVariants.{BadLine, Memory}
+use Rattle.canvas_model.specs.World.{World}
+use Rattle.canvas_script.specs.declared.run.ScriptError.{ScriptError}
+use Rattle.canvas_script.specs.declared.run.ScriptError.TheVariants.{BadLine, Memory}
+use Rattle.canvas_script.specs.Reading.{IsWorld, IsBadScriptLine}
+use Rattle.canvas_script.specs.Results.{IsPrintedBy, IsWorldOf, ArePrintedBefore}
 use Rattle.canvas_lines.specs.declared.fault.Fault.{Fault}
 use Rattle.canvas_lines.specs.declared.fault.Fault.TheVariants as fault
 use Rattle.canvas_lines.specs.Lines.{lines_of}
@@ -36,51 +39,73 @@ pub record IsReport (input : List ℕ) (log : List Entry) (s : State) (before af
   pub added : after ≡ before ++ answers ++ version_line (length log) ++ object_lines s.doc
 
 -- a bad line is the first that can't be read
-abbrev pub IsErrorOf : List ℕ → SceneError → Type 0
+abbrev pub IsErrorOf : List ℕ → ScriptError → Type 0
 IsErrorOf input (BadLine n) = IsBadLine input n
 IsErrorOf input Memory = Unit {0}
 
 -- with a bad line, the text got the answers to the requests of the lines before it; for want of
 -- memory, it is what it was
-abbrev pub IsLeft : List ℕ → List ℕ → List ℕ → SceneError → Type 0
+abbrev pub IsLeft : List ℕ → List ℕ → List ℕ → ScriptError → Type 0
 IsLeft input before after (BadLine n) =
     (answers : List ℕ) × AreAnswersBefore input n answers × (after ≡ before ++ answers)
 IsLeft input before after Memory = after ≡ before
 
--- want of memory
-abbrev pub IsNoMemory : SceneError → Type 0
-IsNoMemory e = e ≡ Memory
-
--- the fault that ends a program there
-abbrev pub fault_of : SceneError → Fault
-fault_of (BadLine n) = fault.BadLine n
-fault_of Memory = fault.Memory
-
--- the whole input was read and has no bad line; the answers to its requests and the report of the
--- document that its log leads to were written
-pub record IsPlayed (read left written after : Option (List ℕ)) : Type 0 where
-  pub text : List ℕ
+-- the text is a log with no bad line, and this is the answers to its requests and the report of the document that its log
+-- leads to
+pub record IsPrintedByLog (text printed : List ℕ) : Type 0 where
   pub log : List Entry
   pub state : State
   pub answers : List ℕ
-  pub is_read : Consumes read left text
-  pub at_end : IsAtEnd left
   pub is_log : IsLogOf text log
   pub is_fold : IsFold log state
   pub no_bad_line : (n : ℕ) → IsBadLine text n → ⊥
   pub are_answers : AreAnswers text log answers
-  pub is_written : Appends written after (answers ++ version_line (length log) ++ object_lines state.doc)
+  pub is : printed ≡ answers ++ version_line (length log) ++ object_lines state.doc
 
--- the whole input was read, and this is its first bad line; the answers to the requests before it
--- were written
-pub record IsCutAt (read left written after : Option (List ℕ)) (n : ℕ) : Type 0 where
+-- the text is a script of a world with no bad line, and this is what its items print and the report of the world that its
+-- events lead to
+pub record IsPrintedByWorld (text printed : List ℕ) : Type 0 where
+  pub world : World
+  pub is_world : IsWorld text
+  pub is_world_of : IsWorldOf text world
+  pub no_bad_line : (n : ℕ) → IsBadScriptLine text n → ⊥
+  pub is_printed : IsPrintedBy text world printed
+
+-- this is what the text prints: as a log, or as a script of a world
+abbrev pub IsPrinted : List ℕ → List ℕ → Type 0
+IsPrinted text printed = IsPrintedByLog text printed ⊎ IsPrintedByWorld text printed
+
+-- this is the text's first bad line, and what the lines before it print: those of a script of a world, or else of a log
+abbrev pub IsPrintedBefore : List ℕ → ℕ → List ℕ → Type 0
+IsPrintedBefore text n printed =
+    ((IsWorld text → ⊥) × IsBadLine text n × AreAnswersBefore text n printed) ⊎ (IsWorld text × IsBadScriptLine text n × ArePrintedBefore text n printed)
+
+-- what the text prints was added
+abbrev pub IsTextPlayed : List ℕ → List ℕ → List ℕ → Type 0
+IsTextPlayed text before after = (printed : List ℕ) × IsPrinted text printed × (after ≡ before ++ printed)
+
+-- with a bad line, what the lines before it print was added; for want of memory, nothing
+abbrev pub IsTextLeft : List ℕ → List ℕ → List ℕ → ScriptError → Type 0
+IsTextLeft text before after (BadLine n) = (printed : List ℕ) × IsPrintedBefore text n printed × (after ≡ before ++ printed)
+IsTextLeft text before after Memory = after ≡ before
+
+-- the whole input was read and has no bad line; what it prints was written
+pub record IsPlayed (read left written after : Option (List ℕ)) : Type 0 where
   pub text : List ℕ
-  pub answers : List ℕ
+  pub printed : List ℕ
   pub is_read : Consumes read left text
   pub at_end : IsAtEnd left
-  pub is_bad : IsBadLine text n
-  pub are_answers : AreAnswersBefore text n answers
-  pub is_written : Appends written after answers
+  pub is_printed : IsPrinted text printed
+  pub is_written : Appends written after printed
+
+-- the whole input was read, and this is its first bad line; what the lines before it print was written
+pub record IsCutAt (read left written after : Option (List ℕ)) (n : ℕ) : Type 0 where
+  pub text : List ℕ
+  pub printed : List ℕ
+  pub is_read : Consumes read left text
+  pub at_end : IsAtEnd left
+  pub is_printed : IsPrintedBefore text n printed
+  pub is_written : Appends written after printed
 
 -- a fault that is a bad line is the input's first
 abbrev pub IsCutBy : (read left written after : Option (List ℕ)) → Fault → Type 0
@@ -88,8 +113,7 @@ IsCutBy read left written after (fault.BadLine n) = IsCutAt read left written af
 IsCutBy read left written after fault.Memory = Unit {0}
 IsCutBy read left written after fault.Stream = Unit {0}
 
--- the input has a bad line, the answers to the requests before it were written, and the line was
--- told
+-- the input has a bad line, what the lines before it print was written, and the line was told
 abbrev pub IsStopped : (read left written after faults told : Option (List ℕ)) → Type 0
 IsStopped read left written after faults told =
     (n : ℕ) × IsCutAt read left written after n × Appends faults told (fault_line (fault.BadLine n))

@@ -153,3 +153,52 @@ fn moves(rt: HostRuntime) -> Result<(), Fail> {
     assert!(rt; prints(rt.alloc(), &input, &output)?);
     Ok(())
 }
+
+// Two clients draw on one page.
+#[test]
+fn two_clients(rt: HostRuntime) -> Result<(), Fail> {
+    let input = [
+        "# Two clients draw on one page.",
+        "log",
+        "join",
+        "join",
+        "1 create 1:1 page 0:0 O",
+        "1 create 1:2 frame 1:1 O",
+        "1 create 1:3 shape 1:2 O",
+        "2 create 2:1 shape 1:1 O",
+        "1 set 1:2 name \"Buttons\"",
+        "2 set 2:1 fill [\"rgba\",4278190335]",
+        "2 set 2:1 points [\"list\",0,0,[\"list\",10,20]]",
+        "# The first client moves a frame into itself, and is refused; then the second one moves a shape out of it.",
+        "1 move 1:2 1:2 O",
+        "2 move 1:3 1:1 a",
+        "1 clear 1:2 name",
+        "1 delete 1:2",
+        "2 set 1:2 name \"gone\"",
+    ];
+    let output = [
+        "1 joined 1",
+        "2 joined 2",
+        "3 created 0:0 O",
+        "4 created 1:1 O",
+        "5 created 1:2 O",
+        "6 created 1:1 g",
+        "7 set",
+        "8 set",
+        "9 set",
+        "10 refused 6 Cycle stands 1:1 O",
+        "11 moved 1:1 a",
+        "12 set",
+        "13 removed 1:2",
+        "14 refused 3 Gone",
+        "version 14",
+        "0:0 document",
+        "1:1 page 0:0 O",
+        "1:3 shape 1:1 a",
+        "2:1 shape 1:1 g",
+        "  .fill [\"rgba\",4278190335]",
+        "  .points [\"list\",0,0,[\"list\",10,20]]",
+    ];
+    assert!(rt; prints(rt.alloc(), &input, &output)?);
+    Ok(())
+}

@@ -1,5 +1,6 @@
-//! `scene` reads the lines of a scene from standard input, plays its requests on a server, and
-//! prints an answer for each and a report of the document.
+//! `scene` reads the lines of a scene from standard input and plays them: the requests of a log on a
+//! server, or the events of a world of nodes. It prints an answer for each, and a report of the
+//! document or of the world.
 #![tactic(auto)]
 
 ghost use Rattle.std.specs.Prelude.{◌≡◌, ◌<◌, [], ℕ, length, IfOk, IfErr, OnOk};
@@ -7,16 +8,16 @@ ghost use Rattle.std.specs.Io.KnownBytes.{Appends};
 ghost use Rattle.canvas_lines.specs.Faults.{fault_line};
 ghost use Rattle.canvas_lines.specs.Spelling.{IsBadLine};
 ghost use Rattle.scene.specs.Results.{IsErrorOf, IsLeft, IsLogOf, IsReport};
-ghost use Rattle.scene.specs.Results.{IsCutBy, IsEnd, IsPlayed, IsRefused, IsRun, IsStatus, IsStopped};
+ghost use Rattle.scene.specs.Results.{IsCutBy, IsEnd, IsPlayed, IsRefused, IsRun, IsStatus, IsStopped, IsTextLeft, IsTextPlayed};
 ghost use Rattle.scene.specs.Runs.{IsFold, IsWhole};
 
 use canvas_lines::{Fault, Reading, one_bad_line, read_input, read_requests, tell, write_out};
+use canvas_script::{ScriptError, is_world, world_run};
 use canvas_server::Server;
-use std::alloc::{AllocError, Global};
+use std::alloc::Global;
 use std::env;
 use std::io::{self, ErrorKind, Read, Write};
 use std::process::ExitCode;
-use thiserror::Error;
 
 mod answers;
 mod play;
@@ -24,41 +25,6 @@ mod report;
 
 use play::play;
 use report::write_report;
-
-/// Why a log wasn't played to its end.
-#[derive(Clone, Copy, Debug, PartialEq, Eq, Error)]
-pub enum SceneError {
-    /// The first line that can't be read, counted from 1.
-    #[error("line {0}: cannot read")]
-    BadLine(u64),
-    /// An allocation was refused.
-    #[error("out of memory")]
-    Memory,
-}
-
-impl From<AllocError> for SceneError {
-    ghost use Rattle.scene.specs.Results.{IsNoMemory};
-
-    ghost from_gives = { λ _ e. IsNoMemory e };
-
-    fn from(_: AllocError) -> SceneError {
-        SceneError::Memory
-    }
-}
-
-impl From<SceneError> for Fault {
-    ghost use Rattle.std.specs.Prelude.{◌≡◌};
-    ghost use Rattle.scene.specs.Results.{fault_of};
-
-    ghost from_gives = { λ error fault. fault ≡ fault_of error };
-
-    fn from(error: SceneError) -> Fault {
-        match error {
-            SceneError::BadLine(line) => Fault::BadLine(line),
-            SceneError::Memory => Fault::Memory,
-        }
-    }
-}
 
 /// Plays the requests of an input on an empty server, and answers this server as it is then, with
 /// every entry kept. To `out` it adds a line that answers each request, then the version and a line
@@ -71,7 +37,7 @@ impl From<SceneError> for Fault {
 ///
 /// The errors: `BadLine`, where a line can't be read, and then the answers to the lines before it
 /// were added to `out`; `Memory`, only where memory is refused, and then `out` is as it was.
-pub fn log_run(alloc: Global, input: &[u8], out: &mut Vec<u8>) -> Result<Server, SceneError>
+pub fn log_run(alloc: Global, input: &[u8], out: &mut Vec<u8>) -> Result<Server, ScriptError>
     ensures log { IfOk result (λ run. IsLogOf input.now run.kept) }
     ensures fold { IfOk result (λ run. IsFold run.kept run.state) }
     ensures whole { IfOk result IsWhole }
@@ -88,7 +54,7 @@ pub fn log_run(alloc: Global, input: &[u8], out: &mut Vec<u8>) -> Result<Server,
     let run = play(alloc, requests, &mut text)?;
     if let Some(line) = bad_line {
         out.extend_from_slice(&text)?;
-        return Err(SceneError::BadLine(line));
+        return Err(ScriptError::BadLine(line));
     }
     write_report(alloc, run.version(), run.state().doc(), &mut text)?;
     out.extend_from_slice(&text)?;
@@ -144,9 +110,23 @@ fn play_input<R: Read, W: Write>(alloc: Global, input: &mut R, output: &mut W) -
 {
     let text = read_input(alloc, input)?;
     let mut out = Vec::new(alloc);
-    let played = log_run(alloc, &text, &mut out);
+    let played = play_text(alloc, &text, &mut out);
     write_out(output, &out)?;
     played?;
+    Ok(())
+}
+
+// Plays a text: a script of a world where the first line that isn't passed over is `world`, else a
+// log. Adds to `out` what it prints.
+fn play_text(alloc: Global, text: &[u8], out: &mut Vec<u8>) -> Result<(), ScriptError>
+    ensures played { OnOk result (IsTextPlayed text.now out.old.items out.new.items) }
+    ensures left { IfErr result (IsTextLeft text.now out.old.items out.new.items) }
+{
+    if is_world(text) {
+        world_run(alloc, text, out)?;
+    } else {
+        log_run(alloc, text, out)?;
+    }
     Ok(())
 }
 
@@ -216,3 +196,5 @@ fn main(rt: HostRuntime) -> ExitCode {
 mod example_tests;
 #[cfg(test)]
 mod tests;
+#[cfg(test)]
+mod world_tests;

@@ -34,6 +34,26 @@ fn played(alloc: Global, input: &[u8]) -> Printed {
     }
 }
 
+// Whether these lines, part by part, are answered by those, with status 0.
+pub(crate) fn prints_parts(
+    alloc: Global,
+    input: &[&[&str]],
+    output: &[&[&str]],
+) -> Result<bool, Fail> {
+    let printed = played(alloc, &joined_parts(alloc, input)?);
+    let output = joined_parts(alloc, output)?;
+    Ok(printed.status == 0 && printed.output == output && printed.faults.is_empty())
+}
+
+// The lines of all parts, each with its line feed.
+fn joined_parts(alloc: Global, parts: &[&[&str]]) -> Result<Vec<u8>, Fail> {
+    let mut text = Vec::new(alloc);
+    for part in parts {
+        text.extend_from_slice(&joined(alloc, part)?)?;
+    }
+    Ok(text)
+}
+
 // Whether these lines are answered by those, with status 0.
 pub(crate) fn prints(alloc: Global, input: &[&str], output: &[&str]) -> Result<bool, Fail> {
     let printed = played(alloc, &joined(alloc, input)?);
@@ -335,8 +355,6 @@ fn what_lies_below_goes_too(rt: HostRuntime) -> Result<(), Fail> {
     Ok(())
 }
 
-// The lines of `examples/first.scene` and of `examples/first.out`, which is what it prints. A test
-// reads no file, so they stand here again.
 // Whether a log adds its answers, and with them its report, to what there was.
 fn is_added(alloc: Global, input: &[&str], output: &[&str]) -> Result<bool, Fail> {
     let mut out = joined(alloc, &["before"])?;
