@@ -1,19 +1,21 @@
+-- Meant for the crates above too.
 pub mod Maps
 pub mod Searched
-pub mod Kept
-pub mod Copied
-pub mod Rooted
 pub mod Standing
-pub mod Edges
-pub mod Told
-pub mod Spotted
-pub mod Placing
-pub mod Walked
-pub mod Nearest
-pub mod Appended
 pub mod Without
-pub mod Revised
 pub mod Props
 pub mod Whole
-pub mod Known
 pub mod Laid
+-- For the calls of this crate alone.
+mod Kept
+mod Copied
+mod Rooted
+mod Edges
+mod Told
+mod Spotted
+mod Placing
+mod Walked
+mod Nearest
+mod Appended
+mod Revised
+mod Known

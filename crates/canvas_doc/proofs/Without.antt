@@ -19,6 +19,7 @@ stays ids q = not (list_any (same_id q) ids)
 get_without : (d : Doc) (ids : List ObjId) (q : ObjId) → map.get (without d ids) q ≡ cond (stays ids q) (map.get d q) None
 get_without d ids q = map.get-retain_keys d (stays ids) q (λ x tied. ap (stays ids) (sym (exact_ids q x tied)))
 
+-- none removed yet
 pub without_none : (d : Doc) → d ≡ without d []
 without_none d = map.same_map ids_total exact_ids d (without d []) (λ q. sym (get_without d [] q))
 
@@ -28,6 +29,7 @@ both true false x y = refl
 both false true x y = refl
 both false false x y = refl
 
+-- one more removed
 pub without_more : (d : Doc) (ids : List ObjId) (i : ℕ) (e : ObjId) → i < length ids → map.remove (without d (take i ids)) (get_or ids i e) ≡ without d (take (i + 1) ids)
 without_more d ids i e lt = map.same_map ids_total exact_ids _ _ (λ q.
     get_removed ids_total exact_ids (without d (take i ids)) (get_or ids i e) q

@@ -1,6 +1,5 @@
 // Lists of pairs in the order of their keys.
 ghost use Rattle.std.specs.Prelude.{◌≡◌, ◌↔◌, IsTrue, IfOk, IfErr, OnOk, OnErr, T};
-ghost use Rattle.std.specs.Option.{option_copied};
 ghost use Rattle.std.specs.FinMap as map;
 ghost use Rattle.std.specs.FinMap.Entries.{where_key};
 ghost use Rattle.std.specs.Ordering.{is_lt};
@@ -31,17 +30,6 @@ pub fn index_of<K: Ord, X>(pairs: &[(K, X)], key: &K) -> Result<usize, usize>
             ensures { result ≡ K.cmp pair.now.0 key.entry.now }
         { pair.0.cmp(key) },
     )
-}
-
-/// The value of the key, if it has a pair.
-pub fn value_of<'a, K: Ord, X>(pairs: &'a [(K, X)], key: &K) -> Option<&'a X>
-    requires { T (map.is_sorted K.cmp pairs.now) }
-    ensures { option_copied result ≡ map.find K.cmp key.now pairs.now }
-{
-    match index_of(pairs, key) {
-        Ok(at) => Some(&pairs[at].1),
-        Err(_) => None,
-    }
 }
 
 /// Gives the key this value, in its pair or in a new one. Where memory is refused, nothing has changed.

@@ -23,12 +23,9 @@ use Rattle.canvas_model.proofs.Trees.{below_live}
 use Rattle.canvas_doc.proofs.Maps.{differ, each_found, exact_ids, same_exact, same_or_differ}
 use Rattle.canvas_doc.proofs.Searched.{pair_at}
 use Rattle.canvas_judge.specs.Sound.{IsSoundAt}
-use Rattle.canvas_judge.proofs.Gathered.{few}
+use Rattle.canvas_judge.proofs.Gathered.{few, none_there}
 
 -- ---- all live objects are in the tree where as many lie below the root
-
-none_there : (q : ObjId) → Contains [] q → ⊥
-none_there q (k, lt, is) = omega arith
 
 -- ids that have all live objects among them are at least as many
 many : (ids : List ObjId) (d : Doc) → ((q : ObjId) → live d q ≡ true → Contains ids q) → finmap.len d ≤ length ids
