@@ -1,6 +1,7 @@
 -- What is answered a request, from what was found out of it.
 use Rattle.std.proofs.Common.{◌≡◌, inl, inr, ℕ, ◌+◌, ◌≤◌, ◌<◌, ◌==◌, ◌||◌, Bool, true, false, cond, not, Result, Ok, Err, refl, sym, ap, subst, ◌∙◌, arith}
 use Rattle.std.specs.Prelude.{nat_le, nat_lt}
+use Rattle.std.proofs.lemmas.Bool.{or_parts}
 use Rattle.std.proofs.lemmas.Bool.Decides.{nat_tests}
 use Rattle.canvas_model.specs.State.{joined, done, next}
 use Rattle.canvas_model.specs.Log.{What, Join, Edit, Entry, last_version}
@@ -16,16 +17,12 @@ use Rattle.canvas_server.specs.Answered.{Follows, IsJudged, IsNext, IsNextFor, L
 
 -- ---- room
 
-either : (a b : Bool) → (a || b) ≡ false → a ≡ false
-either true b is = is
-either false b is = refl
-
 less : (m n : ℕ) → (m == n) ≡ false → m ≤ n → m < n
 less m n is le = grind (arith, nat_tests)
 
 -- where there is room, a version is left
-room : (s : Served) (what : What) → has_no_room s what ≡ false → s.version ≤ last_version → s.version < last_version
-room s Join is le = less s.version last_version (either (s.version == last_version) (next s.state == 4294967295) is) le
+pub room : (s : Served) (what : What) → has_no_room s what ≡ false → s.version ≤ last_version → s.version < last_version
+room s Join is le = less s.version last_version (or_parts (s.version == last_version) (next s.state == 4294967295) is).0 le
 room s (Edit change) is le = less s.version last_version is le
 
 -- a test that would have refused did not

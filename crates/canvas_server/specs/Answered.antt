@@ -3,6 +3,9 @@ use Rattle.std.specs.Prelude.{◌≡◌, ◌⊎◌, ◌+◌, ◌<◌, ◌||◌, 
 use Rattle.canvas_model.specs.State.{State, joined, done, next}
 use Rattle.canvas_model.specs.Log.{What, Join, Edit, Entry, Fits, last_version}
 use Rattle.canvas_model.specs.Client.{Yields}
+use Rattle.canvas_model.specs.Document.{Doc}
+use Rattle.canvas_model.specs.Verdict.{Outcome}
+use Rattle.canvas_judge.specs.Choice.{ChoosesMiddle}
 use Rattle.canvas_server.specs.Asked.{Asked}
 use Rattle.canvas_server.specs.Served.{Served, accepted}
 use Rattle.canvas_server.specs.declared.taking.Looked.{Looked}
@@ -17,11 +20,16 @@ abbrev pub has_no_room : Served → What → Bool
 has_no_room s Join = (s.version == last_version) || (next s.state == 4294967295)
 has_no_room s (Edit change) = s.version == last_version
 
--- the entry is this request's, and may come next
-abbrev pub IsNextFor : State → Asked → Entry → Type 0
-IsNextFor s r e = (e.author ≡ r.author) × (e.seq ≡ r.seq) × (e.what ≡ r.what) × Fits s e
+-- an edit that gives an object a place gives it this server's choice of the free positions
+abbrev pub IsChosen : Doc → What → Outcome → Type 0
+IsChosen d Join outcome = Unit {0}
+IsChosen d (Edit change) outcome = ChoosesMiddle d change outcome
 
--- the answer is an entry of this request that may come next
+-- the entry is this request's, may come next, and is this server's choice
+abbrev pub IsNextFor : State → Asked → Entry → Type 0
+IsNextFor s r e = (e.author ≡ r.author) × (e.seq ≡ r.seq) × (e.what ≡ r.what) × Fits s e × IsChosen s.doc e.what e.outcome
+
+-- the answer is an entry of this request that may come next, with this server's choice of positions
 abbrev pub IsNext : {A : Type 0} → State → Asked → Result (Looked A) TakeError → Type 0
 IsNext s r (Ok (looked.Next e)) = IsNextFor s r e
 IsNext s r _ = ⊥
@@ -41,7 +49,7 @@ abbrev pub Looks : {A : Type 0} → Served → Asked → Result (Looked A) TakeE
 Looks s r (Err refusal.Memory) = Unit {0}
 Looks s r answer = LooksAs s r r.what answer
 
--- the request's entry is taken, any that may come next will do, and the answer is its version
+-- the request's entry is taken, as this server chooses it, and the answer is its version
 abbrev pub IsJudged : Served → Asked → Result Took TakeError → Served → Type 0
 IsJudged s r answer new = (e : Entry) × IsNextFor s.state r e × Yields (Ok (took.Judged (s.version + 1))) (accepted s e) answer new
 

@@ -43,13 +43,13 @@ pub enum Took {
 pub enum TakeError {
     /// The edit's client hasn't joined.
     #[error("the client hasn't joined")]
-    Stranger,
+    Stranger = 1,
     /// There are 2^62 entries; or it is a Join, and the next id is 4294967295.
     #[error("no entry more may come")]
-    Full,
+    Full = 2,
     /// Memory was refused.
     #[error("out of memory")]
-    Memory,
+    Memory = 3,
 }
 
 impl From<AllocError> for TakeError {
