@@ -1,12 +1,9 @@
 -- Documents of which one row, or some objects, were changed.
 use Rattle.std.proofs.Common.{◌≡◌, ℕ, ◌+◌, ◌<◌, Bool, true, false, cond, List, [], ◌∷◌, ◌++◌, length, take, get_or, Option, Some, None, refl, ap, sym, ◌∙◌}
-use Rattle.std.specs.Prelude.{◌||◌}
 use Rattle.std.specs.List.{list_any}
 use Rattle.std.specs.Option.{option_map}
-use Rattle.std.specs.FinMap.{same_map, get-remove}
 use Rattle.std.specs.FinMap as map
 use Rattle.std.proofs.lemmas.List.{take_more}
-use Rattle.std.proofs.lemmas.List.Folds.{list_any-append}
 use Rattle.canvas_model.specs.declared.ObjId.{ObjId}
 use Rattle.canvas_model.specs.declared.Kind.{Kind}
 use Rattle.canvas_model.specs.Ids.{root, same_id}
@@ -17,7 +14,8 @@ use Rattle.canvas_model.specs.Overlay.{lay, over}
 use Rattle.canvas_model.specs.View.{moves_it, sets_it, deletes_it, placed, valued, added}
 use Rattle.canvas_model.proofs.Overlay.{over-append}
 use Rattle.canvas_doc.proofs.Laid.{rewritten}
-use Rattle.canvas_model.proofs.Ids.{id_total, id_apart, get-without, dead_none}
+use Rattle.canvas_doc.proofs.Without.{without_more}
+use Rattle.canvas_model.proofs.Ids.{dead_none}
 
 module _ (d : Doc) (staying : List Change) (id : ObjId) where
   -- an edit that stays moves it
@@ -46,26 +44,7 @@ module _ (d : Doc) (staying : List Change) (id : ObjId) where
 
 -- one more object taken away
 pub one_more : (d n m : Doc) (ids : List ObjId) (i : ℕ) → i < length ids → n ≡ without d (take i ids) → m ≡ map.remove n (get_or ids i root) → m ≡ without d (take (i + 1) ids)
-one_more d n m ids i lt so_far now =
-    now ∙ ap (λ n. map.remove n (get_or ids i root)) so_far ∙ removed (get_or ids i root) ∙ ap (without d) (sym (take_more ids i root lt))
-  where
-    either : (a b : Bool) (x : Option Object) → cond b None (cond a None x) ≡ cond (a || (b || false)) None x
-    either true true x = refl
-    either true false x = refl
-    either false true x = refl
-    either false false x = refl
-
-    removed : (id : ObjId) → map.remove (without d (take i ids)) id ≡ without d (take i ids ++ id ∷ [])
-    removed id = same_map id_total id_apart _ _ (λ q.
-        get-remove id_total (without d (take i ids)) id q
-        ∙ ap (cond (same_id q id) None) (get-without d (take i ids) q)
-        ∙ either (list_any (same_id q) (take i ids)) (same_id q id) (map.get d q)
-        ∙ sym (ap (λ b. cond b None (map.get d q)) (list_any-append (same_id q) (take i ids) (id ∷ [])))
-        ∙ sym (get-without d (take i ids ++ id ∷ []) q))
-
--- none taken away yet
-pub none_yet : (d : Doc) → d ≡ without d []
-none_yet d = same_map id_total id_apart d (without d []) (λ q. sym (get-without d [] q))
+one_more d n m ids i lt so_far now = now ∙ ap (λ n. map.remove n (get_or ids i root)) so_far ∙ without_more d ids i root lt
 
 -- one more change laid over it
 pub laid_more : (d n m : Doc) (changes : List Change) (i : ℕ) (x : Change) → i < length changes → x ≡ get_or changes i x → n ≡ over d (take i changes) → m ≡ lay n x → m ≡ over d (take (i + 1) changes)

@@ -33,3 +33,8 @@ StaysUpright old message answer new = Unit {0}
 -- the message sends the i-th edit that waits, under the client's id and the edit's number
 abbrev pub IsWaiting : Client → ℕ → Message → Type 0
 IsWaiting client i message = (c : ℕ) × (change : Change) × (client.id ≡ Some c) × (nth client.waiting i ≡ Some change) × (message ≡ Sends c (client.acknowledged + i) change)
+
+-- unless the client took the message, nothing has changed
+abbrev pub ChangesOnlyWhereTook : Client → Received → Client → Type 0
+ChangesOnlyWhereTook old Took new = Unit {0}
+ChangesOnlyWhereTook old answer new = new ≡ old

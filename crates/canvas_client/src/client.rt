@@ -6,7 +6,7 @@ ghost use Rattle.canvas_model.specs.Receive.{Asks, Copies, IsNextEdit, Joins, Re
 ghost use Rattle.canvas_judge.specs.Seen.{seen_copy, seen_message};
 ghost use Rattle.canvas_client.specs.Follow.{CanFollow, LeavesRoot};
 ghost use Rattle.canvas_client.specs.Kept.{IsKept};
-ghost use Rattle.canvas_client.specs.Receives.{IsWaiting, ReceivesApart, StaysUpright, past, showing};
+ghost use Rattle.canvas_client.specs.Receives.{ChangesOnlyWhereTook, IsWaiting, ReceivesApart, StaysUpright, past, showing};
 ghost use Rattle.canvas_client.specs.Seen.{seen_received};
 
 use crate::Received;
@@ -158,7 +158,8 @@ impl<A: Allocator> Client<A> {
 
     // Takes an id, where it has none.
     fn receive_welcome(&mut self, id: u32) -> Received
-        ensures { Receives self.old (Welcome id) (seen_received result) self.new }
+        ensures receives { Receives self.old (Welcome id) (seen_received result) self.new }
+        ensures unchanged { ChangesOnlyWhereTook self.old (seen_received result) self.new }
     {
         if self.id.is_some() {
             return Received::Old;
@@ -187,13 +188,15 @@ impl<A: Allocator + Copy> Client<A> {
     /// Receives a message, and answers what it did with it. `Took`: a welcome while it has no id; the entry of the next version, where
     /// one of its own is the first edit that waits; a copy of a later version, whose `done` counts the edits that it knows to be judged
     /// and some of those that wait. An entry that gives the root a place, or removes it, which no server tells, is taken like every
-    /// other, but the view then takes something of it or nothing. Fails only where memory is refused, and then nothing has changed.
+    /// other, but the view then takes something of it or nothing. Any other answer than `Took` changes nothing. Fails only where
+    /// memory is refused, and then nothing has changed.
     pub fn receive<B: Allocator + Copy>(
         &mut self,
         message: &Message<B>,
     ) -> Result<Received, AllocError>
         ensures apart { IfOk result (λ answer. ReceivesApart self.old (seen_message message.now) (seen_received answer) self.new) }
         ensures receives { IfOk result (λ answer. CanFollow (seen_message message.now) → Receives self.old (seen_message message.now) (seen_received answer) self.new) }
+        ensures unchanged { IfOk result (λ answer. ChangesOnlyWhereTook self.old (seen_received answer) self.new) }
         ensures stands { IfOk result (λ answer. StaysUpright self.old (seen_message message.now) (seen_received answer) self.new) }
         ensures err { OnErr result (self.new ≡ self.old) }
     {
@@ -208,6 +211,7 @@ impl<A: Allocator + Copy> Client<A> {
     fn respond<B: Allocator + Copy>(&mut self, message: &Message<B>) -> Result<Received, AllocError>
         ensures apart { IfOk result (λ answer. ReceivesApart self.old (seen_message message.now) (seen_received answer) self.new) }
         ensures receives { IfOk result (λ answer. CanFollow (seen_message message.now) → Receives self.old (seen_message message.now) (seen_received answer) self.new) }
+        ensures unchanged { IfOk result (λ answer. ChangesOnlyWhereTook self.old (seen_received answer) self.new) }
         ensures err { OnErr result (self.new ≡ self.old) }
     {
         match message {
@@ -226,6 +230,7 @@ impl<A: Allocator + Copy> Client<A> {
     ) -> Result<Received, AllocError>
         ensures apart { IfOk result (λ answer. ReceivesApart self.old (Tells version entry.now) (seen_received answer) self.new) }
         ensures receives { IfOk result (λ answer. LeavesRoot entry.now → Receives self.old (Tells version entry.now) (seen_received answer) self.new) }
+        ensures unchanged { IfOk result (λ answer. ChangesOnlyWhereTook self.old (seen_received answer) self.new) }
         ensures err { OnErr result (self.new ≡ self.old) }
     {
         let Some(id) = self.id() else {
@@ -270,6 +275,7 @@ impl<A: Allocator + Copy> Client<A> {
         copy: &DocCopy<B>,
     ) -> Result<Received, AllocError>
         ensures receives { IfOk result (λ answer. Receives self.old (seen_copy copy.now) (seen_received answer) self.new) }
+        ensures unchanged { IfOk result (λ answer. ChangesOnlyWhereTook self.old (seen_received answer) self.new) }
         ensures err { OnErr result (self.new ≡ self.old) }
     {
         if self.id().is_none() {
