@@ -4,3 +4,5 @@ pub mod Taken
 pub mod Served
 pub mod Runs
 pub mod Synced
+pub mod Growth
+pub mod Trees

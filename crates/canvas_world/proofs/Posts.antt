@@ -2,6 +2,7 @@
 use Rattle.std.proofs.Common.{◌≡◌, ◌⊎◌, inl, inr, ℕ, zero, suc, ◌+◌, ◌-◌, ◌<◌, ◌≤◌, refl, sym, ap, subst, ◌∙◌, Bool, true, false, List, [], ◌∷◌, ◌++◌, length, take, drop, arith, length-append}
 use Rattle.std.specs.Prelude.{Option, Some, None, not, cond, is_some, ◌&&◌, ◌==◌, nat_lt, nat_le, slice_get}
 use Rattle.std.proofs.lemmas.Bool.Decides.{nat_tests}
+use Rattle.std.proofs.lemmas.Option.{slice_get_past}
 use Rattle.canvas_model.specs.State.{done}
 use Rattle.canvas_model.specs.Log.{Entry}
 use Rattle.canvas_model.specs.Client.{nth}
@@ -42,15 +43,10 @@ sends w k i n message is waits =
 pub sends_none : (w : World) (k i : ℕ) → node w k ≡ None → IsPost w (Send k i) None
 sends_none w k i none = at_none (node w k) w _ none
 
-past_end : {X : Type 0} (xs : List X) (i : ℕ) → length xs ≤ i → slice_get xs i ≡ None
-past_end [] i le = refl
-past_end (x ∷ xs) zero le = absurd (omega arith)
-past_end (x ∷ xs) (suc i) le = past_end xs i (omega arith)
-
 outside : {X : Type 0} (xs : List X) (i : ℕ) → (i ≡ 0) ⊎ (length xs < i) → nth xs i ≡ None
 outside xs zero out = refl
 outside xs (suc i) (inl e) = absurd (omega arith)
-outside xs (suc i) (inr lt) = past_end xs i (omega arith)
+outside xs (suc i) (inr lt) = slice_get_past xs i (omega arith)
 
 -- it has no such edit
 pub sends_nothing : (w : World) (k i : ℕ) (n : Node) → node w k ≡ Some n → (i ≡ 0) ⊎ (length n.client.waiting < i) → IsPost w (Send k i) None

@@ -1,6 +1,7 @@
 -- What the server makes of a message.
 use Rattle.std.proofs.Common.{◌≡◌, ◌≢◌, ℕ, ◌+◌, ◌<◌, ◌≤◌, refl, sym, ap, subst, ◌∙◌, Bool, true, false, List, length, arith}
 use Rattle.std.specs.Prelude.{Option, Some, None, Result, Ok, Err, IfOk, not, cond, ◌||◌, ◌==◌, nat_le, nat_lt}
+use Rattle.std.proofs.lemmas.Bool.{or_parts}
 use Rattle.canvas_model.specs.Change.{Change}
 use Rattle.canvas_model.specs.State.{joined, done}
 use Rattle.canvas_model.specs.Log.{What, Join, Edit, Entry, Fits, last_version}
@@ -109,12 +110,8 @@ fits_next A s r e (Edit change) l =
     let x = peel (has_no_room s (Edit change)) _ _ d.1 (λ h. absurd (cc)) in
     (x.1.3, x.0)
 
-or_left : (a b : Bool) → (a || b) ≡ false → a ≡ false
-or_left true b h = h
-or_left false b h = refl
-
 room : (s : Served) (what : What) → has_no_room s what ≡ false → s.version ≤ last_version → s.version < last_version
-room s Join none few = let e = eq_false s.version last_version (or_left _ _ none) in omega arith
+room s Join none few = let e = eq_false s.version last_version (or_parts _ _ none).0 in omega arith
 room s (Edit change) none few = let e = eq_false s.version last_version none in omega arith
 
 judged : {A : Type 0} (w : World) (s : Served) (m : ℕ) (letter : Letter) (r : Asked) (asker : ℕ) (result : Result (Looked A) TakeError) (j : Judging A) → s ≡ served_in w → length w.log ≤ last_version → nth w.letters m ≡ Some letter

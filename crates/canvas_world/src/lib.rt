@@ -10,11 +10,13 @@ ghost use Rattle.canvas_model.specs.Laws.{HasNoCycle, KeepsAcknowledged, NodesAg
 ghost use Rattle.canvas_world.specs.Running.{served_in};
 ghost use Rattle.canvas_world.specs.Seen.{seen_answer};
 ghost use Rattle.canvas_world.specs.Synced.{KeepsAllSynced, KeepsSynced};
+ghost use Rattle.canvas_world.specs.Trees.{NodesShowOneTree};
 
 use canvas_client::Client;
 use canvas_judge::Entry;
 use canvas_model::{every_good_world, every_run, every_step};
 use canvas_server::Server;
+use canvas_tree::one_tree;
 use std::alloc::{AllocError, Allocator, Global};
 use std::marker::Model;
 
@@ -132,10 +134,12 @@ impl<A: Allocator + Copy> World<A> {
         ensures good { IsGood self.now }
         ensures claims { HasClaims self.now }
         ensures agree { NodesAgree self.now }
+        ensures trees { NodesShowOneTree self.now }
         ensures no_cycle { HasNoCycle self.now }
         ensures kept { KeepsAcknowledged self.now }
     {
         every_good_world();
+        one_tree();
         let _ = &self.synced;
     }
 
@@ -169,6 +173,7 @@ impl<A: Allocator + Copy> World<A> {
         ensures claims { HasClaims self.new }
         ensures shows { ShowsOverlays self.new }
         ensures agree { NodesAgree self.new }
+        ensures trees { NodesShowOneTree self.new }
         ensures no_cycle { HasNoCycle self.new }
         ensures kept { KeepsAcknowledged self.new }
         ensures synced { KeepsSynced self.old self.new }
@@ -207,6 +212,7 @@ impl<A: Allocator + Copy> World<A> {
         ensures claims { IfOk result (λ p. HasClaims p.world) }
         ensures shows { IfOk result (λ p. ShowsOverlays p.world) }
         ensures agree { IfOk result (λ p. NodesAgree p.world) }
+        ensures trees { IfOk result (λ p. NodesShowOneTree p.world) }
         ensures no_cycle { IfOk result (λ p. HasNoCycle p.world) }
         ensures kept { IfOk result (λ p. KeepsAcknowledged p.world) }
         ensures synced { IfOk result (λ p. KeepsAllSynced p.world) }
