@@ -1,7 +1,8 @@
 -- No word has a blank, and no two words are one.
-use Rattle.std.proofs.Common.{◌≡◌, ◌&&◌, Bool, true, false, ℕ, zero, suc, List, [], ◌∷◌, refl, sym, ap, subst, ◌∙◌, arith}
+use Rattle.std.proofs.Common.{◌≡◌, ◌&&◌, Bool, true, ℕ, zero, suc, List, [], ◌∷◌, refl, sym, ap, subst, ◌∙◌, arith}
 use Rattle.std.specs.Prelude.{bytes_eq, codes, if◌then◌else◌}
 use Rattle.std.specs.List.{list_all}
+use Rattle.std.proofs.lemmas.Bool.{and_parts}
 use Rattle.canvas_model.specs.declared.ObjId.{ObjId}
 use Rattle.canvas_model.specs.declared.Kind.{Kind}
 use Rattle.canvas_model.specs.Document.{Name}
@@ -36,14 +37,10 @@ spelled_verb_blank word verb spelled = subst (Lacks 32) (sym spelled) (verb_blan
 pub spelled_count_blank : (word : List ℕ) (n : ℕ) → SpellsCount word n → Lacks 32 word
 spelled_count_blank word n spelled = count_lacks word n spelled.0 spelled.1
 
-second_holds : (a b : Bool) → a && b ≡ true → b ≡ true
-second_holds true b e = e
-second_holds false b e = absurd (let f : false ≡ true = e in cc)
-
 node_lacks : (s : List ℕ) → list_all is_node_byte s ≡ true → Lacks 32 s
 node_lacks [] e k lt = absurd (omega arith)
 node_lacks (b ∷ s) e zero lt = λ is. absurd (let bad : is_node_byte 32 && list_all is_node_byte s ≡ true = subst (λ b. is_node_byte b && list_all is_node_byte s ≡ true) is e in cc)
-node_lacks (b ∷ s) e (suc k) lt = node_lacks s (second_holds (is_node_byte b) (list_all is_node_byte s) e) k (omega arith)
+node_lacks (b ∷ s) e (suc k) lt = node_lacks s (and_parts (is_node_byte b) (list_all is_node_byte s) e).1 k (omega arith)
 
 pub spelled_node_blank : (word name : List ℕ) → SpellsNode word name → Lacks 32 word
 spelled_node_blank word name spelled = subst (Lacks 32) (sym spelled.1) (node_lacks name spelled.0.2)

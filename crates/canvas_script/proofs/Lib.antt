@@ -1,6 +1,7 @@
 pub mod Blanks
 pub mod Blocks
 pub mod Counts
+pub mod Entering
 pub mod Numbering
 pub mod Pairs
 pub mod Plays

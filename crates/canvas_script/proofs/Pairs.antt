@@ -8,9 +8,6 @@ use Rattle.canvas_lines.specs.declared.error.LineError.{LineError}
 use Rattle.canvas_lines.proofs.Unread.{passed, unread}
 use Rattle.canvas_script.specs.Words.{Spaced}
 
-spaced : (a b : List ℕ) → a ++ codes " " ++ b ≡ a ++ 32 ∷ b
-spaced a b = append_assoc a (32 ∷ []) b
-
 -- a fault that is no want of memory, and one that may be
 pub line_error : {X : Type 0} (P : X → Type 0) (e : LineError) → IsUnspelled P e → IsLineError P e
 line_error P e h = subst (IsLineError P) (sym h.0) h.1
@@ -27,7 +24,7 @@ err_of {T = T} (Err e) P Q part h = let r : Result T LineError = Err e in passed
 
 -- what was cut is spaced
 pub spaced_of : (IsFirst IsRest : List ℕ → Type 0) (text word rest : List ℕ) → IsCut 32 text word rest → IsFirst word → IsRest rest → Spaced text IsFirst IsRest
-spaced_of IsFirst IsRest text word rest cut first second = (word, rest, cut.parts ∙ sym (spaced word rest), first, second)
+spaced_of IsFirst IsRest text word rest cut first second = (word, rest, cut.parts ∙ sym (append_assoc word (32 ∷ []) rest), first, second)
 
 -- what is so spelled has two parts, the first of them without a blank
 pub record Shape {X Y Z : Type 0} (A : List ℕ → X → Type 0) (B : X → List ℕ → Y → Type 0) (Q : Z → Type 0) (text : List ℕ) : Type 0 where
@@ -36,14 +33,14 @@ pub record Shape {X Y Z : Type 0} (A : List ℕ → X → Type 0) (B : X → Lis
 
 module _ {X Y Z : Type 0} {A : List ℕ → X → Type 0} {B : X → List ℕ → Y → Type 0} {Q : Z → Type 0} {text : List ℕ} (shape : Shape A B Q text) where
   none_uncut : Lacks 32 text → (z : Z) → Q z → ⊥
-  none_uncut lacks z q = let p = shape.parts z q in let s = p.2 in uncut 32 text s.0 s.1 lacks (s.2 ∙ spaced s.0 s.1)
+  none_uncut lacks z q = let p = shape.parts z q in let s = p.2 in uncut 32 text s.0 s.1 lacks (s.2 ∙ append_assoc s.0 (32 ∷ []) s.1)
 
   module _ (word rest : List ℕ) (cut : IsCut 32 text word rest) where
     both : (z : Z) → Q z → (x : X) × (y : Y) × A word x × B x rest y
     both z q =
         let p = shape.parts z q in
         let s = p.2 in
-        let same = cut_is 32 text word rest s.0 s.1 cut (shape.blank s.0 p.0 s.3) (s.2 ∙ spaced s.0 s.1) in
+        let same = cut_is 32 text word rest s.0 s.1 cut (shape.blank s.0 p.0 s.3) (s.2 ∙ append_assoc s.0 (32 ∷ []) s.1) in
         (p.0, p.1, subst (λ word. A word p.0) (sym same.0) s.3, subst (λ rest. B p.0 rest p.1) (sym same.1) s.4)
 
     -- what can't be read of the rest can't be read of the whole

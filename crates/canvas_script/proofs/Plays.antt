@@ -1,10 +1,13 @@
 -- What items print, put together, and the run that it is.
 use Rattle.std.proofs.Common.{◌≡◌, ℕ, ◌+◌, ◌<◌, List, [], ◌∷◌, ◌++◌, length, take, map, get_or, refl, sym, ap, subst, ◌∙◌, append_assoc, append-nil}
 use Rattle.std.proofs.lemmas.List.{map_more}
-use Rattle.canvas_model.specs.World.{World, Run, nothing}
+use Rattle.canvas_model.specs.World.{World, Run, nothing, empty}
 use Rattle.canvas_model.specs.World as world
 use Rattle.canvas_script.specs.Script.{Item, Enters, Happens, ShowsServer, ShowsNode}
 use Rattle.canvas_script.specs.Plays.{Plays, Prints, no_more, and_then, AddsItem, AddsItems, events_of}
+use Rattle.canvas_script.specs.Reading.{InputSays}
+use Rattle.canvas_script.specs.Report.{AddsReport}
+use Rattle.canvas_script.specs.Results.{IsWorldReport}
 
 -- one item more
 prints_push : {names : List (List ℕ)} {w u v : World} {items : List Item} (text : List ℕ) (item : Item) (line : List ℕ) → Prints names w items text u → Plays names u item line v
@@ -35,3 +38,22 @@ printed_run (and_then {v = v} {item = ShowsNode k} {items = items} line text (sh
 
 pub added_run : (names : List (List ℕ)) (w u : World) (items : List Item) (before after : List ℕ) → AddsItems names w items before u after → Run w (events_of items) u
 added_run names w u items before after (text, prints, is) = printed_run prints
+
+-- what a whole script prints, and its report
+pub reported : (input : List ℕ) (names : List (List ℕ)) (items : List Item) (w : World) (start told text before after : List ℕ) → InputSays input names items → length names ≡ length w.nodes
+    → AddsItems names empty items start w told → start ≡ [] → AddsReport names w told text → after ≡ before ++ text → IsWorldReport input w before after
+reported input names items w start told text before after says named (answers, prints, told_is) none (report, reports, text_is) is = (
+  text,
+  record {
+    names = names;
+    items = items;
+    answers = answers;
+    report = report;
+    says = says;
+    prints = prints;
+    reports = reports;
+    named = named;
+    is = text_is ∙ ap (λ t. t ++ report) (told_is ∙ ap (λ t. t ++ answers) none);
+  },
+  is,
+)

@@ -1,5 +1,5 @@
 -- What a run of a script may answer.
-use Rattle.std.specs.Prelude.{◌≡◌, ℕ, ◌-◌, List, ◌++◌, take}
+use Rattle.std.specs.Prelude.{◌≡◌, ℕ, ◌-◌, List, ◌++◌, length, take}
 use Rattle.canvas_model.specs.World.{World, Run, empty}
 use Rattle.canvas_lines.specs.Lines.{lines_of}
 use Rattle.canvas_script.specs.declared.run.ScriptError.{ScriptError}
@@ -15,7 +15,7 @@ use Rattle.canvas_script.specs.Report.{IsReportText}
 abbrev pub IsWorldOf : List ℕ → World → Type 0
 IsWorldOf input w = (names : List (List ℕ)) × (items : List Item) × InputSays input names items × Run empty (events_of items) w
 
--- this is what the items that the input asks for print, and then the report of the world that they lead to
+-- this is what the items that the input asks for print, and then the report of the world that they lead to; each node has a name
 pub record IsPrintedBy (input : List ℕ) (w : World) (printed : List ℕ) : Type 0 where
   pub names : List (List ℕ)
   pub items : List Item
@@ -24,6 +24,7 @@ pub record IsPrintedBy (input : List ℕ) (w : World) (printed : List ℕ) : Typ
   pub says : InputSays input names items
   pub prints : Prints names empty items answers w
   pub reports : IsReportText names w report
+  pub named : length names ≡ length w.nodes
   pub is : printed ≡ answers ++ report
 
 -- the text got that

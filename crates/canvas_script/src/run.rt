@@ -4,12 +4,15 @@ ghost use Rattle.canvas_model.specs.Good.{HasClaims, IsGood, ShowsOverlays};
 ghost use Rattle.canvas_model.specs.Laws.{HasNoCycle, KeepsAcknowledged, NodesAgree};
 ghost use Rattle.canvas_script.specs.Reading.{IsBadScriptLine};
 ghost use Rattle.canvas_script.specs.Results.{IsErrorOf, IsLeft, IsWorldOf, IsWorldReport};
+ghost use Rattle.canvas_world.specs.Synced.{KeepsAllSynced};
+ghost use Rattle.canvas_world.specs.Trees.{NodesShowOneTree};
 
 use crate::play::play_items;
 use crate::report::write_report;
 use crate::script::{Script, one_bad_script_line, read_script};
 use canvas_lines::Fault;
-use canvas_model::every_run;
+use canvas_model::{every_run, every_step};
+use canvas_tree::one_tree;
 use canvas_world::World;
 use std::alloc::{AllocError, Global};
 use thiserror::Error;
@@ -66,13 +69,17 @@ pub fn world_run(alloc: Global, input: &[u8], out: &mut Vec<u8>) -> Result<World
     ensures claims { IfOk result HasClaims }
     ensures shows { IfOk result ShowsOverlays }
     ensures agree { IfOk result NodesAgree }
+    ensures trees { IfOk result NodesShowOneTree }
     ensures no_cycle { IfOk result HasNoCycle }
     ensures kept { IfOk result KeepsAcknowledged }
+    ensures synced { IfOk result KeepsAllSynced }
     ensures error { IfErr result (IsErrorOf input.now) }
     ensures left { IfErr result (IsLeft input.now out.old.items out.new.items) }
     ensures readable { IfOk result (λ _. (n : ℕ) → IsBadScriptLine input.now n → ⊥) }
 {
     every_run();
+    every_step();
+    one_tree();
     // An input that says something has no bad line.
     one_bad_script_line();
     let Script {
