@@ -1,309 +1,331 @@
-// What each event answers, and what can't happen.
-use canvas_client::{EditError, EditRequest, Received};
-use canvas_doc::{Kind, ObjId};
-use canvas_world::{Answer, Event, EventVariant, World};
+//! What each event answers, and what can't happen.
+use crate::looks::Line::{Do, See};
+use crate::looks::{Look, Story, first_wrong};
+use crate::openings::{LEFT, Opening, RIGHT};
+use crate::steps::Step::{
+    AddNode, AskJoin, Checkpoint, Copy, Deliver, Edit, Publish, Restart, Send, Sync, Take, Tell,
+    Welcome,
+};
+use crate::steps::Wish;
+use canvas_client::Received;
+use canvas_world::Answer;
 use std::alloc::{AllocError, Global};
 use std::test::Fail;
 
-// A world whose one node has the id 1: message 1 asked for it, and message 2 gave it.
-fn opened(alloc: Global) -> Result<World<Global>, AllocError> {
-    let events = [
-        Event::new(EventVariant::AddNode),
-        Event::new(EventVariant::AskJoin(1)),
-        Event::new(EventVariant::Take(1)),
-        Event::new(EventVariant::Sync),
-        Event::new(EventVariant::Publish),
-        Event::new(EventVariant::Welcome(1)),
-        Event::new(EventVariant::Deliver(2)),
-    ];
-    let played = World::play(alloc, &events)?;
-    Ok(played.world)
+// What there is none of, 0 and past the last. After `DRAWN` there are 2 nodes, 9 messages and 5 versions.
+const ABSENT: [Story; 4] = [
+    Story {
+        name: "nothing is there",
+        opening: Opening::Empty,
+        lines: &[
+            Do(AskJoin(1), Answer::Nothing),
+            Do(Edit(1, Wish::Delete(LEFT)), Answer::Nothing),
+            Do(Send(1, 1), Answer::Nothing),
+            Do(Take(1), Answer::Nothing),
+            Do(Sync, Answer::SyncedIs(0)),
+            Do(Publish, Answer::PublishedIs(0)),
+            Do(Welcome(1), Answer::Nothing),
+            Do(Tell(1, 1), Answer::Nothing),
+            Do(Copy(1), Answer::Nothing),
+            Do(Deliver(1), Answer::Nothing),
+            Do(Checkpoint, Answer::FloorIs(0)),
+            Do(Restart(1), Answer::Nothing),
+            Do(Restart(0), Answer::VersionIs(0)),
+        ],
+    },
+    Story {
+        name: "a node that isn't there",
+        opening: Opening::Drawn,
+        lines: &[
+            Do(AskJoin(0), Answer::Nothing),
+            Do(AskJoin(3), Answer::Nothing),
+            Do(Edit(0, Wish::Delete(LEFT)), Answer::Nothing),
+            Do(Edit(3, Wish::Delete(LEFT)), Answer::Nothing),
+            Do(Send(0, 1), Answer::Nothing),
+            Do(Send(3, 1), Answer::Nothing),
+            Do(Tell(5, 0), Answer::Nothing),
+            Do(Tell(5, 3), Answer::Nothing),
+            Do(Copy(0), Answer::Nothing),
+            Do(Copy(3), Answer::Nothing),
+            Do(Copy(18446744073709551615), Answer::Nothing),
+            Do(AddNode, Answer::NodeIs(3)),
+        ],
+    },
+    Story {
+        name: "a message that isn't there",
+        opening: Opening::Drawn,
+        lines: &[
+            Do(Take(0), Answer::Nothing),
+            Do(Take(10), Answer::Nothing),
+            Do(Take(18446744073709551615), Answer::Nothing),
+            Do(Deliver(0), Answer::Nothing),
+            Do(Deliver(10), Answer::Nothing),
+            Do(Deliver(18446744073709551615), Answer::Nothing),
+            Do(Tell(5, 1), Answer::MessageIs(10)),
+        ],
+    },
+    Story {
+        name: "a version that isn't there",
+        opening: Opening::Drawn,
+        lines: &[
+            Do(Welcome(0), Answer::Nothing),
+            Do(Welcome(6), Answer::Nothing),
+            Do(Tell(0, 1), Answer::Nothing),
+            Do(Tell(6, 1), Answer::Nothing),
+            Do(Tell(18446744073709551615, 1), Answer::Nothing),
+            Do(Restart(0), Answer::Nothing),
+            Do(Restart(4), Answer::Nothing),
+            Do(Restart(6), Answer::Nothing),
+            Do(Restart(5), Answer::VersionIs(5)),
+            Do(Copy(1), Answer::MessageIs(10)),
+        ],
+    },
+];
+
+// Messages that were sent to somebody else, and entries that gave no id.
+const ELSEWHERE: [Story; 3] = [
+    Story {
+        name: "a message taken that is the server's own",
+        opening: Opening::Drawn,
+        lines: &[
+            Do(Tell(5, 1), Answer::MessageIs(10)),
+            Do(Take(3), Answer::Nothing),
+            Do(Take(8), Answer::Nothing),
+            Do(Take(10), Answer::Nothing),
+        ],
+    },
+    Story {
+        name: "a message delivered that was sent to the server",
+        opening: Opening::Drawn,
+        lines: &[
+            Do(Deliver(1), Answer::Nothing),
+            Do(Deliver(5), Answer::Nothing),
+        ],
+    },
+    Story {
+        name: "a welcome for an entry that is no join",
+        opening: Opening::Drawn,
+        lines: &[
+            Do(Welcome(3), Answer::Nothing),
+            Do(Welcome(2), Answer::MessageIs(10)),
+        ],
+    },
+];
+
+// What is told only once it is published, and no more once it was passed by a checkpoint.
+const UNPUBLISHED: [Story; 3] = [
+    Story {
+        name: "an unpublished join",
+        opening: Opening::Drawn,
+        lines: &[
+            Do(AddNode, Answer::NodeIs(3)),
+            Do(AskJoin(3), Answer::MessageIs(10)),
+            Do(Take(10), Answer::Judged(6)),
+            Do(Welcome(6), Answer::Nothing),
+            Do(Tell(6, 1), Answer::Nothing),
+            Do(Copy(1), Answer::Nothing),
+            Do(Checkpoint, Answer::Nothing),
+            Do(Sync, Answer::SyncedIs(6)),
+            Do(Welcome(6), Answer::Nothing),
+            Do(Tell(6, 1), Answer::Nothing),
+            Do(Copy(1), Answer::Nothing),
+            Do(Checkpoint, Answer::Nothing),
+            Do(Publish, Answer::PublishedIs(6)),
+            Do(Welcome(6), Answer::MessageIs(11)),
+            Do(Tell(6, 1), Answer::MessageIs(12)),
+            Do(Copy(1), Answer::MessageIs(13)),
+            Do(Checkpoint, Answer::FloorIs(6)),
+        ],
+    },
+    Story {
+        name: "an unpublished edit",
+        opening: Opening::Drawn,
+        lines: &[
+            Do(Edit(2, Wish::Delete(LEFT)), Answer::EditIs(1)),
+            Do(Send(2, 1), Answer::MessageIs(10)),
+            Do(Take(10), Answer::Judged(6)),
+            Do(Publish, Answer::PublishedIs(5)),
+            Do(Tell(5, 1), Answer::MessageIs(11)),
+            Do(Tell(6, 1), Answer::Nothing),
+            Do(Copy(2), Answer::Nothing),
+            Do(Sync, Answer::SyncedIs(6)),
+            Do(Publish, Answer::PublishedIs(6)),
+            Do(Tell(6, 1), Answer::MessageIs(12)),
+        ],
+    },
+    Story {
+        name: "what a checkpoint passed",
+        opening: Opening::Drawn,
+        lines: &[
+            Do(Tell(5, 1), Answer::MessageIs(10)),
+            Do(Checkpoint, Answer::FloorIs(5)),
+            Do(Tell(5, 1), Answer::Nothing),
+            Do(Welcome(2), Answer::MessageIs(11)),
+            Do(Copy(1), Answer::MessageIs(12)),
+        ],
+    },
+];
+
+// Joins: once, again, twice from one message.
+const JOINS: [Story; 4] = [
+    Story {
+        name: "a node that has an id asks for none",
+        opening: Opening::Joined,
+        lines: &[
+            Do(AskJoin(1), Answer::Nothing),
+            Do(Deliver(2), Answer::Delivered(Received::Old)),
+            See(Look::Id(1, Some(1))),
+        ],
+    },
+    Story {
+        name: "a second join of one node",
+        opening: Opening::Joined,
+        lines: &[
+            Do(AddNode, Answer::NodeIs(2)),
+            Do(AskJoin(2), Answer::MessageIs(3)),
+            Do(AskJoin(2), Answer::MessageIs(4)),
+            Do(Take(3), Answer::Judged(2)),
+            Do(Take(4), Answer::Judged(3)),
+            Do(Sync, Answer::SyncedIs(3)),
+            Do(Publish, Answer::PublishedIs(3)),
+            Do(Welcome(2), Answer::MessageIs(5)),
+            Do(Welcome(3), Answer::MessageIs(6)),
+            Do(Deliver(6), Answer::Delivered(Received::Took)),
+            Do(Deliver(5), Answer::Delivered(Received::Old)),
+            See(Look::Id(2, Some(3))),
+            Do(AskJoin(2), Answer::Nothing),
+        ],
+    },
+    Story {
+        name: "two joins taken from one message",
+        opening: Opening::Joined,
+        lines: &[
+            Do(AddNode, Answer::NodeIs(2)),
+            Do(AskJoin(2), Answer::MessageIs(3)),
+            Do(Take(3), Answer::Judged(2)),
+            Do(Take(1), Answer::Judged(3)),
+            Do(Take(3), Answer::Judged(4)),
+            Do(Sync, Answer::SyncedIs(4)),
+            Do(Publish, Answer::PublishedIs(4)),
+            Do(Welcome(3), Answer::MessageIs(4)),
+            Do(Welcome(4), Answer::MessageIs(5)),
+            Do(Deliver(4), Answer::Delivered(Received::Old)),
+            Do(Deliver(5), Answer::Delivered(Received::Took)),
+            See(Look::Id(1, Some(1))),
+            See(Look::Id(2, Some(4))),
+        ],
+    },
+    Story {
+        name: "a node without an id",
+        opening: Opening::Drawn,
+        lines: &[
+            Do(AddNode, Answer::NodeIs(3)),
+            Do(Copy(3), Answer::Nothing),
+            Do(Send(3, 1), Answer::Nothing),
+            Do(Tell(1, 3), Answer::MessageIs(10)),
+            Do(Deliver(10), Answer::Delivered(Received::NotForMe)),
+            See(Look::Id(3, None)),
+        ],
+    },
+];
+
+// Edits that wait, and what comes again or too early.
+const IN_TURN: [Story; 3] = [
+    Story {
+        name: "a send past the last edit that waits",
+        opening: Opening::Drawn,
+        lines: &[
+            Do(Send(1, 1), Answer::Nothing),
+            Do(Edit(1, Wish::Set(LEFT, 7)), Answer::EditIs(4)),
+            Do(Send(1, 0), Answer::Nothing),
+            Do(Send(1, 2), Answer::Nothing),
+            Do(Send(1, 18446744073709551615), Answer::Nothing),
+            Do(Send(2, 1), Answer::Nothing),
+            Do(Send(1, 1), Answer::MessageIs(10)),
+        ],
+    },
+    Story {
+        name: "a gap and a repeat",
+        opening: Opening::Drawn,
+        lines: &[
+            Do(Edit(2, Wish::Set(LEFT, 7)), Answer::EditIs(1)),
+            Do(Edit(2, Wish::Set(RIGHT, 8)), Answer::EditIs(2)),
+            Do(Edit(2, Wish::Delete(RIGHT)), Answer::EditIs(3)),
+            Do(Send(2, 3), Answer::MessageIs(10)),
+            Do(Send(2, 2), Answer::MessageIs(11)),
+            Do(Send(2, 1), Answer::MessageIs(12)),
+            Do(Take(10), Answer::Gap),
+            Do(Take(11), Answer::Gap),
+            Do(Take(12), Answer::Judged(6)),
+            Do(Take(12), Answer::Repeat),
+            Do(Take(10), Answer::Gap),
+            Do(Take(11), Answer::Judged(7)),
+            Do(Take(12), Answer::Repeat),
+            Do(Take(10), Answer::Judged(8)),
+            // The last two are lost.
+            Do(Restart(6), Answer::VersionIs(6)),
+            Do(Take(10), Answer::Gap),
+            Do(Take(12), Answer::Repeat),
+            Do(Take(11), Answer::Judged(7)),
+            See(Look::Waiting(2, 3)),
+        ],
+    },
+    Story {
+        name: "an entry that is ahead, and one that is old",
+        opening: Opening::Drawn,
+        lines: &[
+            Do(Edit(1, Wish::Set(LEFT, 7)), Answer::EditIs(4)),
+            Do(Edit(1, Wish::Delete(RIGHT)), Answer::EditIs(5)),
+            Do(Send(1, 1), Answer::MessageIs(10)),
+            Do(Send(1, 2), Answer::MessageIs(11)),
+            Do(Take(10), Answer::Judged(6)),
+            Do(Take(11), Answer::Judged(7)),
+            Do(Sync, Answer::SyncedIs(7)),
+            Do(Publish, Answer::PublishedIs(7)),
+            Do(Tell(6, 1), Answer::MessageIs(12)),
+            Do(Tell(7, 1), Answer::MessageIs(13)),
+            Do(Deliver(13), Answer::Delivered(Received::Ahead)),
+            Do(Deliver(12), Answer::Delivered(Received::Took)),
+            See(Look::Waiting(1, 1)),
+            Do(Deliver(12), Answer::Delivered(Received::Old)),
+            Do(Deliver(8), Answer::Delivered(Received::Old)),
+            Do(Deliver(13), Answer::Delivered(Received::Took)),
+            See(Look::Waiting(1, 0)),
+        ],
+    },
+];
+
+fn absent(alloc: Global) -> Result<Option<(&'static str, usize)>, AllocError> {
+    first_wrong(alloc, &ABSENT)
 }
 
-// A new page.
-fn new_page() -> EventVariant<Global> {
-    EventVariant::Edit(1, EditRequest::create(Kind::Page, ObjId::ROOT, None))
+fn elsewhere(alloc: Global) -> Result<Option<(&'static str, usize)>, AllocError> {
+    first_wrong(alloc, &ELSEWHERE)
 }
 
-// The deletion of the root.
-fn without_root() -> EventVariant<Global> {
-    EventVariant::Edit(1, EditRequest::delete(ObjId::ROOT))
+fn unpublished(alloc: Global) -> Result<Option<(&'static str, usize)>, AllocError> {
+    first_wrong(alloc, &UNPUBLISHED)
 }
 
-// What the event answers there.
-fn answer(alloc: Global, event: EventVariant<Global>) -> Result<Answer, AllocError> {
-    let mut world = opened(alloc)?;
-    world.step(&Event::new(event))
+fn joins(alloc: Global) -> Result<Option<(&'static str, usize)>, AllocError> {
+    first_wrong(alloc, &JOINS)
+}
+
+fn in_turn(alloc: Global) -> Result<Option<(&'static str, usize)>, AllocError> {
+    first_wrong(alloc, &IN_TURN)
 }
 
 #[test]
-fn nodes(rt: HostRuntime) -> Result<(), Fail> {
-    assert_eq!(rt;
-        answer(rt.alloc(), EventVariant::AddNode)?,
-        Answer::NodeIs(2)
-    );
-    assert_eq!(rt;
-        answer(rt.alloc(), EventVariant::AskJoin(1))?,
-        Answer::Nothing
-    );
-    assert_eq!(rt;
-        answer(rt.alloc(), EventVariant::AskJoin(2))?,
-        Answer::Nothing
-    );
-    assert_eq!(rt;
-        answer(rt.alloc(), EventVariant::Send(1, 1))?,
-        Answer::Nothing
-    );
-    assert_eq!(rt;
-        answer(rt.alloc(), EventVariant::Send(2, 1))?,
-        Answer::Nothing
-    );
+fn what_is_not_there(rt: HostRuntime) -> Result<(), Fail> {
+    assert_eq!(rt; absent(rt.alloc())?, None);
+    assert_eq!(rt; elsewhere(rt.alloc())?, None);
+    assert_eq!(rt; unpublished(rt.alloc())?, None);
     Ok(())
 }
 
 #[test]
-fn edits(rt: HostRuntime) -> Result<(), Fail> {
-    assert_eq!(rt; answer(rt.alloc(), new_page())?, Answer::EditIs(1));
-    assert_eq!(rt;
-        answer(rt.alloc(), without_root())?,
-        Answer::RefusedEdit(EditError::IsRoot)
-    );
-    Ok(())
-}
-
-// The server's own message isn't taken; a second join is taken from one message.
-#[test]
-fn takes(rt: HostRuntime) -> Result<(), Fail> {
-    assert_eq!(rt; answer(rt.alloc(), EventVariant::Take(0))?, Answer::Nothing);
-    assert_eq!(rt;
-        answer(rt.alloc(), EventVariant::Take(1))?,
-        Answer::Judged(2)
-    );
-    assert_eq!(rt; answer(rt.alloc(), EventVariant::Take(2))?, Answer::Nothing);
-    assert_eq!(rt; answer(rt.alloc(), EventVariant::Take(3))?, Answer::Nothing);
-    Ok(())
-}
-
-// What was sent to the server isn't delivered.
-#[test]
-fn deliveries(rt: HostRuntime) -> Result<(), Fail> {
-    assert_eq!(rt;
-        answer(rt.alloc(), EventVariant::Deliver(0))?,
-        Answer::Nothing
-    );
-    assert_eq!(rt;
-        answer(rt.alloc(), EventVariant::Deliver(1))?,
-        Answer::Nothing
-    );
-    assert_eq!(rt;
-        answer(rt.alloc(), EventVariant::Deliver(2))?,
-        Answer::Delivered(Received::Old)
-    );
-    assert_eq!(rt;
-        answer(rt.alloc(), EventVariant::Deliver(3))?,
-        Answer::Nothing
-    );
-    Ok(())
-}
-
-#[test]
-fn sent_by_the_server(rt: HostRuntime) -> Result<(), Fail> {
-    assert_eq!(rt;
-        answer(rt.alloc(), EventVariant::Welcome(1))?,
-        Answer::MessageIs(3)
-    );
-    assert_eq!(rt;
-        answer(rt.alloc(), EventVariant::Welcome(2))?,
-        Answer::Nothing
-    );
-    assert_eq!(rt;
-        answer(rt.alloc(), EventVariant::Tell(1, 1))?,
-        Answer::MessageIs(3)
-    );
-    assert_eq!(rt;
-        answer(rt.alloc(), EventVariant::Tell(0, 1))?,
-        Answer::Nothing
-    );
-    assert_eq!(rt;
-        answer(rt.alloc(), EventVariant::Tell(2, 1))?,
-        Answer::Nothing
-    );
-    assert_eq!(rt;
-        answer(rt.alloc(), EventVariant::Tell(1, 2))?,
-        Answer::Nothing
-    );
-    assert_eq!(rt;
-        answer(rt.alloc(), EventVariant::Copy(1))?,
-        Answer::MessageIs(3)
-    );
-    assert_eq!(rt; answer(rt.alloc(), EventVariant::Copy(2))?, Answer::Nothing);
-    Ok(())
-}
-
-// The server starts again with no fewer entries than are synced, and no more than there are.
-#[test]
-fn counts(rt: HostRuntime) -> Result<(), Fail> {
-    assert_eq!(rt;
-        answer(rt.alloc(), EventVariant::Sync)?,
-        Answer::SyncedIs(1)
-    );
-    assert_eq!(rt;
-        answer(rt.alloc(), EventVariant::Publish)?,
-        Answer::PublishedIs(1)
-    );
-    assert_eq!(rt;
-        answer(rt.alloc(), EventVariant::Checkpoint)?,
-        Answer::FloorIs(1)
-    );
-    assert_eq!(rt;
-        answer(rt.alloc(), EventVariant::Restart(0))?,
-        Answer::Nothing
-    );
-    assert_eq!(rt;
-        answer(rt.alloc(), EventVariant::Restart(1))?,
-        Answer::VersionIs(1)
-    );
-    assert_eq!(rt;
-        answer(rt.alloc(), EventVariant::Restart(2))?,
-        Answer::Nothing
-    );
-    Ok(())
-}
-
-// What the event answers where node 1 has made two edits and sent both, the second in message 3 and the first in message 4, and the
-// server has taken the latter.
-fn answer_later(alloc: Global, event: EventVariant<Global>) -> Result<Answer, AllocError> {
-    let mut world = opened(alloc)?;
-    let events = [
-        Event::new(new_page()),
-        Event::new(new_page()),
-        Event::new(EventVariant::Send(1, 2)),
-        Event::new(EventVariant::Send(1, 1)),
-        Event::new(EventVariant::Take(4)),
-    ];
-    world.advance(&events);
-    world.step(&Event::new(event))
-}
-
-// What the event answers then, where the server has published its entry too.
-fn answer_published(alloc: Global, event: EventVariant<Global>) -> Result<Answer, AllocError> {
-    let mut world = opened(alloc)?;
-    let events = [
-        Event::new(new_page()),
-        Event::new(EventVariant::Send(1, 1)),
-        Event::new(EventVariant::Take(3)),
-        Event::new(EventVariant::Sync),
-        Event::new(EventVariant::Publish),
-    ];
-    world.advance(&events);
-    world.step(&Event::new(event))
-}
-
-// Nothing is told, copied or passed by a checkpoint while it is unpublished.
-#[test]
-fn unpublished(rt: HostRuntime) -> Result<(), Fail> {
-    assert_eq!(rt;
-        answer_later(rt.alloc(), EventVariant::Take(3))?,
-        Answer::Judged(3)
-    );
-    assert_eq!(rt;
-        answer_later(rt.alloc(), EventVariant::Take(4))?,
-        Answer::Repeat
-    );
-    assert_eq!(rt;
-        answer_later(rt.alloc(), EventVariant::Send(1, 2))?,
-        Answer::MessageIs(5)
-    );
-    assert_eq!(rt;
-        answer_later(rt.alloc(), EventVariant::Send(1, 3))?,
-        Answer::Nothing
-    );
-    assert_eq!(rt;
-        answer_later(rt.alloc(), EventVariant::Tell(2, 1))?,
-        Answer::Nothing
-    );
-    assert_eq!(rt;
-        answer_later(rt.alloc(), EventVariant::Copy(1))?,
-        Answer::Nothing
-    );
-    assert_eq!(rt;
-        answer_later(rt.alloc(), EventVariant::Checkpoint)?,
-        Answer::Nothing
-    );
-    assert_eq!(rt;
-        answer_later(rt.alloc(), EventVariant::Restart(1))?,
-        Answer::VersionIs(1)
-    );
-    assert_eq!(rt;
-        answer_later(rt.alloc(), EventVariant::Restart(2))?,
-        Answer::VersionIs(2)
-    );
-    Ok(())
-}
-
-// An entry that is no join welcomes nobody.
-#[test]
-fn published(rt: HostRuntime) -> Result<(), Fail> {
-    assert_eq!(rt;
-        answer_published(rt.alloc(), EventVariant::Welcome(2))?,
-        Answer::Nothing
-    );
-    assert_eq!(rt;
-        answer_published(rt.alloc(), EventVariant::Tell(2, 1))?,
-        Answer::MessageIs(4)
-    );
-    assert_eq!(rt;
-        answer_published(rt.alloc(), EventVariant::Copy(1))?,
-        Answer::MessageIs(4)
-    );
-    assert_eq!(rt;
-        answer_published(rt.alloc(), EventVariant::Checkpoint)?,
-        Answer::FloorIs(2)
-    );
-    Ok(())
-}
-
-// What the server answers an edit whose forerunner it hasn't taken.
-fn answer_after_gap(alloc: Global) -> Result<Answer, AllocError> {
-    let mut world = opened(alloc)?;
-    let events = [
-        Event::new(new_page()),
-        Event::new(new_page()),
-        Event::new(EventVariant::Send(1, 2)),
-    ];
-    world.advance(&events);
-    world.step(&Event::new(EventVariant::Take(3)))
-}
-
-// What a tell answers where a checkpoint passed the entry.
-fn answer_past_floor(alloc: Global) -> Result<Answer, AllocError> {
-    let mut world = opened(alloc)?;
-    world.step(&Event::new(EventVariant::Checkpoint))?;
-    world.step(&Event::new(EventVariant::Tell(1, 1)))
-}
-
-// What a node answers an entry two versions ahead.
-fn answer_ahead(alloc: Global) -> Result<Answer, AllocError> {
-    let mut world = opened(alloc)?;
-    let events = [
-        Event::new(new_page()),
-        Event::new(EventVariant::Send(1, 1)),
-        Event::new(EventVariant::Take(3)),
-        Event::new(EventVariant::Sync),
-        Event::new(EventVariant::Publish),
-        Event::new(EventVariant::Tell(2, 1)),
-    ];
-    world.advance(&events);
-    world.step(&Event::new(EventVariant::Deliver(4)))
-}
-
-#[test]
-fn out_of_order(rt: HostRuntime) -> Result<(), Fail> {
-    assert_eq!(rt; answer_after_gap(rt.alloc())?, Answer::Gap);
-    assert_eq!(rt; answer_past_floor(rt.alloc())?, Answer::Nothing);
-    assert_eq!(rt;
-        answer_ahead(rt.alloc())?,
-        Answer::Delivered(Received::Ahead)
-    );
+fn once_and_again(rt: HostRuntime) -> Result<(), Fail> {
+    assert_eq!(rt; joins(rt.alloc())?, None);
+    assert_eq!(rt; in_turn(rt.alloc())?, None);
     Ok(())
 }
