@@ -454,3 +454,165 @@ fn gap_and_repeat(rt: HostRuntime) -> Result<(), Fail> {
     assert!(rt; prints_parts(rt.alloc(), &[&PAGE, &input], &[&PAGE_ANSWERS, &output])?);
     Ok(())
 }
+
+// An entry that was told to nobody is lost with the server, and judged again.
+#[test]
+fn lost_entry(rt: HostRuntime) -> Result<(), Fail> {
+    let input = [
+        "edit a set 1:1 x 1",
+        "send a 1",
+        "take 8",
+        "tell 4 a",
+        "restart 3",
+        "take 8",
+        "sync",
+        "publish",
+        "tell 4 a",
+        "deliver 9",
+        "restart 3",
+    ];
+    let output = [
+        "edit 2",
+        "message 8",
+        "judged 4",
+        "nothing",
+        "version 3",
+        "judged 4",
+        "synced 4",
+        "published 4",
+        "message 9",
+        "took",
+        "nothing",
+        "server version 4 synced 4 published 4 floor 3",
+        "  0:0 document",
+        "    1:1 page O",
+        "      .x 1",
+        "a id 1 version 4 waiting 0",
+        "  0:0 document",
+        "    1:1 page O",
+        "      .x 1",
+        "b id 2 version 3 waiting 0",
+        "  0:0 document",
+        "    1:1 page O",
+    ];
+    assert!(rt; prints_parts(rt.alloc(), &[&PAGE, &input], &[&PAGE_ANSWERS, &output])?);
+    Ok(())
+}
+
+// A join is lost with the server before anybody was welcomed: another client gets its id.
+#[test]
+fn lost_join(rt: HostRuntime) -> Result<(), Fail> {
+    let input = [
+        "world",
+        "join a",
+        "take 1",
+        "welcome 1",
+        "restart 0",
+        "join b",
+        "take 2",
+        "take 1",
+        "sync",
+        "publish",
+        "welcome 1",
+        "welcome 2",
+        "deliver 3",
+        "deliver 4",
+    ];
+    let output = [
+        "message 1",
+        "judged 1",
+        "nothing",
+        "version 0",
+        "message 2",
+        "judged 1",
+        "judged 2",
+        "synced 2",
+        "published 2",
+        "message 3",
+        "message 4",
+        "took",
+        "took",
+        "server version 2 synced 2 published 2 floor 0",
+        "  0:0 document",
+        "a id 2 version 0 waiting 0",
+        "  0:0 document",
+        "b id 1 version 0 waiting 0",
+        "  0:0 document",
+    ];
+    assert!(rt; prints_parts(rt.alloc(), &[&input], &[&output])?);
+    Ok(())
+}
+
+// A node that was away for long is given a copy, and keeps showing what it has yet to send.
+#[test]
+fn offline(rt: HostRuntime) -> Result<(), Fail> {
+    let input = [
+        "edit b set 1:1 k 1",
+        "edit b set 1:1 k 2",
+        "edit b set 1:1 k 3",
+        "edit b set 1:1 m 4",
+        "edit b clear 1:1 n",
+        "edit a set 1:1 n 9",
+        "edit a set 1:1 k 8",
+        "send b 1",
+        "send b 2",
+        "send a 1",
+        "send a 2",
+        "take 8",
+        "take 9",
+        "take 10",
+        "take 11",
+        "sync",
+        "publish",
+        "checkpoint",
+        "tell 4 b",
+        "copy b",
+        "deliver 12",
+        "show b",
+    ];
+    let output = [
+        "edit 1",
+        "edit 2",
+        "edit 3",
+        "edit 4",
+        "edit 5",
+        "edit 2",
+        "edit 3",
+        "message 8",
+        "message 9",
+        "message 10",
+        "message 11",
+        "judged 4",
+        "judged 5",
+        "judged 6",
+        "judged 7",
+        "synced 7",
+        "published 7",
+        "floor 7",
+        "nothing",
+        "message 12",
+        "took",
+        "b id 2 version 7 waiting 3",
+        "  0:0 document",
+        "    1:1 page O",
+        "      .k 3",
+        "      .m 4",
+        "server version 7 synced 7 published 7 floor 7",
+        "  0:0 document",
+        "    1:1 page O",
+        "      .k 8",
+        "      .n 9",
+        "a id 1 version 3 waiting 2",
+        "  0:0 document",
+        "    1:1 page O",
+        "      .k 8",
+        "      .n 9",
+        "b id 2 version 7 waiting 3",
+        "  0:0 document",
+        "    1:1 page O",
+        "      .k 3",
+        "      .m 4",
+    ];
+    assert!(rt; prints_parts(rt.alloc(), &[&PAGE, &input], &[&PAGE_ANSWERS, &output])?);
+    Ok(())
+}
