@@ -43,7 +43,7 @@ t_true true t = refl
 t_true false t = absurd t
 
 -- what holds of whatever a map has at a key holds of each of its pairs
-each_entry : {K X : Type 0} {R : K → K → Ordering} → IsTotalOrder R → (m : map.FinMap R X) (P : K × X → Type 0) → ((k : K) (x : X) → map.get m k ≡ Some x → P (k, x)) → All P (map.entries m)
+pub each_entry : {K X : Type 0} {R : K → K → Ordering} → IsTotalOrder R → (m : map.FinMap R X) (P : K × X → Type 0) → ((k : K) (x : X) → map.get m k ≡ Some x → P (k, x)) → All P (map.entries m)
 each_entry {K} {X} {R} o m P h i d lt =
     let es = map.entries m in
     let e = get_or es i d in
@@ -52,7 +52,7 @@ each_entry {K} {X} {R} o m P h i d lt =
 
 -- ---- the texts of rows are of their kinds
 
-kind_sound : (kind : Kind) → kind_form.sound kind ≡ true
+pub kind_sound : (kind : Kind) → kind_form.sound kind ≡ true
 kind_sound Document = refl
 kind_sound Page = refl
 kind_sound Frame = refl

@@ -10,3 +10,8 @@ pub mod Orders
 pub mod Docs
 pub mod Message
 pub mod RowReading
+pub mod Tested
+pub mod CheckpointForms
+pub mod Checkpoint
+pub mod Ranges
+pub mod Stored

@@ -1,6 +1,5 @@
 -- What is proved of messages, in the first version.
-use Rattle.std.proofs.Common.{◌≡◌, ℕ, ◌&&◌, inl, inr, List, Bool, true, false, true≢false, cond, Option, Some, None, codes, bytes_eq, refl, ap, sym, subst, ◌∙◌, arith}
-use Rattle.std.specs.Prelude.{IsSome, is_some}
+use Rattle.std.proofs.Common.{◌≡◌, ℕ, ◌&&◌, inl, inr, List, Bool, true, false, cond, Option, Some, None, codes, bytes_eq, refl, ap, sym, subst, ◌∙◌, arith}
 use Rattle.std.specs.FinMap as map
 use Rattle.serde_json.specs.Data.{Data, Items, no_items, item}
 use Rattle.canvas_model.specs.declared.ObjId.{ObjId}
@@ -26,14 +25,12 @@ use Rattle.canvas_wire.specs.declared.fault.WireError.{WireError}
 use Rattle.canvas_wire.specs.declared.fault.WireError.TheVariants.{NotJson, NotAMessage, OutOfRange, TooDeep, Memory}
 use Rattle.canvas_wire.proofs.MessageForms.{parts_are}
 use Rattle.canvas_wire.proofs.Members.{no_word, word_first, and_true}
+use Rattle.canvas_wire.proofs.Tested.{neither, tested_case, unread_case}
 use Rattle.canvas_wire.proofs.Orders.{ordered_document}
 use Rattle.canvas_wire.proofs.Decoding.{stands_one}
 
 pub is_form : IsCodec (parts_form version_one)
 is_form = parts_are version_one (omega arith)
-
-pub never_none : {X : Type 0} (r : Option X) → IsSome r → r ≡ None → ⊥
-never_none r some is = true≢false (sym some ∙ ap is_some is)
 
 -- a message is that of its parts
 pub message_back : (m : Message) → message_of (parts_of m) ≡ m
@@ -54,16 +51,8 @@ message_shaped d m (o, s) = (o, (parts_of m, s.0, ap shape s.2))
 
 -- ---- what was read of an orderly tree
 
-orderly_case : (b : Bool) (o : Option (MessageParts × Bool)) (r : MessageParts × Bool) → cond b o None ≡ Some r → (b ≡ true) × (o ≡ Some r)
-orderly_case true o r e = (refl, e)
-orderly_case false o r e = cc
-
 was_orderly : (d : Data) (r : MessageParts × Bool) → message_in version_one d ≡ Some r → (is_orderly d ≡ true) × ((parts_form version_one).read d ≡ Some r)
-was_orderly d r e = orderly_case (is_orderly d) ((parts_form version_one).read d) r e
-
-unread_case : (b : Bool) (o : Option (MessageParts × Bool)) → cond b o None ≡ None → b ≡ true → o ≡ None
-unread_case true o e t = e
-unread_case false o e t = absurd (true≢false (sym t))
+was_orderly d r e = tested_case (is_orderly d) ((parts_form version_one).read d) r e
 
 -- what a fault of the shape says of the tree
 pub message_fault : (d : Data) (f : JsonFault) → RefusesShape (message_in version_one d) f → IsMessageFault d (refusal f)
@@ -94,10 +83,6 @@ made_written (inr (inr (inr (inr (inr (inr (inr p))))))) o f = (both_hold (is_wi
 
 -- ---- the word at the head
 
-neither : {X : Type 0} (b : Bool) → ◌≡◌ {A = Option X} (cond b None None) None
-neither true = refl
-neither false = refl
-
 pub unworded : (d : Data) → worded d ≡ None → message_in version_one d ≡ None
 unworded d e = ap (λ o. cond (is_orderly d) o None) (no_word (message_words version_one).read d e) ∙ neither (is_orderly d)
 
@@ -109,10 +94,6 @@ unknown d w ds e h1 h2 h3 h4 h5 h6 h7 h8 = ap (message_in version_one) (word_fir
 
 pub unread_copy : (ds : Items) → copied.read ds ≡ None → message_after version_one (codes "copy") ds ≡ None
 unread_copy ds e = rw e (neither (copy_in_order ds))
-
-tested_case : {X : Type 0} (b : Bool) (o : Option X) (x : X) → cond b o None ≡ Some x → (b ≡ true) × (o ≡ Some x)
-tested_case true o x e = (refl, e)
-tested_case false o x e = cc
 
 module _ (a b r : Data) (version done : ℕ) (version_fits done_fits : Bool) (h : whole_in 0 4611686018427387904 a ≡ Some (version, version_fits)) (k : whole_in 0 4611686018427387904 b ≡ Some (done, done_fits)) where
   pub copy_read : (es : List (ObjId × Object)) (fits : Bool) → rows_in r ≡ Some (es, fits)

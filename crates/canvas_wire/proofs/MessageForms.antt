@@ -135,10 +135,10 @@ apart_choice u v r w e k (inr y) = k y
 number_only : (v n : ℕ) → is_within v v n ≡ true → v ≡ n
 number_only v n e = grind (arith, e)
 
-module _ (v : Version) (h : v.last_reason ≤ 7) where
-  number_is : IsCodec (number_form v)
-  number_is = numbered_is v.number v.number (λ _. tt) (λ _. v.number) (λ x. refl) (number_only v.number)
+pub number_is : (v : Version) → IsCodec (number_form v)
+number_is v = numbered_is v.number v.number (λ _. tt) (λ _. v.number) (λ x. refl) (number_only v.number)
 
+module _ (v : Version) (h : v.last_reason ≤ 7) where
   abbrev no_words : Worded (ℕ × Unit {0})
   no_words = after (codes "no") (alone (whole 1 v.last_no))
 
@@ -204,7 +204,7 @@ module _ (v : Version) (h : v.last_reason ≤ 7) where
 
   words_are : IsWorded (message_words v)
   words_are =
-      choice_is (codes "join") (alone (number_form v)) welcome_words (member_is _ _ number_is end_is) welcome_is
+      choice_is (codes "join") (alone (number_form v)) welcome_words (member_is _ _ (number_is v) end_is) welcome_is
       (apart_choice (codes "welcome") (codes "join") (alone client_form) edit_words refl (after_edit (codes "join") refl refl refl refl refl refl))
 
   pub parts_are : IsCodec (parts_form v)

@@ -67,6 +67,14 @@ IsUnfinished IsShallow NotJson = ⊥
 IsUnfinished IsShallow NotAMessage = ⊥
 IsUnfinished IsShallow OutOfRange = ⊥
 
+-- the state isn't sound, or it is and a value isn't shallow, or memory was refused
+abbrev pub IsUnmade : Type 0 → Type 0 → WireError → Type 0
+IsUnmade IsSound IsShallow NotAMessage = IsSound → ⊥
+IsUnmade IsSound IsShallow TooDeep = IsSound × (IsShallow → ⊥)
+IsUnmade IsSound IsShallow Memory = Unit {0}
+IsUnmade IsSound IsShallow NotJson = ⊥
+IsUnmade IsSound IsShallow OutOfRange = ⊥
+
 -- the bytes aren't JSON, or memory was refused
 abbrev pub IsNotJson : List ℕ → WireError → Type 0
 IsNotJson bytes NotJson = (d : Data) → IsJson bytes d → ⊥

@@ -11,6 +11,7 @@ pub mod Entries
 pub mod Rows
 pub mod RowOrder
 pub mod Messages
+pub mod Checkpoints
 pub mod Faults
 pub mod Text
 pub mod Laws

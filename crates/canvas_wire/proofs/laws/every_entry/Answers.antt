@@ -1,15 +1,12 @@
-use Rattle.std.proofs.Common.{refl}
-use Rattle.canvas_wire.specs.Version.{version_one}
-use Rattle.canvas_wire.specs.Entries.{entry_form}
-use Rattle.canvas_wire.specs.Text.{IsEntryShape, IsEntryTree, IsShallowEntry}
 use Rattle.canvas_wire.proofs.Forms.{entry_is}
-use Rattle.canvas_wire.proofs.Entry.{one_entry, entry_shaped}
-use Rattle.canvas_wire.proofs.Decoding.{spells_same}
+use Rattle.canvas_wire.proofs.Stored.{entry_text_once, entry_back, written_entry, next_storable}
 use Rattle.canvas_wire.proofs.laws.every_entry.Goals as goal
 
 pub returns : goal.returns
 returns c = record {
   form = entry_is;
-  back = λ bytes e w fits small. ((entry_form version_one).write e, (w.utf8, w.reads_back small), ((w.sound, fits, refl), small));
-  one = spells_same IsEntryShape IsEntryTree IsShallowEntry one_entry entry_shaped;
+  back = entry_back;
+  one = entry_text_once;
+  next_back = written_entry;
+  keeps = next_storable c.every_entry.ensures.storable;
 }
