@@ -1,0 +1,6 @@
+pub mod Marks
+pub mod Stored
+pub mod Rules
+pub mod Publishing
+pub mod Copies
+pub mod Receipts
