@@ -1,4 +1,4 @@
-use Rattle.std.proofs.Common.{◌≡◌, ◌+◌, ◌≤◌, arith, ap, sym, ◌∙◌}
+use Rattle.std.proofs.Common.{arith, ap}
 use Rattle.canvas_room.proofs.Tails.{one_above}
 use Rattle.canvas_room.proofs.receipt.Receipt.before.Goals as goal
 
