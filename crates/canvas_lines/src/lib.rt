@@ -17,7 +17,7 @@ pub use changes::read_change;
 pub use error::LineError;
 pub use fault::{Fault, tell};
 pub use laws::one_bad_line;
-pub use requests::{Reading, Request, read_request, read_requests};
+pub use requests::{LogRequest, Reading, read_request, read_requests};
 pub use streams::{read_input, write_out};
 
 #[cfg(test)]

@@ -1,4 +1,4 @@
-use crate::{Request, read_requests};
+use crate::{LogRequest, read_requests};
 use canvas_doc::{Change, ChangeVariant, Kind, ObjId};
 use std::alloc::Global;
 use std::test::Fail;
@@ -93,12 +93,12 @@ fn parts(alloc: Global) -> Result<bool, Fail> {
     if reading.requests.len() != 2 {
         return Ok(false);
     }
-    if !matches!(reading.requests[0], Request::Join) {
+    if !matches!(reading.requests[0], LogRequest::Join) {
         return Ok(false);
     }
     match &reading.requests[1] {
-        Request::Edit { author, change } => Ok(*author == 7 && is_creation(change)),
-        Request::Join => Ok(false),
+        LogRequest::Edit { author, change } => Ok(*author == 7 && is_creation(change)),
+        LogRequest::Join => Ok(false),
     }
 }
 

@@ -16,7 +16,7 @@ use std::alloc::{AllocError, Global};
 
 /// What a line asks for.
 #[derive(Drop)]
-pub enum Request {
+pub enum LogRequest {
     /// An id for a new client.
     Join,
     /// A change by a client.
@@ -29,17 +29,17 @@ pub enum Request {
 }
 
 /// The request that the line spells: `join`, or an author's id, a blank and a change.
-pub fn read_request(alloc: Global, line: &[u8]) -> Result<Request, LineError>
+pub fn read_request(alloc: Global, line: &[u8]) -> Result<LogRequest, LineError>
     ensures ok { IfOk result (λ request. SpellsRequest line.now (seen request)) }
     ensures err { IfErr result (IsLineError (SpellsRequest line.now)) }
 {
     if line == b"join".as_slice() {
-        return Ok(Request::Join);
+        return Ok(LogRequest::Join);
     }
     let (author, text) = cut_word(line)?;
     let author = read_author(author)?;
     let change = read_change(alloc, text)?;
-    Ok(Request::Edit { author, change })
+    Ok(LogRequest::Edit { author, change })
 }
 
 // The client's id that is spelled so.
@@ -57,7 +57,7 @@ fn read_author(word: &[u8]) -> Result<u32, LineError>
 #[derive(Drop)]
 pub struct Reading {
     /// The requests, up to the bad line if there is one.
-    pub requests: Vec<Request>,
+    pub requests: Vec<LogRequest>,
     /// The first line that can't be read, counted from 1.
     pub bad_line: Option<u64>,
 }
@@ -103,7 +103,7 @@ fn read_line(
     alloc: Global,
     line: &[u8],
     started: bool,
-    requests: &mut Vec<Request>,
+    requests: &mut Vec<LogRequest>,
 ) -> Result<(), LineError>
     ensures ok { OnOk result
         (IsRead started line.now (map seen requests.old.items) (map seen requests.new.items)) }
