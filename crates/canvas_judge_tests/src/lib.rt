@@ -1,10 +1,12 @@
-//! Tests of `canvas_judge`: verdicts and what they do, entries that may come next, chains, states made from parts, states and entries in an arena, and each growth refused in turn.
+//! Tests of `canvas_judge`: what a state lends, entries that may come next, chains, states made from parts, states and entries in an arena, and each growth refused in turn.
 #![tactic(auto)]
 
 #[cfg(test)]
 mod arena;
 #[cfg(test)]
 mod chains;
+#[cfg(test)]
+mod counts;
 #[cfg(test)]
 mod fits;
 #[cfg(test)]
@@ -13,5 +15,3 @@ mod parts;
 mod refusals;
 #[cfg(test)]
 mod states;
-#[cfg(test)]
-mod verdicts;

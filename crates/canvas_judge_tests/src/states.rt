@@ -3,7 +3,7 @@ ghost use Rattle.std.specs.Prelude.{IfOk};
 ghost use Rattle.canvas_model.specs.Log.{Fits};
 
 use canvas_doc::{Change, Kind, Name, ObjId, Place, Value};
-use canvas_judge::{Entry, Outcome, Reason, State, What};
+use canvas_judge::{Entry, Outcome, State, What};
 use canvas_pos::Pos;
 use std::alloc::{AllocError, Global};
 use std::test::Fail;
@@ -39,8 +39,8 @@ pub fn place(alloc: Global, parent: ObjId, pos: &[u8]) -> Result<Place, Fail> {
     })
 }
 
-/// The change of the property `name` of an object.
-pub fn naming(alloc: Global, id: ObjId, value: Option<Value>) -> Result<Change, Fail> {
+// The change of the property `name` of an object.
+fn naming(alloc: Global, id: ObjId, value: Option<Value>) -> Result<Change, Fail> {
     let name = Name::read(alloc, b"name")?;
     Ok(Change::set(id, name, value)?)
 }
@@ -87,13 +87,8 @@ pub fn join(state: &mut State) -> Result<(), Fail> {
     Ok(())
 }
 
-/// Judges a change, which is its author's next edit, and applies it.
-pub fn submit(
-    alloc: Global,
-    state: &mut State,
-    author: u32,
-    change: Change,
-) -> Result<Outcome, Fail> {
+// Judges a change, which is its author's next edit, and applies it.
+fn submit(alloc: Global, state: &mut State, author: u32, change: Change) -> Result<Outcome, Fail> {
     let entry = next_edit(alloc, state, author, change)?;
     state.apply(&entry)?;
     Ok(entry.outcome)
@@ -206,15 +201,4 @@ pub fn coming(alloc: Global, next: Next) -> Result<Case, Fail>
         entry,
         after,
     })
-}
-
-/// The reason of a refusal, and the parent in the place that it carries.
-pub fn refusal(outcome: &Outcome) -> Option<(Reason, Option<ObjId>)> {
-    match outcome {
-        Outcome::Refused { reason, stands } => {
-            let parent = stands.as_ref().map(|place| place.parent);
-            Some((*reason, parent))
-        }
-        _ => None,
-    }
 }

@@ -235,6 +235,53 @@ fn refusals(rt: HostRuntime) -> Result<(), Fail> {
     Ok(())
 }
 
+// Of the reasons that hold, the first in their order is told.
+#[test]
+fn first_reasons(rt: HostRuntime) -> Result<(), Fail> {
+    let input = [
+        "log",
+        "join",
+        "1 create 1:1 page 0:0 O",
+        "1 create 0:0 document 9:9 O",
+        "1 create 2:2 document 9:9 O",
+        "1 create 1:1 document 9:9 O",
+        "1 create 1:2 document 9:9 O",
+        "1 create 1:2 text 0:0 O",
+        "1 create 1:2 frame 1:1 O",
+        "1 create 1:3 frame 1:2 O",
+        "1 move 0:0 9:9 O",
+        "1 move 9:9 9:9 O",
+        "1 move 1:2 9:9 O",
+        "1 move 1:1 1:3 O",
+        "1 move 1:2 1:3 O",
+        "1 move 1:2 1:1 O",
+    ];
+    let output = [
+        "1 joined 1",
+        "2 created 0:0 O",
+        "3 refused 1 IsRoot",
+        "4 refused 2 BadId",
+        "5 refused 2 BadId",
+        "6 refused 4 ParentGone",
+        "7 refused 5 BadParent",
+        "8 created 1:1 O",
+        "9 created 1:2 O",
+        "10 refused 1 IsRoot",
+        "11 refused 3 Gone",
+        "12 refused 4 ParentGone stands 1:1 O",
+        "13 refused 5 BadParent stands 0:0 O",
+        "14 refused 6 Cycle stands 1:1 O",
+        "15 moved 1:1 O",
+        "version 15",
+        "0:0 document",
+        "1:1 page 0:0 O",
+        "1:2 frame 1:1 O",
+        "1:3 frame 1:2 O",
+    ];
+    assert!(rt; prints(rt.alloc(), &input, &output)?);
+    Ok(())
+}
+
 #[test]
 fn values(rt: HostRuntime) -> Result<(), Fail> {
     let input = [
