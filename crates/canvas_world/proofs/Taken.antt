@@ -1,7 +1,6 @@
 -- What the server makes of a message.
-use Rattle.std.proofs.Common.{◌≡◌, ◌≢◌, ℕ, ◌+◌, ◌<◌, ◌≤◌, refl, sym, ap, subst, ◌∙◌, Bool, true, false, List, length, arith}
+use Rattle.std.proofs.Common.{◌≡◌, ◌≢◌, ℕ, ◌+◌, ◌<◌, ◌≤◌, refl, sym, ap, subst, ◌∙◌, Bool, true, false, List, length}
 use Rattle.std.specs.Prelude.{Option, Some, None, Result, Ok, Err, IfOk, not, cond, ◌||◌, ◌==◌, nat_le, nat_lt}
-use Rattle.std.proofs.lemmas.Bool.{or_parts}
 use Rattle.canvas_model.specs.Change.{Change}
 use Rattle.canvas_model.specs.State.{joined, done}
 use Rattle.canvas_model.specs.Log.{What, Join, Edit, Entry, Fits, last_version}
@@ -9,11 +8,12 @@ use Rattle.canvas_model.specs.Client.{nth, Yields}
 use Rattle.canvas_model.specs.Receive.{Message, Joins, Welcome, Sends, Asks, Tells, Copies, Idle, No}
 use Rattle.canvas_model.specs.World.{Letter, World, Answer, Take, Appends, Takes, If, At, is_full, state, appended, Step}
 use Rattle.canvas_model.specs.World as world
-use Rattle.canvas_model.proofs.Tests.{eq_true, eq_false}
+use Rattle.canvas_model.proofs.Tests.{eq_true}
 use Rattle.canvas_server.specs.Asked.{Asked}
 use Rattle.canvas_world.specs.Parts.{asked_by, asker_of}
 use Rattle.canvas_server.specs.Served.{Served}
 use Rattle.canvas_server.specs.Answered.{Looks, LooksAs, IsNext, has_no_room}
+use Rattle.canvas_server.proofs.Tested.{room}
 use Rattle.canvas_server.specs.declared.taking.Looked.{Looked}
 use Rattle.canvas_server.specs.declared.taking.Looked.TheVariants as looked
 use Rattle.canvas_server.specs.declared.taking.TakeError.{TakeError}
@@ -109,10 +109,6 @@ fits_next A s r e (Edit change) l =
     let d = peel (nat_lt (done s.state r.author + 1) r.seq) _ _ b.1 (λ h. absurd (cc)) in
     let x = peel (has_no_room s (Edit change)) _ _ d.1 (λ h. absurd (cc)) in
     (x.1.3, x.0)
-
-room : (s : Served) (what : What) → has_no_room s what ≡ false → s.version ≤ last_version → s.version < last_version
-room s Join none few = let e = eq_false s.version last_version (or_parts _ _ none).0 in omega arith
-room s (Edit change) none few = let e = eq_false s.version last_version none in omega arith
 
 judged : {A : Type 0} (w : World) (s : Served) (m : ℕ) (letter : Letter) (r : Asked) (asker : ℕ) (result : Result (Looked A) TakeError) (j : Judging A) → s ≡ served_in w → length w.log ≤ last_version → nth w.letters m ≡ Some letter
     → letter.to ≡ 0 → Some r ≡ asked_by letter.message → asker ≡ asker_of r letter.from → Looks s r result → Becomes asker result j → IsJudging w m j
