@@ -4,10 +4,11 @@ use Rattle.canvas_value.specs.Shape.{shape}
 use Rattle.canvas_value.specs.Codec.{IsCodec, IsRow, IsWorded}
 use Rattle.canvas_value.specs.Parts.{after}
 use Rattle.canvas_value.proofs.Forms.{via_is, end_is, member_is, each_is, array_is, headed_is, after_is}
-use Rattle.canvas_wire.specs.Version.{Version}
+use Rattle.canvas_forms.specs.Version.{Version}
+use Rattle.canvas_forms.proofs.Forms.{client_is, version_is}
+use Rattle.canvas_forms.proofs.RowForms.{rows_is}
 use Rattle.canvas_wire.specs.Checkpoints.{counts_form, clients_form, saved, checkpoint_form}
-use Rattle.canvas_wire.proofs.Forms.{client_is, version_is}
-use Rattle.canvas_wire.proofs.MessageForms.{number_is, rows_is}
+use Rattle.canvas_wire.proofs.MessageForms.{number_is}
 
 counts_is : IsCodec counts_form
 counts_is = via_is shape _ _ _ (array_is _ (member_is _ _ version_is (member_is _ _ client_is end_is))) (λ counts. refl) (λ p s. refl)

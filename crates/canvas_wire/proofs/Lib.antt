@@ -1,17 +1,13 @@
-pub mod Forms
-pub mod Members
-pub mod Positions
-pub mod Decoding
-pub mod Entry
-pub mod Texts
-pub mod SoundTexts
-pub mod MessageForms
-pub mod Orders
-pub mod Docs
-pub mod Message
-pub mod RowReading
-pub mod Tested
-pub mod CheckpointForms
-pub mod Checkpoint
-pub mod Ranges
+-- Meant for the crates above too.
 pub mod Stored
+-- For the calls of this crate alone.
+mod EntryForms
+mod MessageForms
+mod CheckpointForms
+mod Decoding
+mod Tested
+mod Entry
+mod Message
+mod Checkpoint
+mod Ranges
+mod Texts

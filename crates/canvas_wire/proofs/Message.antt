@@ -1,6 +1,7 @@
 -- What is proved of messages, in the first version.
 use Rattle.std.proofs.Common.{◌≡◌, ℕ, ◌&&◌, inl, inr, List, Bool, true, false, cond, Option, Some, None, codes, bytes_eq, refl, ap, sym, subst, ◌∙◌, arith}
 use Rattle.std.specs.FinMap as map
+use Rattle.std.proofs.Math.Bool.{and-true}
 use Rattle.serde_json.specs.Data.{Data, Items, no_items, item}
 use Rattle.canvas_model.specs.declared.ObjId.{ObjId}
 use Rattle.canvas_model.specs.Ids.{id_cmp}
@@ -13,20 +14,20 @@ use Rattle.canvas_value.specs.Faults.{RefusesShape}
 use Rattle.canvas_value.specs.declared.json_fault.JsonFault.{JsonFault}
 use Rattle.canvas_value.specs.declared.json_fault.JsonFault.TheVariants as value
 use Rattle.canvas_value.proofs.Forms.{both_hold, stands_for, out_of_range, no_shape}
-use Rattle.canvas_wire.specs.Version.{version_one}
-use Rattle.canvas_wire.specs.Tree.{worded}
-use Rattle.canvas_wire.specs.Messages.{MessageParts, message_words, copied, parts_form, message_of, parts_of, message_in, message_after, rows_in, copy_in_order, is_orderly, IsMessageShape, IsMessageTree}
-use Rattle.canvas_wire.specs.Rows.{rows_form}
-use Rattle.canvas_wire.specs.RowOrder.{are_in_order}
+use Rattle.canvas_forms.specs.Version.{version_one}
+use Rattle.canvas_forms.specs.Tree.{worded}
+use Rattle.canvas_forms.specs.Rows.{rows_form}
+use Rattle.canvas_forms.specs.RowOrder.{are_in_order, rows_in}
+use Rattle.canvas_forms.proofs.Members.{no_word, word_first}
+use Rattle.canvas_forms.proofs.Orders.{ordered_document}
+use Rattle.canvas_wire.specs.Messages.{MessageParts, message_words, copied, parts_form, message_of, parts_of, message_in, message_after, copy_in_order, is_orderly, IsMessageShape, IsMessageTree}
 use Rattle.canvas_wire.specs.Drafts.{IsMade}
 use Rattle.canvas_wire.specs.Faults.{refusal, Means, IsOut, IsUnfinished}
 use Rattle.canvas_wire.specs.Text.{IsShallowMessage, IsMessageFault}
 use Rattle.canvas_wire.specs.declared.fault.WireError.{WireError}
 use Rattle.canvas_wire.specs.declared.fault.WireError.TheVariants.{NotJson, NotAMessage, OutOfRange, TooDeep, Memory}
 use Rattle.canvas_wire.proofs.MessageForms.{parts_are}
-use Rattle.canvas_wire.proofs.Members.{no_word, word_first, and_true}
 use Rattle.canvas_wire.proofs.Tested.{neither, tested_case, unread_case}
-use Rattle.canvas_wire.proofs.Orders.{ordered_document}
 use Rattle.canvas_wire.proofs.Decoding.{stands_one}
 
 pub is_form : IsCodec (parts_form version_one)
@@ -100,7 +101,7 @@ module _ (a b r : Data) (version done : ℕ) (version_fits done_fits : Bool) (h 
       → message_after version_one (codes "copy") (item a (item b (item r no_items))) ≡ Some (inr (inr (inr (inr (inr (inl (version, (done, (es, tt)))))))), version_fits && (done_fits && fits))
   copy_read es fits e =
       let t = tested_case (are_in_order r) (rows_form.read r) (es, fits) e in
-      rw (t.0, h, k, t.1, and_true fits) refl
+      rw (t.0, h, k, t.1, and-true fits) refl
 
   rows_case : (t : Bool) (o : Option (List (ObjId × Object) × Bool)) → are_in_order r ≡ t → rows_form.read r ≡ o → cond t o None ≡ None
       → message_after version_one (codes "copy") (item a (item b (item r no_items))) ≡ None

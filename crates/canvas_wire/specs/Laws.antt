@@ -5,7 +5,7 @@ use Rattle.canvas_model.specs.Log.{Entry, Fits, effect, last_version}
 use Rattle.canvas_model.specs.Storable.{IsStorable}
 use Rattle.canvas_model.specs.Receive.{Message}
 use Rattle.canvas_value.specs.Codec.{IsCodec}
-use Rattle.canvas_wire.specs.Version.{Version}
+use Rattle.canvas_forms.specs.Version.{Version}
 use Rattle.canvas_wire.specs.Entries.{entry_form}
 use Rattle.canvas_wire.specs.Messages.{parts_form}
 use Rattle.canvas_wire.specs.Checkpoints.{Checkpoint, checkpoint_form}

@@ -11,14 +11,14 @@ use Rattle.canvas_model.specs.Log.{Entry}
 use Rattle.canvas_model.specs.Receive.{Message, Joins, Welcome, Sends, Asks, Tells, Copies, Idle, No}
 use Rattle.canvas_value.specs.Codec.{Codec, Row, Worded, HasShape, StandsFor}
 use Rattle.canvas_value.specs.Parts.{whole, array_of, headed, choice, after, member, end}
-use Rattle.canvas_wire.specs.Version.{Version}
-use Rattle.canvas_wire.specs.Numbered.{numbered}
-use Rattle.canvas_wire.specs.Ids.{client_form, version_form}
-use Rattle.canvas_wire.specs.Changes.{change_form}
-use Rattle.canvas_wire.specs.Outcomes.{alone}
+use Rattle.canvas_forms.specs.Version.{Version}
+use Rattle.canvas_forms.specs.Numbered.{numbered}
+use Rattle.canvas_forms.specs.Ids.{client_form, version_form}
+use Rattle.canvas_forms.specs.Changes.{change_form}
+use Rattle.canvas_forms.specs.Outcomes.{alone}
+use Rattle.canvas_forms.specs.Rows.{rows_form}
+use Rattle.canvas_forms.specs.RowOrder.{are_in_order}
 use Rattle.canvas_wire.specs.Entries.{entry_form}
-use Rattle.canvas_wire.specs.Rows.{rows_form}
-use Rattle.canvas_wire.specs.RowOrder.{are_in_order}
 
 -- the number of the version, and no other
 abbrev pub number_form : Version → Codec (Unit {0})
@@ -123,7 +123,3 @@ message_in v d = if is_orderly d then (parts_form v).read d else None
 -- the same, of an array that begins with this word
 abbrev pub message_after : Version → List ℕ → Items → Option (MessageParts × Bool)
 message_after v w ds = message_in v (array (item (string w) ds))
-
--- the rows that an orderly tree is read as
-abbrev pub rows_in : Data → Option (List (ObjId × Object) × Bool)
-rows_in d = if are_in_order d then rows_form.read d else None

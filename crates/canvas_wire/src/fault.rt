@@ -1,6 +1,12 @@
-// Why bytes are refused.
+// What tree bytes are the text of, and why they are refused.
+ghost use Rattle.std.specs.Prelude.{◌≡◌, IfOk, IfErr};
+ghost use Rattle.serde_json.specs.View.{view};
+ghost use Rattle.canvas_wire.specs.Faults.{IsJson, IsNotJson, refusal};
+
 use canvas_doc::TooDeep;
-use std::alloc::{AllocError, AllocFailed};
+use canvas_value::JsonFault;
+use serde_json::Value as Json;
+use std::alloc::{AllocError, AllocFailed, Global};
 use thiserror::Error;
 
 /// Why bytes are no message or entry: the first reason that holds, in this order, each looked for over the whole text before the
@@ -51,5 +57,31 @@ impl<T: Drop> From<AllocFailed<T>> for WireError {
 
     fn from(_error: AllocFailed<T>) -> WireError {
         WireError::Memory
+    }
+}
+
+// The tree of which the bytes are JSON.
+pub(crate) fn parse(heap: Global, bytes: &[u8]) -> Result<Json, WireError>
+    ensures ok { IfOk result (λ j. IsJson bytes.now (view j)) }
+    ensures fault { IfErr result (IsNotJson bytes.now) }
+{
+    match Json::from_slice(heap, bytes) {
+        Ok(json) => Ok(json),
+        Err(e) => if e.is_memory() {
+            Err(WireError::Memory)
+        } else {
+            Err(WireError::NotJson)
+        },
+    }
+}
+
+// What a fault of the shape is answered as.
+pub(crate) fn refusal(fault: JsonFault) -> WireError
+    ensures { result ≡ refusal fault }
+{
+    match fault {
+        JsonFault::NotAValue => WireError::NotAMessage,
+        JsonFault::OutOfRange => WireError::OutOfRange,
+        JsonFault::Memory => WireError::Memory,
     }
 }

@@ -1,4 +1,4 @@
-use Rattle.canvas_wire.proofs.Forms.{entry_is}
+use Rattle.canvas_wire.proofs.EntryForms.{entry_is}
 use Rattle.canvas_wire.proofs.Stored.{entry_text_once, entry_back, written_entry, next_storable}
 use Rattle.canvas_wire.proofs.laws.every_entry.Goals as goal
 

@@ -1,5 +1,5 @@
 use Rattle.std.proofs.Common.{refl}
-use Rattle.canvas_wire.specs.Version.{version_one}
+use Rattle.canvas_forms.specs.Version.{version_one}
 use Rattle.canvas_wire.specs.Messages.{message_tree, IsMessageShape, IsMessageTree}
 use Rattle.canvas_wire.specs.Text.{IsShallowMessage}
 use Rattle.canvas_wire.proofs.MessageForms.{parts_are}

@@ -1,7 +1,7 @@
 use Rattle.std.proofs.lemmas.Result.{IfOk-weaker, IfErr-weaker}
 use Rattle.serde_json.specs.View.{view}
 use Rattle.canvas_judge.specs.Seen.{seen_message}
-use Rattle.canvas_wire.specs.Version.{version_one}
+use Rattle.canvas_forms.specs.Version.{version_one}
 use Rattle.canvas_wire.specs.Messages.{IsMessageShape, IsMessageTree}
 use Rattle.canvas_wire.specs.Text.{IsShallowMessage}
 use Rattle.canvas_wire.proofs.Message.{one_message, message_shaped}

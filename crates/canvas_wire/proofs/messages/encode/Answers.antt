@@ -2,7 +2,7 @@ use Rattle.std.proofs.Common.{◌≤◌, Some, ap, sym, subst, ◌∙◌}
 use Rattle.serde_json.specs.Data as D
 use Rattle.serde_json.specs.Written.{has_float, compact_text}
 use Rattle.canvas_judge.specs.Seen.{seen_message}
-use Rattle.canvas_wire.specs.Version.{version_one}
+use Rattle.canvas_forms.specs.Version.{version_one}
 use Rattle.canvas_wire.proofs.Texts.{message_no_float, message_nests}
 use Rattle.canvas_wire.proofs.messages.encode.Goals as goal
 

@@ -1,6 +1,6 @@
 use Rattle.std.proofs.Common.{sym, subst}
 use Rattle.serde_json.specs.View.{view}
-use Rattle.canvas_wire.specs.Version.{version_one}
+use Rattle.canvas_forms.specs.Version.{version_one}
 use Rattle.canvas_wire.specs.Drafts.{seen_parts}
 use Rattle.canvas_wire.specs.Messages.{IsMessageTree}
 use Rattle.canvas_wire.specs.Faults.{Means}

@@ -1,10 +1,10 @@
 use Rattle.std.proofs.Common.{IfOk, IfErr, ◌≡◌, Some, codes, subst, sym}
 use Rattle.serde_json.specs.View.{view, items_view}
 use Rattle.canvas_value.specs.Faults.{RefusesShape}
-use Rattle.canvas_wire.specs.Version.{version_one}
+use Rattle.canvas_forms.specs.Version.{version_one}
+use Rattle.canvas_forms.proofs.Members.{word_is}
 use Rattle.canvas_wire.specs.Drafts.{seen_parts}
 use Rattle.canvas_wire.specs.Messages.{message_in}
-use Rattle.canvas_wire.proofs.Members.{word_is}
 use Rattle.canvas_wire.proofs.messages.read_message.Goals as goal
 
 pub returns-then-eq-clause-ok : goal.returns-then-eq-clause-ok

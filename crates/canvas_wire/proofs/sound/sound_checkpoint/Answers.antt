@@ -1,7 +1,7 @@
-use Rattle.std.proofs.Common.{◌≡◌, refl, sym, subst, true}
+use Rattle.std.proofs.Common.{◌≡◌, refl, subst, true}
 use Rattle.std.specs.FinMap as map
-use Rattle.canvas_wire.specs.Rows.{rows_form}
-use Rattle.canvas_wire.specs.RowOrder.{are_in_order}
+use Rattle.canvas_forms.specs.Rows.{rows_form}
+use Rattle.canvas_forms.specs.RowOrder.{are_in_order}
 use Rattle.canvas_wire.proofs.Ranges.{clients_sound, checkpoint_fits}
 use Rattle.canvas_wire.proofs.sound.sound_checkpoint.Goals as goal
 

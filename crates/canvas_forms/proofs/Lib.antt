@@ -1,0 +1,13 @@
+-- Meant for the crates above too.
+pub mod Members
+pub mod Forms
+pub mod RowForms
+pub mod Orders
+pub mod Docs
+pub mod Ranges
+pub mod Texts
+-- For the calls of this crate alone.
+mod Tested
+mod Positions
+mod RowReading
+mod SoundTexts

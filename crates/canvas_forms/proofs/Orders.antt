@@ -1,0 +1,158 @@
+-- Rows in order, by their trees.
+use Rattle.std.proofs.Common.{◌≡◌, ◌≢◌, ℕ, zero, suc, ◌+◌, ◌<◌, pos, Bool, true, false, true≢false, ◌&&◌, List, [], ◌∷◌, length, get_or, Option, Some, None, T, codes, bytes_eq, refl, ap, sym, ◌∙◌, arith, add-one}
+use Rattle.std.specs.Prelude.{is_some, not}
+use Rattle.std.specs.List.{list_all, IsAllAdjacentAnswer}
+use Rattle.std.specs.Ordering.{nat_cmp, int_cmp, ordering_then, is_lt, is_eq}
+use Rattle.std.specs.FinMap as map
+use Rattle.std.proofs.lemmas.Cmp.{tied_itself}
+use Rattle.serde_json.specs.Data.{Items, no_items, item}
+use Rattle.serde_json.specs.View.{view, items_view}
+use Rattle.serde_json.specs.declared.value.Value.{Value as Json}
+use Rattle.canvas_model.specs.declared.ObjId.{ObjId}
+use Rattle.canvas_model.specs.declared.Kind.{Kind}
+use Rattle.canvas_model.specs.declared.Kind.TheVariants.{Document, Page, Frame, Shape, Text}
+use Rattle.canvas_model.specs.Ids.{id_cmp, root}
+use Rattle.canvas_model.specs.Text.{kind_word}
+use Rattle.canvas_model.specs.Document.{Object, Place}
+use Rattle.canvas_doc.specs.Whole.{AreDocument, IsRoot, is_placed}
+use Rattle.canvas_doc.proofs.Maps.{ids_total, same_exact}
+use Rattle.canvas_doc.proofs.Searched.{second, head_below, below_at, rising_answer}
+use Rattle.canvas_doc.proofs.Whole.{rooted_is_document}
+use Rattle.canvas_value.specs.Parts.{each_written, maybe_written}
+use Rattle.canvas_value.proofs.Forms.{both_hold, both_true}
+use Rattle.canvas_forms.specs.Tree.{count}
+use Rattle.canvas_forms.specs.Places.{place_form}
+use Rattle.canvas_forms.specs.Rows.{row_form, rows_form}
+use Rattle.canvas_forms.specs.RowOrder.{wide_cmp, wide_root, two_in, four_in, head_in, is_given, is_root, is_after, are_after, are_each_after, are_in_order}
+use Rattle.canvas_forms.specs.declared.order.WideId.{WideId}
+use Rattle.canvas_forms.specs.declared.order.RowHead.{RowHead}
+
+-- ---- members of another number
+
+pub not_two : (ds : Items) → count ds ≢ 2 → two_in ds ≡ None
+not_two no_items n = refl
+not_two (item a no_items) n = refl
+not_two (item a (item b no_items)) n = absurd (n refl)
+not_two (item a (item b (item c ds))) n = refl
+
+pub not_four : (ds : Items) → count ds ≢ 4 → four_in ds ≡ None
+not_four no_items n = refl
+not_four (item a no_items) n = refl
+not_four (item a (item b no_items)) n = refl
+not_four (item a (item b (item c no_items))) n = refl
+not_four (item a (item b (item c (item d no_items)))) n = absurd (n refl)
+not_four (item a (item b (item c (item d (item e ds))))) n = refl
+
+-- ---- neighbours
+
+each_after : (vs : List Json) → ((k : ℕ) (d : Json) → k + 1 < length vs → true ≡ is_after (head_in (view (get_or vs k d))) (head_in (view (get_or vs (k + 1) d)))) → are_each_after (items_view vs) ≡ true
+each_after [] h = refl
+each_after (v ∷ []) h = refl
+each_after (v ∷ w ∷ vs) h =
+    both_true _ _ (sym (h 0 v (omega arith))) (each_after (w ∷ vs) (λ k d lt. rw add-one (rw add-one at (h (suc k) d (omega (arith, lt))))))
+
+not_after : (vs : List Json) (k : ℕ) → k + 1 < length vs → ((d : Json) → false ≡ is_after (head_in (view (get_or vs k d))) (head_in (view (get_or vs (k + 1) d)))) → are_each_after (items_view vs) ≡ false
+not_after [] k lt h = absurd (omega (arith, lt))
+not_after (v ∷ []) k lt h = absurd (omega (arith, lt))
+not_after (v ∷ w ∷ vs) zero lt h = rw (sym (h v)) refl
+not_after (v ∷ w ∷ vs) (suc k) lt h =
+    let rest = not_after (w ∷ vs) k (omega (arith, lt)) (λ d. rw add-one (rw add-one at (h d))) in
+    rw rest (and_false (is_after (head_in (view v)) (head_in (view w))))
+  where
+    and_false : (a : Bool) → (a && false) ≡ false
+    and_false true = refl
+    and_false false = refl
+
+pub after_answer : (vs : List Json) (r : Bool) → IsAllAdjacentAnswer (λ v w b. b ≡ is_after (head_in (view v)) (head_in (view w))) vs r → r ≡ are_each_after (items_view vs)
+after_answer vs true h = sym (each_after vs h)
+after_answer vs false h = sym (not_after vs h.0 h.1 h.2)
+
+-- ---- what is written of rows
+
+abbrev wide : ObjId → WideId
+wide id = record { client = pos id.client; counter = pos id.counter }
+
+-- what a written row says
+abbrev head_of : ObjId × Object → RowHead
+head_of e = record { id = wide e.0; is_document = bytes_eq (kind_word e.1.kind) (codes "document"); is_placed = is_given (maybe_written place_form.write e.1.place) }
+
+head_written : (e : ObjId × Object) → head_in (row_form.write e) ≡ Some (head_of e)
+head_written e = refl
+
+same_order : (m n : ℕ) → int_cmp (pos m) (pos n) ≡ nat_cmp m n
+same_order m n = grind arith
+
+wide_order : (p q : ObjId) → wide_cmp (wide p) (wide q) ≡ id_cmp p q
+wide_order p q = λ i. ordering_then (same_order p.client q.client i) (same_order p.counter q.counter i)
+
+kind_told : (kind : Kind) → bytes_eq (kind_word kind) (codes "document") ≡ true → kind ≡ Document
+kind_told Document e = refl
+kind_told Page e = cc
+kind_told Frame e = cc
+kind_told Shape e = cc
+kind_told Text e = cc
+
+place_told : (place : Option Place) → is_given (maybe_written place_form.write place) ≡ is_some place
+place_told None = refl
+place_told (Some place) = refl
+
+no_place : (place : Option Place) → is_some place ≡ false → place ≡ None
+no_place None e = refl
+no_place (Some place) e = cc
+
+was_not : (b : Bool) → not b ≡ true → b ≡ false
+was_not true e = absurd (true≢false (sym e))
+was_not false e = refl
+
+-- the first row is the root's exactly where the object is the root
+root_told : (e : ObjId × Object) → is_root (Some (head_of e)) ≡ true → IsRoot e
+root_told e h =
+    let a = both_hold (is_eq (wide_cmp (wide e.0) wide_root)) _ h in
+    let b = both_hold (bytes_eq (kind_word e.1.kind) (codes "document")) _ a.1 in
+    (same_exact e.0 root (sym (ap is_eq (wide_order e.0 root)) ∙ a.0), kind_told e.1.kind b.0, no_place e.1.place (sym (place_told e.1.place) ∙ was_not _ b.1))
+
+root_written : (e : ObjId × Object) → IsRoot e → is_root (Some (head_of e)) ≡ true
+root_written e (id, kind, place) =
+    let same : is_eq (wide_cmp (wide e.0) wide_root) ≡ true = ap is_eq (wide_order e.0 root ∙ ap (λ q. id_cmp q root) id ∙ tied_itself ids_total root) in
+    both_true _ _ same (rw (kind, place) refl)
+
+-- the rows after one
+after_sorted : (e : ObjId × Object) (es : List (ObjId × Object)) → are_after (row_form.write e) (each_written row_form.write es) ≡ true
+    → (k : ℕ) (d : ObjId × Object) → k + 1 < length (e ∷ es) → true ≡ is_lt (id_cmp (get_or (e ∷ es) k d).0 (get_or (e ∷ es) (k + 1) d).0)
+after_sorted e [] h k d lt = absurd (omega (arith, lt))
+after_sorted e (f ∷ fs) h zero d lt =
+    let a = both_hold (is_after (Some (head_of e)) (Some (head_of f))) _ h in
+    let b = both_hold (is_lt (wide_cmp (wide e.0) (wide f.0))) _ a.0 in
+    sym b.0 ∙ ap is_lt (wide_order e.0 f.0)
+after_sorted e (f ∷ fs) h (suc k) d lt =
+    let a = both_hold (is_after (Some (head_of e)) (Some (head_of f))) _ h in
+    rw add-one (rw add-one at (after_sorted f fs a.1 k d (omega (arith, lt))))
+
+after_placed : (e : ObjId × Object) (es : List (ObjId × Object)) → are_after (row_form.write e) (each_written row_form.write es) ≡ true → list_all is_placed es ≡ true
+after_placed e [] h = refl
+after_placed e (f ∷ fs) h =
+    let a = both_hold (is_after (Some (head_of e)) (Some (head_of f))) _ h in
+    let b = both_hold (is_lt (wide_cmp (wide e.0) (wide f.0))) _ a.0 in
+    both_true (is_placed f) (list_all is_placed fs) (sym (place_told f.1.place) ∙ b.1) (after_placed f fs a.1)
+
+after_written : (e : ObjId × Object) (es : List (ObjId × Object)) → T (map.is_sorted id_cmp (e ∷ es)) → list_all is_placed es ≡ true → are_after (row_form.write e) (each_written row_form.write es) ≡ true
+after_written e [] sorted placed = refl
+after_written e (f ∷ fs) sorted placed =
+    let p = both_hold (is_placed f) (list_all is_placed fs) placed in
+    let less = below_at ids_total e.0 (f ∷ fs) (head_below ids_total e (f ∷ fs) sorted) 0 f (omega arith) in
+    let here : is_lt (wide_cmp (wide e.0) (wide f.0)) ≡ true = ap is_lt (wide_order e.0 f.0 ∙ less) in
+    both_true _ _ (both_true _ _ here (place_told f.1.place ∙ p.0)) (after_written f fs (second _ _ sorted) p.1)
+
+-- rows stand in order exactly where their objects are a document
+pub ordered_document : (es : List (ObjId × Object)) → are_in_order (rows_form.write es) ≡ true → AreDocument es
+ordered_document [] h = absurd (true≢false (sym h))
+ordered_document (e ∷ es) h =
+    let a = both_hold (is_root (Some (head_of e))) _ h in
+    let sorted : T (map.is_sorted id_cmp (e ∷ es)) = (rising_answer ids_total (e ∷ es) true (after_sorted e es a.1)).0 refl in
+    (rooted_is_document (e ∷ es) sorted).0 (root_told e a.0, after_placed e es a.1)
+
+pub document_ordered : (es : List (ObjId × Object)) → AreDocument es → are_in_order (rows_form.write es) ≡ true
+document_ordered [] are = absurd ((rooted_is_document [] are.sorted).1 are)
+document_ordered (e ∷ es) are =
+    let rooted = (rooted_is_document (e ∷ es) are.sorted).1 are in
+    both_true _ _ (root_written e rooted.0) (after_written e es are.sorted rooted.1)

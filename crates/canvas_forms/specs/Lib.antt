@@ -1,0 +1,12 @@
+pub mod Version
+pub mod Numbered
+pub mod Only
+pub mod Tree
+pub mod Ids
+pub mod Kinds
+pub mod Places
+pub mod Changes
+pub mod Outcomes
+pub mod Rows
+pub mod RowOrder
+pub mod Shallow
