@@ -1,0 +1,90 @@
+//! Each growth of a shelf's answer, and of a record, refused in turn.
+ghost use Rattle.std.specs.Prelude.{◌≡◌, true, IfOk, IsTrue};
+ghost use Rattle.canvas_shelf.specs.Disk.{is_listed};
+ghost use Rattle.canvas_shelf.specs.Shelved.{disk_of};
+
+use crate::bytes::JOINED;
+use canvas_shelf::{DirShelf, MemShelf, RecordError, Shelf, ShelfError, record};
+use refusing::Refusing;
+use std::alloc::Global;
+use std::fs;
+use std::test::Fail;
+
+// A shelf in memory whose one segment has the first Join.
+fn in_memory(alloc: Global) -> Result<MemShelf, Fail>
+    ensures { IfOk result (λ m. is_listed 1 (disk_of m) ≡ true) }
+{
+    let mut shelf = MemShelf::new(alloc);
+    shelf.create(1)?;
+    shelf.append(1, JOINED)?;
+    Ok(shelf)
+}
+
+// The same in a folder.
+fn in_folder(rt: &HostRuntime, folder: &str) -> Result<DirShelf<HostRuntime>, Fail> {
+    Ok(DirShelf::existing(rt.clone()?, folder)?)
+}
+
+// Whether a shelf that is asked for its numbers, with the first growth refused, tells so and counts no failure, and answers when it is
+// asked again.
+fn refuses_list<S: Shelf>(alloc: Global, shelf: &mut S) -> bool {
+    let heap = Refusing::new(alloc, 1);
+    let failures = shelf.failures();
+    let refused = shelf.list(&heap).err() == Some(ShelfError::Memory);
+    let again = shelf.list(&heap).is_ok();
+    refused && heap.left() == 0 && shelf.failures() == failures && again
+}
+
+// The same of a shelf that is asked for the bytes of its first segment.
+fn refuses_read<S: Shelf>(alloc: Global, shelf: &mut S) -> bool
+    requires { IsTrue (S.honest shelf.old) → is_listed 1 (S.disk shelf.old) ≡ true }
+{
+    let heap = Refusing::new(alloc, 1);
+    let failures = shelf.failures();
+    let refused = shelf.read(&heap, 1).err() == Some(ShelfError::Memory);
+    let again = shelf.read(&heap, 1).is_ok();
+    refused && heap.left() == 0 && shelf.failures() == failures && again
+}
+
+// Whether a shelf in memory does both.
+fn memory_refuses(alloc: Global) -> Result<bool, Fail> {
+    let lists = refuses_list(alloc, &mut in_memory(alloc)?);
+    Ok(lists && refuses_read(alloc, &mut in_memory(alloc)?))
+}
+
+// Whether a shelf in a folder does both.
+fn folder_refuses(rt: &HostRuntime, folder: &str) -> Result<bool, Fail> {
+    let lists = refuses_list(rt.alloc(), &mut in_folder(rt, folder)?);
+    Ok(lists && refuses_read(rt.alloc(), &mut in_folder(rt, folder)?))
+}
+
+#[test]
+fn shelves(rt: HostRuntime) -> Result<(), Fail> {
+    assert!(rt; memory_refuses(rt.alloc())?);
+    let folder = "journal-refusals";
+    let _ = fs::remove_dir_all(&rt, folder);
+    fs::create_dir(&rt, folder)?;
+    fs::write(&rt, "journal-refusals/segment-0000000001", JOINED)?;
+    assert!(rt; folder_refuses(&rt, folder)?);
+    let _ = fs::remove_dir_all(&rt, folder);
+    Ok(())
+}
+
+// How many growths a record has, each of which may be refused.
+fn growths_of_record(alloc: Global, text: &[u8]) -> Option<u64> {
+    for nth in 1..10u64 {
+        let heap = Refusing::new(alloc, nth);
+        match record(&heap, text) {
+            Ok(_) => return Some(nth - 1),
+            Err(RecordError::Memory) => {}
+            Err(RecordError::TooLong) => return None,
+        }
+    }
+    None
+}
+
+#[test]
+fn records(rt: HostRuntime) {
+    assert_eq!(rt; growths_of_record(rt.alloc(), b""), Some(1));
+    assert_eq!(rt; growths_of_record(rt.alloc(), &[7; 100]), Some(2));
+}
