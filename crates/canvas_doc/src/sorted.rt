@@ -44,7 +44,20 @@ pub fn put<K: Ord + Drop, X: Drop, A: Allocator>(
 {
     match index_of(pairs, &key) {
         Ok(at) => pairs[at].1 = value,
-        Err(at) => pairs.insert(at, (key, value))?,
+        Err(at) => {
+            make_room(pairs)?;
+            pairs.insert(at, (key, value))?
+        }
+    }
+    Ok(())
+}
+
+// Makes room for one item more. Most of these lists are short, so the first has room for one, and then for twice as many.
+fn make_room<T, A: Allocator>(items: &mut Vec<T, A>) -> Result<(), AllocError>
+    ensures { items.new.items ≡ items.old.items }
+{
+    if items.len() == items.capacity() {
+        items.reserve_exact(items.len().max(1))?;
     }
     Ok(())
 }
