@@ -1,18 +1,18 @@
 -- Documents of which one row, or some objects, were changed.
-use Rattle.std.proofs.Common.{◌≡◌, ℕ, ◌+◌, ◌<◌, Bool, true, false, cond, List, [], ◌∷◌, ◌++◌, length, take, get_or, Option, Some, None, refl, ap, sym, ◌∙◌}
+use Rattle.std.proofs.Common.{◌≡◌, ℕ, ◌+◌, ◌<◌, true, false, cond, List, [], ◌∷◌, length, take, drop, get_or, Option, Some, None, ap, sym, ◌∙◌, zero, suc, arith}
 use Rattle.std.specs.List.{list_any}
 use Rattle.std.specs.Option.{option_map}
 use Rattle.std.specs.FinMap as map
-use Rattle.std.proofs.lemmas.List.{take_more}
+use Rattle.std.specs.Prelude.{slice_get}
+use Rattle.std.proofs.lemmas.Option.{none-some, same_Some}
 use Rattle.canvas_model.specs.declared.ObjId.{ObjId}
 use Rattle.canvas_model.specs.declared.Kind.{Kind}
-use Rattle.canvas_model.specs.Ids.{root, same_id}
+use Rattle.canvas_model.specs.Ids.{root}
 use Rattle.canvas_model.specs.Value.{Value}
-use Rattle.canvas_model.specs.Document.{Doc, Object, Place, Name, live, revise, without, new_object, with_place, with_prop}
+use Rattle.canvas_model.specs.Document.{Doc, Place, Name, live, revise, without, new_object, with_place, with_prop}
 use Rattle.canvas_model.specs.Change.{Change}
 use Rattle.canvas_model.specs.Overlay.{lay, over}
 use Rattle.canvas_model.specs.View.{moves_it, sets_it, deletes_it, placed, valued, added}
-use Rattle.canvas_model.proofs.Overlay.{over-append}
 use Rattle.canvas_doc.proofs.Laid.{rewritten}
 use Rattle.canvas_doc.proofs.Without.{without_more}
 use Rattle.canvas_model.proofs.Ids.{dead_none}
@@ -46,6 +46,14 @@ module _ (d : Doc) (staying : List Change) (id : ObjId) where
 pub one_more : (d n m : Doc) (ids : List ObjId) (i : ℕ) → i < length ids → n ≡ without d (take i ids) → m ≡ map.remove n (get_or ids i root) → m ≡ without d (take (i + 1) ids)
 one_more d n m ids i lt so_far now = now ∙ ap (λ n. map.remove n (get_or ids i root)) so_far ∙ without_more d ids i root lt
 
--- one more change laid over it
-pub laid_more : (d n m : Doc) (changes : List Change) (i : ℕ) (x : Change) → i < length changes → x ≡ get_or changes i x → n ≡ over d (take i changes) → m ≡ lay n x → m ≡ over d (take (i + 1) changes)
-laid_more d n m changes i x lt is so_far now = now ∙ ap (λ n. lay n x) so_far ∙ sym (over-append d (take i changes) x) ∙ ap (λ y. over d (take i changes ++ y ∷ [])) is ∙ ap (over d) (sym (take_more changes i x lt))
+-- one more of the changes that wait laid over it
+pub laid_next : (d n : Doc) (changes : List Change) (i : ℕ) (x : Change) → slice_get changes i ≡ Some x → n ≡ lay d x → over n (drop (i + 1) changes) ≡ over d (drop i changes)
+laid_next d n changes i x there now = ap (λ n. over n (drop (i + 1) changes)) now ∙ ap (over d) (sym (cut changes i there))
+  where
+    cut : (changes : List Change) (i : ℕ) → slice_get changes i ≡ Some x → drop i changes ≡ x ∷ drop (i + 1) changes
+    cut [] i there = absurd (none-some x there)
+    cut (y ∷ changes) zero there = ap (λ y. y ∷ changes) (same_Some y x there)
+    cut (y ∷ changes) (suc i) there = cut changes i there ∙ ap (λ k. x ∷ drop k (y ∷ changes)) (later i)
+      where
+        later : (i : ℕ) → suc (i + 1) ≡ suc i + 1
+        later i = omega arith

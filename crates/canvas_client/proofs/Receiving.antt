@@ -1,15 +1,12 @@
 -- What a client receives, case by case.
-use Rattle.std.proofs.Common.{◌≡◌, ℕ, ◌+◌, ◌-◌, ◌≤◌, Bool, true, false, cond, List, length, take, drop, Option, Some, None, refl, ap, sym, ◌∙◌, subst, arith}
+use Rattle.std.proofs.Common.{◌≡◌, ℕ, ◌+◌, ◌-◌, ◌≤◌, Bool, true, false, cond, drop, Option, Some, None, refl, ap, sym, ◌∙◌, subst, arith}
 use Rattle.std.specs.Prelude.{Result, Ok, Err, OnErr}
-use Rattle.std.proofs.lemmas.List.{length-drop}
 use Rattle.canvas_model.specs.Document.{Doc}
-use Rattle.canvas_model.specs.Change.{Change}
 use Rattle.canvas_model.specs.Overlay.{over}
 use Rattle.canvas_model.specs.View.{refreshed}
 use Rattle.canvas_model.specs.Log.{Entry}
 use Rattle.canvas_model.specs.Client.{Client}
 use Rattle.canvas_model.specs.Receive.{Message, Received, NotForMe, after_entry, after_copy, ReceivesBy, Receives, staying}
-use Rattle.canvas_model.proofs.Log.{take_all}
 use Rattle.canvas_judge.specs.declared.message.DocCopy.{DocCopy}
 use Rattle.canvas_judge.specs.declared.message.Message.{Message as Stored}
 use Rattle.canvas_judge.specs.declared.message.Message.TheVariants as stored
@@ -24,10 +21,6 @@ past_entry false count old v e is = ap (λ n. past (showing (after_entry false o
     plus_none : old.acknowledged + 0 ≡ old.acknowledged
     plus_none = omega arith
 
--- the slice from an index on
-pub from_on : {X : Type 0} (xs : List X) (n : ℕ) → take (length xs - n) (drop n xs) ≡ drop n xs
-from_on xs n = ap (λ k. take k (drop n xs)) (sym (length-drop n xs)) ∙ take_all (drop n xs)
-
 -- the client as it was
 pub back : (inner old : Client) (view : Doc) → inner ≡ old → view ≡ inner.view → showing view inner ≡ old
 back inner old view is same = ap (λ v. showing v inner) same ∙ is
@@ -35,20 +28,16 @@ back inner old view is same = ap (λ v. showing v inner) same ∙ is
 pub taken_apart : (own : Bool) (count : ℕ) (inner old new : Client) (view : Doc) (v : ℕ) (e : Entry) → count ≡ cond own 1 0 → inner ≡ old → new ≡ past (showing view inner) count v → showing (after_entry own old v e).view new ≡ after_entry own old v e
 taken_apart own count inner old new view v e is same now = ap (showing (after_entry own old v e).view) now ∙ ap (λ c. past (showing (after_entry own old v e).view c) count v) same ∙ past_entry own count old v e is
 
-pub taken_whole : (own : Bool) (count : ℕ) (inner old new : Client) (view : Doc) (ws : List Change) (v : ℕ) (e : Entry) → count ≡ cond own 1 0 → inner ≡ old → new ≡ past (showing view inner) count v
-    → ws ≡ inner.waiting → view ≡ refreshed own (drop count ws) e.what e.outcome inner.view → new ≡ after_entry own old v e
-taken_whole own count inner old new view ws v e is same now ws_is shown =
-    now ∙ ap (λ x. past (showing x inner) count v) (shown ∙ ap (λ l. refreshed own (drop count l) e.what e.outcome inner.view) ws_is)
-    ∙ ap (λ (c : Client). past (showing (refreshed own (drop count c.waiting) e.what e.outcome c.view) c) count v) same
-    ∙ ap (λ l. past (showing (refreshed own l e.what e.outcome old.view) old) count v) (stays own count is) ∙ past_entry own count old v e is
-  where
-    stays : (own : Bool) (count : ℕ) → count ≡ cond own 1 0 → drop count old.waiting ≡ staying own old.waiting
-    stays true count is = ap (λ n. drop n old.waiting) is
-    stays false count is = ap (λ n. drop n old.waiting) is
+pub taken_whole : (own : Bool) (count : ℕ) (inner old new : Client) (view : Doc) (v : ℕ) (e : Entry) → count ≡ cond own 1 0 → inner ≡ old → new ≡ past (showing view inner) count v
+    → view ≡ refreshed own (staying own inner.waiting) e.what e.outcome inner.view → new ≡ after_entry own old v e
+taken_whole own count inner old new view v e is same now shown =
+    now ∙ ap (λ x. past (showing x inner) count v) shown
+    ∙ ap (λ (c : Client). past (showing (refreshed own (staying own c.waiting) e.what e.outcome c.view) c) count v) same
+    ∙ past_entry own count old v e is
 
-pub copied_whole : (inner old new : Client) (view d : Doc) (ws : List Change) (count v n : ℕ) → inner ≡ old → old.acknowledged ≤ n → count ≡ n - inner.acknowledged → new ≡ past (showing view inner) count v → ws ≡ inner.waiting → view ≡ over d (drop count ws) → new ≡ after_copy old v n d
-copied_whole inner old new view d ws count v n same least is now ws_is shown =
-    now ∙ ap (λ x. past (showing x inner) count v) (shown ∙ ap (λ l. over d (drop count l)) ws_is)
+pub copied_whole : (inner old new : Client) (view d : Doc) (count v n : ℕ) → inner ≡ old → old.acknowledged ≤ n → count ≡ n - inner.acknowledged → new ≡ past (showing view inner) count v → view ≡ over d (drop count inner.waiting) → new ≡ after_copy old v n d
+copied_whole inner old new view d count v n same least is now shown =
+    now ∙ ap (λ x. past (showing x inner) count v) shown
     ∙ ap (λ k. past (showing (over d (drop k inner.waiting)) inner) k v) is
     ∙ ap (λ (c : Client). past (showing (over d (drop (n - c.acknowledged) c.waiting)) c) (n - c.acknowledged) v) same
     ∙ (λ t. record { id = old.id; counter = old.counter; version = v; acknowledged = whole t; waiting = drop (n - old.acknowledged) old.waiting; view = over d (drop (n - old.acknowledged) old.waiting) })

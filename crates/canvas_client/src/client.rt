@@ -13,9 +13,10 @@ use crate::Received;
 use crate::laws::every_told_entry;
 use crate::overlay::overlaid;
 use crate::rows::follow;
-use canvas_doc::{Change, Doc};
+use canvas_doc::Doc;
 use canvas_judge::{DocCopy, Entry, Message, What};
 use canvas_model::every_view;
+use canvas_pending::Pending;
 use std::alloc::{AllocError, Allocator, Global};
 use std::marker::Model;
 
@@ -29,7 +30,7 @@ pub struct Client<A: Allocator = Global> {
     pub(crate) counter: u32,
     pub(crate) version: u64,
     pub(crate) acknowledged: u64,
-    pub(crate) waiting: Vec<Change<A>, A>,
+    pub(crate) waiting: Pending<A>,
     pub(crate) view: Doc<A>,
 }
 
@@ -43,9 +44,9 @@ impl<A: Allocator> Model for Client<A> {
 
     ghost coded = { Prim.hlevel (codes, value_code, doc_code) };
 
-    ghost view = { λ c. record { id = c.id; counter = c.counter; version = c.version; acknowledged = c.acknowledged; waiting = c.waiting.items; view = c.view } };
+    ghost view = { λ c. record { id = c.id; counter = c.counter; version = c.version; acknowledged = c.acknowledged; waiting = c.waiting; view = c.view } };
 
-    ghost invariant = { λ c. IsKept (record { id = c.id; counter = c.counter; version = c.version; acknowledged = c.acknowledged; waiting = c.waiting.items; view = c.view }) };
+    ghost invariant = { λ c. IsKept (record { id = c.id; counter = c.counter; version = c.version; acknowledged = c.acknowledged; waiting = c.waiting; view = c.view }) };
 }
 
 impl<A: Allocator> Client<A> {
@@ -109,7 +110,7 @@ impl<A: Allocator> Client<A> {
         requires most { i ≤ length self.now.waiting }
         ensures { IfOk result (λ message. IsWaiting self.now i (seen_message message)) }
     {
-        let change = self.waiting[i as usize - 1].copy_in(alloc)?;
+        let change = self.waiting.get(i as usize - 1).unwrap().copy_in(alloc)?;
         let client = self.id.unwrap_or(0);
         Ok(Message::Edit {
             client,
@@ -125,7 +126,7 @@ impl<A: Allocator> Client<A> {
         let What::Edit(change) = &entry.what else {
             return false;
         };
-        match self.waiting.first() {
+        match self.waiting.get(0) {
             Some(first) => entry.seq == self.acknowledged + 1 && change.same(first),
             None => false,
         }
@@ -144,16 +145,6 @@ impl<A: Allocator> Client<A> {
         ensures { IsTrue result ↔ (self.now.acknowledged ≤ done) × (done ≤ last_number self.now) }
     {
         self.acknowledged <= done && done - self.acknowledged <= self.waiting.len() as u64
-    }
-
-    // Goes to this version, where so many of the edits that wait are judged. It takes no memory.
-    fn acknowledge(&mut self, count: usize, version: u64)
-        requires { count ≤ length self.old.waiting }
-        ensures { self.new ≡ past self.old count version }
-    {
-        self.waiting.drain(..count);
-        self.acknowledged += count as u64;
-        self.version = version;
     }
 
     // Takes an id, where it has none.
@@ -180,7 +171,7 @@ impl<A: Allocator + Copy> Client<A> {
             counter: 0,
             version: 0,
             acknowledged: 0,
-            waiting: Vec::new(alloc),
+            waiting: Pending::new(alloc),
             view,
         })
     }
@@ -263,10 +254,20 @@ impl<A: Allocator + Copy> Client<A> {
         ensures err { OnErr result (self.new ≡ self.old) }
     {
         let count = judged_by(own);
-        let alloc = *self.waiting.allocator();
-        follow(alloc, &mut self.view, &self.waiting[count..], own, entry)?;
+        let alloc = self.waiting.allocator();
+        follow(alloc, &mut self.view, &self.waiting, own, entry)?;
         self.acknowledge(count, version);
         Ok(())
+    }
+
+    // Goes to this version, where so many of the edits that wait are judged. It takes no memory.
+    fn acknowledge(&mut self, count: usize, version: u64)
+        requires { count ≤ length self.old.waiting }
+        ensures { self.new ≡ past self.old count version }
+    {
+        self.waiting.drop_first(count);
+        self.acknowledged += count as u64;
+        self.version = version;
     }
 
     // Receives a copy of the document.
@@ -299,8 +300,8 @@ impl<A: Allocator + Copy> Client<A> {
         ensures err { OnErr result (self.new ≡ self.old) }
     {
         let count = (copy.done - self.acknowledged) as usize;
-        let alloc = *self.waiting.allocator();
-        let view = overlaid(alloc, &copy.doc, &self.waiting[count..])?;
+        let alloc = self.waiting.allocator();
+        let view = overlaid(alloc, &copy.doc, &self.waiting, count)?;
         self.view = view;
         self.acknowledge(count, copy.version);
         Ok(())

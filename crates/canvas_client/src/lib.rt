@@ -10,7 +10,6 @@ mod overlay;
 mod received;
 mod request;
 mod rows;
-mod waiting;
 
 pub use client::Client;
 pub use error::EditError;

@@ -1,21 +1,23 @@
-// Changes laid over a copy of the document.
-ghost use Rattle.std.specs.Prelude.{◌≡◌, IfOk};
+// Edits that wait, laid over a copy of the document.
+ghost use Rattle.std.specs.Prelude.{◌≡◌, IfOk, drop};
 ghost use Rattle.canvas_model.specs.Overlay.{over};
 
-use canvas_doc::{Change, Doc};
+use canvas_doc::Doc;
+use canvas_pending::Pending;
 use std::alloc::{AllocError, Allocator};
 
-/// A copy of the document with these changes laid over it in order. Fails only where memory is refused.
+/// A copy of the document with the waiting edits from this index on laid over it in order. Fails only where memory is refused.
 pub fn overlaid<A: Allocator + Copy, B: Allocator + Copy>(
     alloc: A,
     doc: &Doc<B>,
-    changes: &[Change<A>],
+    waiting: &Pending<A>,
+    first: usize,
 ) -> Result<Doc<A>, AllocError>
-    ensures { IfOk result (λ view. view ≡ over doc.now changes.now) }
+    ensures { IfOk result (λ view. view ≡ over doc.now (drop first waiting.now)) }
 {
     let mut view = doc.copy(alloc)?;
-    for change in changes {
-        view.overlay(change)?;
+    for at in first..waiting.len() {
+        view.overlay(waiting.get(at).unwrap())?;
     }
     Ok(view)
 }

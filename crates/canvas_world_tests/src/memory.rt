@@ -198,7 +198,7 @@ const OF_NODES: [Case; 8] = [
         lines: &[],
         step: Edit(2, Wish::Set(LEFT, 7)),
         answer: Answer::EditIs(1),
-        growths: 6,
+        growths: 9,
     },
     Case {
         name: "a move",
@@ -206,7 +206,7 @@ const OF_NODES: [Case; 8] = [
         lines: &[],
         step: Edit(2, Wish::Move(LEFT, RIGHT, None)),
         answer: Answer::EditIs(1),
-        growths: 5,
+        growths: 6,
     },
     Case {
         name: "a deletion",
@@ -214,7 +214,7 @@ const OF_NODES: [Case; 8] = [
         lines: &[],
         step: Edit(2, Wish::Delete(LEFT)),
         answer: Answer::EditIs(1),
-        growths: 2,
+        growths: 3,
     },
     Case {
         name: "a creation that is sent",

@@ -1,6 +1,8 @@
-use Rattle.std.proofs.Common.{arith}
-use Rattle.canvas_client.proofs.Changed.{laid_more}
+use Rattle.std.proofs.Common.{◌∙◌, sym, ap}
+use Rattle.std.specs.Option.{option_copied}
+use Rattle.canvas_client.proofs.Changed.{laid_next}
 use Rattle.canvas_client.proofs.overlay.overlaid.Goals as goal
 
-pub loop-change-preserved : goal.loop-change-preserved
-loop-change-preserved g c = laid_more c.args.doc.now c.loop-change.view c.overlay.new.self c.args.changes.now c.loop-change.change-index c.change-item.result (omega arith) c.change-item.is c.loop-change.invariant c.in_ok-overlay.ensures.ok
+pub loop-at-preserved : goal.loop-at-preserved
+loop-at-preserved g c =
+    laid_next c.loop-at.view c.overlay.new.self c.args.waiting.now c.loop-at.at c.unwrap.result.now (sym c.get.ensures ∙ ap option_copied c.unwrap.ensures) c.in_ok-overlay.ensures.ok ∙ c.loop-at.invariant

@@ -1,4 +1,4 @@
-use Rattle.std.proofs.Common.{◌≡◌, [], ◌∷◌, ◌++◌, sym, ap, subst, ◌∙◌}
+use Rattle.std.proofs.Common.{sym, ap, subst, ◌∙◌}
 use Rattle.canvas_model.specs.Client.{Client}
 use Rattle.canvas_model.specs.Local.{Makes, edited}
 use Rattle.canvas_client.specs.Asked.{StandsStill}
@@ -8,24 +8,21 @@ use Rattle.canvas_client.proofs.client.Client.commit.Goals as goal
 
 pub invariant_of-self-2 : goal.invariant_of-self-2
 invariant_of-self-2 g c =
-    let inner : Client = record { id = c.self.inside.id; counter = c.self.inside.counter; version = c.self.inside.version; acknowledged = c.self.inside.acknowledged; waiting = c.self.inside.waiting.items; view = c.self.inside.view } in
+    let inner : Client = record { id = c.self.inside.id; counter = c.self.inside.counter; version = c.self.inside.version; acknowledged = c.self.inside.acknowledged; waiting = c.self.inside.waiting; view = c.self.inside.view } in
     let makes : Makes inner c.requires.0 c.args.change = subst (λ x. Makes x c.requires.0 c.args.change) (sym c.self.view_is) c.requires.1 in
-    let waits : c.push_reserved.new.self.items ≡ inner.waiting ++ c.args.change ∷ [] = c.push_reserved.ensures.items ∙ ap (λ xs. xs ++ c.args.change ∷ []) c.reserve.ensures.items in
-    let same = parts_edited inner c.args.change c.counter_after-self-inside.result c.push_reserved.new.self.items c.overlay.new.self c.counter_after-self-inside.ensures waits c.in_ok-overlay.ensures.ok in
+    let same = parts_edited inner c.args.change c.counter_after-counter.result c.wait_and_show.new.waiting c.wait_and_show.new.view c.counter_after-counter.ensures c.in_ok-wait_and_show.ensures.waits c.in_ok-wait_and_show.ensures.shows in
     subst IsKept (sym same) (kept_edited inner c.requires.0 c.args.change makes c.self.invariant)
 
 pub returns-clause-ok : goal.returns-clause-ok
 returns-clause-ok g c =
-    let inner : Client = record { id = c.self.inside.id; counter = c.self.inside.counter; version = c.self.inside.version; acknowledged = c.self.inside.acknowledged; waiting = c.self.inside.waiting.items; view = c.self.inside.view } in
-    let waits : c.push_reserved.new.self.items ≡ inner.waiting ++ c.args.change ∷ [] = c.push_reserved.ensures.items ∙ ap (λ xs. xs ++ c.args.change ∷ []) c.reserve.ensures.items in
-    parts_edited inner c.args.change c.counter_after-self-inside.result c.push_reserved.new.self.items c.overlay.new.self c.counter_after-self-inside.ensures waits c.in_ok-overlay.ensures.ok
+    let inner : Client = record { id = c.self.inside.id; counter = c.self.inside.counter; version = c.self.inside.version; acknowledged = c.self.inside.acknowledged; waiting = c.self.inside.waiting; view = c.self.inside.view } in
+    parts_edited inner c.args.change c.counter_after-counter.result c.wait_and_show.new.waiting c.wait_and_show.new.view c.counter_after-counter.ensures c.in_ok-wait_and_show.ensures.waits c.in_ok-wait_and_show.ensures.shows
     ∙ ap (λ x. edited x c.args.change) c.self.view_is
 
 pub returns-clause-stands : goal.returns-clause-stands
 returns-clause-stands g c =
-    let inner : Client = record { id = c.self.inside.id; counter = c.self.inside.counter; version = c.self.inside.version; acknowledged = c.self.inside.acknowledged; waiting = c.self.inside.waiting.items; view = c.self.inside.view } in
-    let waits : c.push_reserved.new.self.items ≡ inner.waiting ++ c.args.change ∷ [] = c.push_reserved.ensures.items ∙ ap (λ xs. xs ++ c.args.change ∷ []) c.reserve.ensures.items in
-    let same = parts_edited inner c.args.change c.counter_after-self-inside.result c.push_reserved.new.self.items c.overlay.new.self c.counter_after-self-inside.ensures waits c.in_ok-overlay.ensures.ok
+    let inner : Client = record { id = c.self.inside.id; counter = c.self.inside.counter; version = c.self.inside.version; acknowledged = c.self.inside.acknowledged; waiting = c.self.inside.waiting; view = c.self.inside.view } in
+    let same = parts_edited inner c.args.change c.counter_after-counter.result c.wait_and_show.new.waiting c.wait_and_show.new.view c.counter_after-counter.ensures c.in_ok-wait_and_show.ensures.waits c.in_ok-wait_and_show.ensures.shows
     ∙ ap (λ x. edited x c.args.change) c.self.view_is
     in
     subst (StandsStill c.args.self.now) (sym same) (stands_edited c.args.self.now c.requires.0 c.args.change c.requires.1 c.every_view.ensures.edited (subst IsKept c.self.view_is c.self.invariant))

@@ -1,8 +1,8 @@
 use Rattle.std.proofs.Common.{sym, ap, ◌∙◌}
 use Rattle.canvas_doc.specs.Seen.{seen}
 use Rattle.canvas_doc.proofs.Laid.{ids_equal}
-use Rattle.canvas_client.proofs.Tests.{sets_row}
-use Rattle.canvas_client.proofs.waiting.sets.Goals as goal
+use Rattle.canvas_pending.proofs.Tests.{sets_row}
+use Rattle.canvas_pending.proofs.writes.sets.Goals as goal
 
 pub returns-then-eq : goal.returns-then-eq
 returns-then-eq g c =

@@ -1,0 +1,5 @@
+mod Counts
+mod Edges
+mod Rows
+mod Tests
+mod Waiting

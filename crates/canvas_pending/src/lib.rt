@@ -1,0 +1,10 @@
+//! The edits of a client that wait to be judged, and how many of them write each row.
+#![tactic(auto)]
+
+mod objects;
+mod pending;
+mod props;
+mod tallies;
+mod writes;
+
+pub use pending::Pending;
