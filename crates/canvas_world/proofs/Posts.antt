@@ -56,6 +56,11 @@ sends_nothing w k i n is out = at_some (node w k) n w Nothing w _ is (by n.clien
     by None = (refl, refl)
     by (Some c) = at_none (nth n.client.waiting i) w _ (outside n.client.waiting i out)
 
+-- the same, for the world as its contracts see it
+pub sends_nothing_at : (w old : World) (k i : ℕ) (ns : List Node) (n : Node) → w ≡ old → Some n ≡ nth ns k → ns ≡ w.nodes → (i ≡ 0) ⊎ (length n.client.waiting < i) → IsPost old (Send k i) None
+sends_nothing_at w old k i ns n here is same out =
+    subst (λ (u : World). IsPost u (Send k i) None) here (sends_nothing w k i n (found w.nodes ns k n n is same refl) out)
+
 -- an id goes to the node that asked
 pub welcomes : (w : World) (v : ℕ) (e : Entry) (c k : ℕ) → v ≤ w.published → nth w.log v ≡ Some e → Some c ≡ joined_as e.outcome → nth w.askers v ≡ Some k
     → IsPost w (SendWelcome v) (Some (record { from = 0; to = k; message = Welcome c }))
@@ -146,6 +151,14 @@ tells_late w v k n xs counts is some tail empty = at_some (node w k) n w Nothing
         let gone : None ≡ Some x.0 = ap (λ (zs : List Entry). slice_get zs 0) (sym empty ∙ t.1) ∙ first_of w v past shown ∙ x.1 in
         absurd (cc)
 
+-- no tail: a checkpoint passed the version
+pub tells_passed : (w : World) (v k : ℕ) (n : Node) → node w k ≡ Some n → 0 < v → None ≡ tail_of (served_in w) (v - 1) 1 → IsPost w (Tell v k) None
+tells_passed w v k n is some none = at_some (node w k) n w Nothing w _ is (if_not (nat_lt w.floor v && nat_le v w.published) w _ (passed (nat_lt (v - 1) w.floor) refl none))
+  where
+    passed : (b : Bool) → nat_lt (v - 1) w.floor ≡ b → None ≡ cond b None (Some (take 1 (drop ((v - 1) - w.floor) (take (w.published - w.floor) (drop w.floor w.log))))) → (nat_lt w.floor v && nat_le v w.published) ≡ false
+    passed true e is = grind (arith, nat_tests)
+    passed false e is = absurd (cc)
+
 -- the document goes to a node
 pub copies : (w : World) (k c : ℕ) (n : Node) → node w k ≡ Some n → n.client.id ≡ Some c → (w.published == length w.log) ≡ true
     → IsPost w (Copy k) (Some (record { from = 0; to = k; message = Copies (length w.log) (done (state w) c) (state w).doc }))
@@ -168,6 +181,12 @@ pub tells_late_at : (w old : World) (s : Served) (v k : ℕ) (ns : List Node) (n
 tells_late_at w old s v k ns n xs good here serves is same some tail empty =
     subst (λ (u : World). IsPost u (Tell v k) None) here
     (tells_late w v k n xs good.counts (found w.nodes ns k n n is same refl) (omega arith) (tail ∙ ap (λ (s : Served). tail_of s (v - 1) 1) serves) (none_left xs empty))
+
+pub tells_passed_at : (w old : World) (s : Served) (v k : ℕ) (ns : List Node) (n : Node) → w ≡ old → s ≡ served_in w → Some n ≡ nth ns k → ns ≡ w.nodes → (v ≡ 0 → ⊥) → None ≡ tail_of s (v - 1) 1
+    → IsPost old (Tell v k) None
+tells_passed_at w old s v k ns n here serves is same some none =
+    subst (λ (u : World). IsPost u (Tell v k) None) here
+    (tells_passed w v k n (found w.nodes ns k n n is same refl) (omega arith) (none ∙ ap (λ (s : Served). tail_of s (v - 1) 1) serves))
 
 pub welcomes_at : (w old : World) (v p : ℕ) (log : List Entry) (ks : List ℕ) (now e : Entry) (c k : ℕ) (message : Message) → w ≡ old → p ≡ w.published → v ≤ p → Some now ≡ nth log v → log ≡ w.log → e ≡ now → Some c ≡ joined_as e.outcome → Some k ≡ nth ks v → ks ≡ w.askers → message ≡ Welcome c
     → IsPost old (SendWelcome v) (Some (record { from = 0; to = k; message = message }))
