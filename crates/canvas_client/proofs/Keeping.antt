@@ -4,6 +4,7 @@ use Rattle.std.specs.Prelude.{◌||◌, ◌↔◌, IsTrue, cond, slice_get}
 use Rattle.std.specs.List.{list_any}
 use Rattle.std.proofs.lemmas.List.{length-drop}
 use Rattle.canvas_model.specs.Ids.{root}
+use Rattle.canvas_model.specs.Document.{Doc}
 use Rattle.canvas_model.specs.Change.{Change}
 use Rattle.canvas_model.specs.View.{creates_it}
 use Rattle.canvas_model.specs.Log.{What, Join, Edit, Entry}
@@ -40,8 +41,18 @@ kept_past client count v few k = record {
   few = let l = length-drop count client.waiting in let h = k.few in omega arith;
 }
 
-pub kept_waits : (client : Client) (count v : ℕ) (rest : List Change) → count ≤ length client.waiting → rest ≡ drop count client.waiting → IsKept client → IsKept (record { id = client.id; counter = client.counter; version = v; acknowledged = client.acknowledged + count; waiting = rest; view = client.view })
-kept_waits client count v rest few is k = subst (λ (l : List Change). IsKept (record { id = client.id; counter = client.counter; version = v; acknowledged = client.acknowledged + count; waiting = l; view = client.view })) (sym is) (kept_past client count v few k)
+-- the same with the edits that wait put in another way, and another view
+pub kept_waits : (client : Client) (count v : ℕ) (rest : List Change) (view : Doc) → count ≤ length client.waiting → rest ≡ drop count client.waiting → IsKept client
+    → IsKept (record { id = client.id; counter = client.counter; version = v; acknowledged = client.acknowledged + count; waiting = rest; view = view })
+kept_waits client count v rest view few is k =
+    subst (λ (l : List Change). IsKept (record { id = client.id; counter = client.counter; version = v; acknowledged = client.acknowledged + count; waiting = l; view = view })) (sym is)
+    (let m = kept_past client count v few k in record { own = m.own; no_root = m.no_root; idle = m.idle; few = m.few })
+
+pub kept_copied : (client : Client) (v n : ℕ) (rest : List Change) (view : Doc) → client.acknowledged ≤ n → n - client.acknowledged ≤ length client.waiting → rest ≡ drop (n - client.acknowledged) client.waiting → IsKept client
+    → IsKept (record { id = client.id; counter = client.counter; version = v; acknowledged = n; waiting = rest; view = view })
+kept_copied client v n rest view least few is k =
+    let m = kept_waits client (n - client.acknowledged) v rest view few is k in
+    record { own = m.own; no_root = m.no_root; idle = m.idle; few = let f = m.few in omega (arith, f, least) }
 
 pub kept_new : (client : Client) → client.id ≡ None → client.waiting ≡ [] → client.acknowledged ≡ 0 → IsKept client
 kept_new client none empty zero_yet = record {
@@ -52,7 +63,7 @@ kept_new client none empty zero_yet = record {
 }
 
 -- the first edit that waits, where an entry is it
-waits : (what : What) (xs : List Change) → IsEdit what (nth xs 1) → 1 ≤ length xs
+pub waits : (what : What) (xs : List Change) → IsEdit what (nth xs 1) → 1 ≤ length xs
 waits Join xs h = absurd h
 waits (Edit change) [] h = let f : None ≡ Some change = h in absurd (cc)
 waits (Edit change) (x ∷ xs) h = omega arith
@@ -61,8 +72,9 @@ pub count_fits : (own : Bool) (count : ℕ) (client : Client) (e : Entry) → co
 count_fits true count client e is next = let h = waits e.what client.waiting (next refl).1 in omega arith
 count_fits false count client e is next = omega arith
 
-pub first_spares : (client : Client) (e : Entry) → IsKept client → IsNextEdit client e → (change : Change) → e.what ≡ Edit change → creates_it root change ≡ false
-first_spares client e k next change what = go client.waiting k.no_root (subst (λ w. IsEdit w (nth client.waiting 1)) what next.1)
+-- that edit isn't the root's creation
+pub first_spares : (waiting : List Change) (e : Entry) → list_any (creates_it root) waiting ≡ false → IsEdit e.what (nth waiting 1) → (change : Change) → e.what ≡ Edit change → creates_it root change ≡ false
+first_spares waiting e none next change what = go waiting none (subst (λ w. IsEdit w (nth waiting 1)) what next)
   where
     left_false : (a b : Bool) → (a || b) ≡ false → a ≡ false
     left_false true b h = absurd (cc)

@@ -1,6 +1,7 @@
 -- What a client receives, case by case.
-use Rattle.std.proofs.Common.{◌≡◌, ℕ, ◌+◌, ◌-◌, ◌≤◌, Bool, true, false, cond, drop, Option, Some, None, refl, ap, sym, ◌∙◌, subst, arith}
+use Rattle.std.proofs.Common.{◌≡◌, ℕ, ◌+◌, ◌-◌, Bool, true, false, cond, List, drop, Option, Some, None, refl, ap, sym, ◌∙◌, subst, arith}
 use Rattle.std.specs.Prelude.{Result, Ok, Err, OnErr}
+use Rattle.canvas_model.specs.Change.{Change}
 use Rattle.canvas_model.specs.Document.{Doc}
 use Rattle.canvas_model.specs.Overlay.{over}
 use Rattle.canvas_model.specs.View.{refreshed}
@@ -21,6 +22,11 @@ past_entry false count old v e is = ap (λ n. past (showing (after_entry false o
     plus_none : old.acknowledged + 0 ≡ old.acknowledged
     plus_none = omega arith
 
+-- the parts of a client past an entry or a copy
+pub parts_past : (inner : Client) (view : Doc) (count v : ℕ) (rest : List Change) → rest ≡ drop count inner.waiting
+    → record { id = inner.id; counter = inner.counter; version = v; acknowledged = inner.acknowledged + count; waiting = rest; view = view } ≡ past (showing view inner) count v
+parts_past inner view count v rest is i = record { id = inner.id; counter = inner.counter; version = v; acknowledged = inner.acknowledged + count; waiting = is i; view = view }
+
 -- the client as it was
 pub back : (inner old : Client) (view : Doc) → inner ≡ old → view ≡ inner.view → showing view inner ≡ old
 back inner old view is same = ap (λ v. showing v inner) same ∙ is
@@ -35,15 +41,11 @@ taken_whole own count inner old new view v e is same now shown =
     ∙ ap (λ (c : Client). past (showing (refreshed own (staying own c.waiting) e.what e.outcome c.view) c) count v) same
     ∙ past_entry own count old v e is
 
-pub copied_whole : (inner old new : Client) (view d : Doc) (count v n : ℕ) → inner ≡ old → old.acknowledged ≤ n → count ≡ n - inner.acknowledged → new ≡ past (showing view inner) count v → view ≡ over d (drop count inner.waiting) → new ≡ after_copy old v n d
-copied_whole inner old new view d count v n same least is now shown =
-    now ∙ ap (λ x. past (showing x inner) count v) shown
-    ∙ ap (λ k. past (showing (over d (drop k inner.waiting)) inner) k v) is
-    ∙ ap (λ (c : Client). past (showing (over d (drop (n - c.acknowledged) c.waiting)) c) (n - c.acknowledged) v) same
-    ∙ (λ t. record { id = old.id; counter = old.counter; version = v; acknowledged = whole t; waiting = drop (n - old.acknowledged) old.waiting; view = over d (drop (n - old.acknowledged) old.waiting) })
-  where
-    whole : old.acknowledged + (n - old.acknowledged) ≡ n
-    whole = omega arith
+pub copied_whole : (inner old : Client) (view d : Doc) (v n : ℕ) (rest : List Change) → inner ≡ old → rest ≡ drop (n - inner.acknowledged) inner.waiting → view ≡ over d (drop (n - inner.acknowledged) inner.waiting)
+    → record { id = inner.id; counter = inner.counter; version = v; acknowledged = n; waiting = rest; view = view } ≡ after_copy old v n d
+copied_whole inner old view d v n rest same waits shown =
+    (λ i. record { id = inner.id; counter = inner.counter; version = v; acknowledged = n; waiting = waits i; view = shown i })
+    ∙ ap (λ (c : Client). after_copy c v n d) same
 
 pub err_any : {T E P : Type 0} (r : Result T E) → P → OnErr r P
 err_any (Ok x) p = tt

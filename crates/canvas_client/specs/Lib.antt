@@ -3,3 +3,5 @@ pub mod Follow
 pub mod Kept
 pub mod Receives
 pub mod Asked
+pub mod Rise
+pub mod Counted

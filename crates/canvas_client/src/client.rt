@@ -6,17 +6,14 @@ ghost use Rattle.canvas_model.specs.Receive.{Asks, Copies, IsNextEdit, Joins, Re
 ghost use Rattle.canvas_judge.specs.Seen.{seen_copy, seen_message};
 ghost use Rattle.canvas_client.specs.Follow.{CanFollow, LeavesRoot};
 ghost use Rattle.canvas_client.specs.Kept.{IsKept};
-ghost use Rattle.canvas_client.specs.Receives.{ChangesOnlyWhereTook, IsWaiting, ReceivesApart, StaysUpright, past, showing};
+ghost use Rattle.canvas_client.specs.Receives.{ChangesOnlyWhereTook, IsWaiting, ReceivesApart, StaysUpright, showing};
 ghost use Rattle.canvas_client.specs.Seen.{seen_received};
 
-use crate::Received;
 use crate::laws::every_told_entry;
-use crate::overlay::overlaid;
-use crate::rows::follow;
+use crate::{Merged, Received};
 use canvas_doc::Doc;
 use canvas_judge::{DocCopy, Entry, Message, What};
 use canvas_model::every_view;
-use canvas_pending::Pending;
 use std::alloc::{AllocError, Allocator, Global};
 use std::marker::Model;
 
@@ -30,8 +27,7 @@ pub struct Client<A: Allocator = Global> {
     pub(crate) counter: u32,
     pub(crate) version: u64,
     pub(crate) acknowledged: u64,
-    pub(crate) waiting: Pending<A>,
-    pub(crate) view: Doc<A>,
+    pub(crate) merged: Merged<A>,
 }
 
 impl<A: Allocator> Model for Client<A> {
@@ -44,9 +40,9 @@ impl<A: Allocator> Model for Client<A> {
 
     ghost coded = { Prim.hlevel (codes, value_code, doc_code) };
 
-    ghost view = { λ c. record { id = c.id; counter = c.counter; version = c.version; acknowledged = c.acknowledged; waiting = c.waiting; view = c.view } };
+    ghost view = { λ c. record { id = c.id; counter = c.counter; version = c.version; acknowledged = c.acknowledged; waiting = c.merged.waiting; view = c.merged.shown.doc } };
 
-    ghost invariant = { λ c. IsKept (record { id = c.id; counter = c.counter; version = c.version; acknowledged = c.acknowledged; waiting = c.waiting; view = c.view }) };
+    ghost invariant = { λ c. IsKept (record { id = c.id; counter = c.counter; version = c.version; acknowledged = c.acknowledged; waiting = c.merged.waiting; view = c.merged.shown.doc }) };
 }
 
 impl<A: Allocator> Client<A> {
@@ -75,7 +71,7 @@ impl<A: Allocator> Client<A> {
     pub fn unacknowledged(&self) -> u64
         ensures { result ≡ length self.now.waiting }
     {
-        self.waiting.len() as u64
+        self.merged.waiting.len() as u64
     }
 
     /// What it shows: the document as far as it knows it, with the waiting edits laid over it.
@@ -83,7 +79,20 @@ impl<A: Allocator> Client<A> {
         ensures view { result.now ≡ self.now.view }
         ensures kept { IsKept self.now }
     {
-        &self.view
+        &self.merged.shown.doc
+    }
+
+    /// What it shows and what waits, with the count of their changes.
+    pub fn merged(&self) -> &Merged<A>
+        ensures waiting { result.now.waiting ≡ self.now.waiting }
+        ensures view { result.now.shown.doc ≡ self.now.view }
+    {
+        &self.merged
+    }
+
+    /// How many changes of the view and of the counts of waiting edits the last taken entry made, 0 after a copy or a welcome.
+    pub fn last_changes(&self) -> u64 {
+        self.merged.last_changes()
     }
 
     /// The message with which a node asks for an id.
@@ -110,7 +119,12 @@ impl<A: Allocator> Client<A> {
         requires most { i ≤ length self.now.waiting }
         ensures { IfOk result (λ message. IsWaiting self.now i (seen_message message)) }
     {
-        let change = self.waiting.get(i as usize - 1).unwrap().copy_in(alloc)?;
+        let change = self
+            .merged
+            .waiting
+            .get(i as usize - 1)
+            .unwrap()
+            .copy_in(alloc)?;
         let client = self.id.unwrap_or(0);
         Ok(Message::Edit {
             client,
@@ -126,7 +140,7 @@ impl<A: Allocator> Client<A> {
         let What::Edit(change) = &entry.what else {
             return false;
         };
-        match self.waiting.get(0) {
+        match self.merged.waiting.get(0) {
             Some(first) => entry.seq == self.acknowledged + 1 && change.same(first),
             None => false,
         }
@@ -144,7 +158,7 @@ impl<A: Allocator> Client<A> {
     fn may_be_judged(&self, done: u64) -> bool
         ensures { IsTrue result ↔ (self.now.acknowledged ≤ done) × (done ≤ last_number self.now) }
     {
-        self.acknowledged <= done && done - self.acknowledged <= self.waiting.len() as u64
+        self.acknowledged <= done && done - self.acknowledged <= self.merged.waiting.len() as u64
     }
 
     // Takes an id, where it has none.
@@ -156,6 +170,7 @@ impl<A: Allocator> Client<A> {
             return Received::Old;
         }
         self.id = Some(id);
+        self.merged.last = 0;
         Received::Took
     }
 }
@@ -165,14 +180,13 @@ impl<A: Allocator + Copy> Client<A> {
     pub fn new(alloc: A) -> Result<Self, AllocError>
         ensures { IfOk result (λ client. client ≡ new_client) }
     {
-        let view = Doc::new(alloc)?;
+        let merged = Merged::new(alloc)?;
         Ok(Client {
             id: None,
             counter: 0,
             version: 0,
             acknowledged: 0,
-            waiting: Pending::new(alloc),
-            view,
+            merged,
         })
     }
 
@@ -253,21 +267,10 @@ impl<A: Allocator + Copy> Client<A> {
         ensures takes { OnOk result (LeavesRoot entry.now → self.new ≡ after_entry own self.old version entry.now) }
         ensures err { OnErr result (self.new ≡ self.old) }
     {
-        let count = judged_by(own);
-        let alloc = self.waiting.allocator();
-        follow(alloc, &mut self.view, &self.waiting, own, entry)?;
-        self.acknowledge(count, version);
-        Ok(())
-    }
-
-    // Goes to this version, where so many of the edits that wait are judged. It takes no memory.
-    fn acknowledge(&mut self, count: usize, version: u64)
-        requires { count ≤ length self.old.waiting }
-        ensures { self.new ≡ past self.old count version }
-    {
-        self.waiting.drop_first(count);
-        self.acknowledged += count as u64;
+        self.merged.take(own, entry)?;
+        self.acknowledged += judged_by(own);
         self.version = version;
+        Ok(())
     }
 
     // Receives a copy of the document.
@@ -300,16 +303,15 @@ impl<A: Allocator + Copy> Client<A> {
         ensures err { OnErr result (self.new ≡ self.old) }
     {
         let count = (copy.done - self.acknowledged) as usize;
-        let alloc = self.waiting.allocator();
-        let view = overlaid(alloc, &copy.doc, &self.waiting, count)?;
-        self.view = view;
-        self.acknowledge(count, copy.version);
+        self.merged.lay_anew(&copy.doc, count)?;
+        self.acknowledged = copy.done;
+        self.version = copy.version;
         Ok(())
     }
 }
 
 // How many of the edits that wait an entry judges; `own` says that it is the client's own next one.
-fn judged_by(own: bool) -> usize
+fn judged_by(own: bool) -> u64
     ensures { result ≡ cond own 1 0 }
 {
     if own { 1 } else { 0 }

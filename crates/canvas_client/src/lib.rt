@@ -1,18 +1,23 @@
 //! A client of the canvas: what it shows, the edits of its own that wait for the server, and what it does with each message.
 #![tactic(auto)]
 
+mod changes;
 mod client;
 mod drafting;
 mod error;
 mod laws;
 mod local;
+mod merged;
 mod overlay;
 mod received;
 mod request;
 mod rows;
+mod shown;
 
+pub use changes::Changes;
 pub use client::Client;
 pub use error::EditError;
 pub use laws::every_told_entry;
+pub use merged::Merged;
 pub use received::Received;
 pub use request::{EditRequest, EditRequestVariant};

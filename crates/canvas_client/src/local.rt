@@ -1,10 +1,9 @@
 // A client's edits of its own.
-ghost use Rattle.std.specs.Prelude.{◌≡◌, ◌≢◌, ◌↔◌, ℕ, ◌+◌, ◌^◌, [], ◌∷◌, ◌++◌, IsTrue, IfOk, IfErr, IfSome, IfNone, OnOk, OnErr, Some, None};
+ghost use Rattle.std.specs.Prelude.{◌≡◌, ◌≢◌, ◌↔◌, ℕ, ◌+◌, ◌^◌, IsTrue, IfOk, IfErr, IfSome, IfNone, OnOk, OnErr, Some, None};
 ghost use Rattle.canvas_model.specs.Change.{object_of};
 ghost use Rattle.canvas_model.specs.Client.{last_number};
 ghost use Rattle.canvas_model.specs.Local.{Clear, Create, Delete, EditRequest as Asked, Has, Makes, Move, Refuses, Set};
 ghost use Rattle.canvas_model.specs.Local.{counter_after, edited};
-ghost use Rattle.canvas_model.specs.Overlay.{lay};
 ghost use Rattle.canvas_model.specs.Value.{IsShallow};
 ghost use Rattle.canvas_client.specs.Asked.{HasCreated, HasMade, IsRefusal, NoneBefore, StandsStill};
 ghost use Rattle.canvas_client.specs.Asked.{refusal, seen_spot};
@@ -15,9 +14,8 @@ use crate::drafting::{
 };
 use crate::request::Spot;
 use crate::{Client, EditError, EditRequest, EditRequestVariant};
-use canvas_doc::{Change, ChangeVariant, Doc, Kind, Name, ObjId, Place, Value};
+use canvas_doc::{Change, ChangeVariant, Kind, Name, ObjId, Place, Value};
 use canvas_model::{LAST_VERSION, every_view};
-use canvas_pending::Pending;
 use std::alloc::{AllocError, Allocator};
 
 impl<A: Allocator> Client<A> {
@@ -223,7 +221,7 @@ impl<A: Allocator> Client<A> {
     fn is_full(&self) -> bool
         ensures { IsTrue result ↔ (last_number self.now ≡ 2 ^ 62) }
     {
-        self.acknowledged + self.waiting.len() as u64 == LAST_VERSION
+        self.acknowledged + self.merged.waiting.len() as u64 == LAST_VERSION
     }
 }
 
@@ -239,9 +237,9 @@ impl<A: Allocator + Copy> Client<A> {
     {
         every_view();
         let counter = counter_after(self.counter, &change);
-        wait_and_show(&mut self.waiting, &mut self.view, change)?;
+        self.merged.add(change)?;
         self.counter = counter;
-        Ok(self.acknowledged + self.waiting.len() as u64)
+        Ok(self.acknowledged + self.merged.waiting.len() as u64)
     }
 
     /// Makes the edit that is asked for: it waits, and the view shows it. Answers its number, from 1. The refusals are those of
@@ -341,29 +339,8 @@ impl<A: Allocator + Copy> Client<A> {
 
     // The allocator under which it stands.
     fn allocator(&self) -> A {
-        self.waiting.allocator()
+        self.merged.waiting.allocator()
     }
-}
-
-// Adds the change to those that wait, and lays it over the view. Where memory is refused, nothing has changed.
-fn wait_and_show<A: Allocator + Copy>(
-    waiting: &mut Pending<A>,
-    view: &mut Doc<A>,
-    change: Change<A>,
-) -> Result<(), AllocError>
-    ensures waits { OnOk result (waiting.new ≡ waiting.old ++ change ∷ []) }
-    ensures shows { OnOk result (view.new ≡ lay view.old change) }
-    ensures err { OnErr result ((waiting.new ≡ waiting.old) × (view.new ≡ view.old)) }
-{
-    waiting.push(change)?;
-    let Some(last) = waiting.get(waiting.len() - 1) else {
-        unreachable!()
-    };
-    if view.overlay(last).is_err() {
-        waiting.pop_last();
-        return Err(AllocError);
-    }
-    Ok(())
 }
 
 // The counter of a client's last creation, after this change.
