@@ -1,0 +1,5 @@
+pub mod Going
+pub mod Unasked
+pub mod Texts
+pub mod Sending
+pub mod Begun

@@ -1,0 +1,74 @@
+-- What a client asks, and which answers there are.
+use Rattle.std.specs.Prelude.{◌≡◌, ◌⊎◌, ℕ, Bool, true, false, List, [], ◌∷◌}
+use Rattle.canvas_model.specs.Receive.{Message, Joins, Welcome, Sends, Asks, Idle, No}
+use Rattle.canvas_judge.specs.declared.message.NoReason.{NoReason}
+use Rattle.canvas_judge.specs.declared.message.NoReason.TheVariants.{Memory, NotRead}
+use Rattle.canvas_judge.specs.Reasons.{number_of}
+use Rattle.canvas_wire.specs.declared.fault.WireError.{WireError}
+use Rattle.canvas_wire.specs.declared.fault.WireError.TheVariants as wire
+use Rattle.canvas_wire.specs.Text.{SpellsMessage, EncodesMessage}
+
+-- a client sends such messages
+abbrev pub IsAsked : Message → Type 0
+IsAsked Joins = Unit {0}
+IsAsked (Sends client seq change) = Unit {0}
+IsAsked (Asks client version) = Unit {0}
+IsAsked _ = ⊥
+
+-- the bytes are a text of this message, and a client sends such messages
+abbrev pub SpellsAsked : List ℕ → Message → Type 0
+SpellsAsked bytes m = SpellsMessage bytes m × IsAsked m
+
+-- why bytes aren't asked: they are a text of no message that a client sends; want of memory can be met at any
+abbrev pub IsUnasked : List ℕ → NoReason → Type 0
+IsUnasked bytes NotRead = (m : Message) → SpellsAsked bytes m → ⊥
+IsUnasked bytes Memory = Unit {0}
+IsUnasked bytes _ = ⊥
+
+-- why bytes are refused that `decode` refuses so: for want of memory, or since they can't be read
+abbrev pub reason_of : WireError → NoReason
+reason_of wire.Memory = Memory
+reason_of _ = NotRead
+
+-- the message ends an answer
+abbrev pub IsEnd : Message → Type 0
+IsEnd (Welcome client) = Unit {0}
+IsEnd Idle = Unit {0}
+IsEnd (No reason) = Unit {0}
+IsEnd _ = ⊥
+
+-- the messages are an answer: the last of them ends it, and no other
+abbrev pub IsAnswer : List Message → Type 0
+IsAnswer [] = ⊥
+IsAnswer (m ∷ []) = IsEnd m
+IsAnswer (m ∷ n ∷ ms) = (IsEnd m → ⊥) × IsAnswer (n ∷ ms)
+
+-- the messages are the beginning of an answer: none of them ends it
+abbrev pub IsBegun : List Message → Type 0
+IsBegun [] = Unit {0}
+IsBegun (m ∷ ms) = (IsEnd m → ⊥) × IsBegun ms
+
+-- the beginning of an answer became an answer, where its last message came, or a longer beginning
+abbrev pub Extends : Bool → List Message → List Message → Type 0
+Extends true old new = IsBegun old → IsAnswer new
+Extends false old new = IsBegun old → IsBegun new
+
+-- a No for this reason, alone
+abbrev pub refused : NoReason → List Message
+refused reason = No (number_of reason) ∷ []
+
+-- What is answered to bytes: what is given to the message that they spell; NotRead, where they spell none that a client sends, and
+-- nothing has changed; or Memory.
+module _ {S : Type 0} (Gives : S → Message → List Message → S → Type 0) where
+  abbrev pub Replies : S → List ℕ → List Message → S → Type 0
+  Replies old bytes answer new =
+      ((m : Message) × SpellsAsked bytes m × Gives old m answer new)
+      ⊎ (IsUnasked bytes NotRead × (answer ≡ refused NotRead) × (new ≡ old))
+      ⊎ (answer ≡ refused Memory)
+
+-- each text is what is written of the message beside it
+abbrev pub AreTexts : List (List ℕ) → List Message → Type 0
+AreTexts [] [] = Unit {0}
+AreTexts [] (m ∷ ms) = ⊥
+AreTexts (t ∷ ts) [] = ⊥
+AreTexts (t ∷ ts) (m ∷ ms) = EncodesMessage t m × AreTexts ts ms

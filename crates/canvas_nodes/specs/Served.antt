@@ -1,0 +1,52 @@
+-- What a server does on a connection.
+use Rattle.std.specs.Prelude.{◌≡◌, ◌⊎◌, ℕ, zero, suc, ◌<◌, Bool, true, false, List, [], ◌∷◌, Option, Ok}
+use Rattle.tungstenite.specs.Connection.{write_step}
+use Rattle.tungstenite.specs.Content.{Content, text, binary, ping, pong, close}
+use Rattle.tungstenite.specs.Socket.{Socket, Writes, Flushed, Reads, content_of}
+use Rattle.tungstenite.specs.declared.message.Message.{Message as Frame}
+use Rattle.canvas_model.specs.Receive.{Message}
+use Rattle.canvas_judge.specs.declared.message.NoReason.TheVariants.{Memory, NotRead}
+use Rattle.canvas_nodes.specs.Answers.{AreTexts, Replies, refused}
+
+module _ {S : Type 0} (contents : S → Option (List ℕ)) where
+  -- each of these texts joined the output as a binary message, one after the other; some of the output may have left
+  abbrev pub WritesEach : Socket S → List (List ℕ) → Socket S → Type 0
+  WritesEach old [] new = new ≡ old
+  WritesEach old (t ∷ ts) new = (mid : Socket S) × Writes contents old mid (write_step old.conn (binary t)) × WritesEach mid ts new
+
+  -- what waited has left
+  abbrev pub Empties : Socket S → Socket S → Type 0
+  Empties old new = Flushed contents old new × (new.output ≡ [])
+
+  -- each of these texts joined the output as a binary message, one after the other, and all of it has left
+  abbrev pub SendsEach : Socket S → List (List ℕ) → Socket S → Type 0
+  SendsEach old ts new = (mid : Socket S) × WritesEach old ts mid × Empties mid new
+
+  -- the texts of these messages have left, or, where there was no memory for them, that of a No for Memory
+  abbrev pub SendsAnswer : Socket S → List Message → Socket S → Type 0
+  SendsAnswer old answer new = (ts : List (List ℕ)) × (AreTexts ts answer ⊎ AreTexts ts (refused Memory)) × SendsEach old ts new
+
+module _ {A S : Type 0} (Gives : A → Message → List Message → A → Type 0) (remaining contents : S → Option (List ℕ)) where
+  -- what a frame makes of the answerer and the socket, and whether the connection goes on: a binary message has its reply, a text is refused as
+  -- NotRead, a ping and a pong are passed over, and a closing frame ends it
+  abbrev pub Handles : Content → Bool → A → Socket S → A → Socket S → Type 0
+  Handles (binary bytes) on old before new after = (on ≡ true) × ((answer : List Message) × Replies Gives old bytes answer new × SendsAnswer contents before answer after)
+  Handles (text bytes) on old before new after = (on ≡ true) × (new ≡ old) × SendsAnswer contents before (refused NotRead) after
+  Handles (ping bytes) on old before new after = (on ≡ true) × (new ≡ old) × (after ≡ before)
+  Handles (pong bytes) on old before new after = (on ≡ true) × (new ≡ old) × (after ≡ before)
+  Handles (close frame) on old before new after = (on ≡ false) × (new ≡ old) × Empties contents before after
+
+  -- a frame was read and handled, and then the connection goes on, or doesn't
+  abbrev pub Turns : Bool → A → Socket S → A → Socket S → Type 0
+  Turns on old before new after = (mid : Socket S) × (frame : Frame) × Reads remaining before mid (Ok frame) × Handles (content_of frame) on old mid new after
+
+  -- so many frames were read and handled, one after the other, and the connection goes on
+  abbrev pub GoesThrough : ℕ → A → Socket S → A → Socket S → Type 0
+  GoesThrough zero old before new after = (new ≡ old) × (after ≡ before)
+  GoesThrough (suc n) old before new after = (a : A) × (s : Socket S) × GoesThrough n old before a s × Turns true a s new after
+
+  -- frames were read and handled, one after the other, up to the one of this number, or up to a closing frame before it
+  abbrev pub Serves : ℕ → A → Socket S → A → Socket S → Type 0
+  Serves most old before new after =
+      (n : ℕ) × (a : A) × (s : Socket S) × GoesThrough n old before a s
+      × (((n ≡ most) × (new ≡ a) × (after ≡ s)) ⊎ ((n < most) × Turns false a s new after))

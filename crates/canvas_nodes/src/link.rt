@@ -1,0 +1,53 @@
+// A link to a server.
+
+use canvas_judge::{Message, NoReason};
+use std::alloc::{AllocError, AllocFailed};
+use thiserror::Error;
+
+/// Why a round over a link gave no answer.
+#[derive(Clone, Copy, Debug, PartialEq, Eq, Error)]
+pub enum LinkError {
+    /// The connection has ended, or failed.
+    #[error("the connection has ended")]
+    Ended,
+    /// The server refused what was asked, for this reason.
+    #[error("the server refused: {0:?}")]
+    Refused(NoReason),
+    /// What came isn't an answer.
+    #[error("the answer can't be read")]
+    NotRead,
+    /// Memory was refused.
+    #[error("out of memory")]
+    Memory,
+}
+
+impl From<AllocError> for LinkError {
+    ghost use Rattle.std.specs.Prelude.{◌≡◌};
+    ghost use Rattle.canvas_nodes.specs.declared.link.LinkError.TheVariants.{Memory};
+
+    ghost from_gives = { λ _ e. e ≡ Memory };
+
+    fn from(_error: AllocError) -> LinkError {
+        LinkError::Memory
+    }
+}
+
+impl<T: Drop> From<AllocFailed<T>> for LinkError {
+    ghost use Rattle.std.specs.Prelude.{◌≡◌};
+    ghost use Rattle.canvas_nodes.specs.declared.link.LinkError.TheVariants.{Memory};
+
+    ghost from_gives = { λ _ e. e ≡ Memory };
+
+    fn from(_error: AllocFailed<T>) -> LinkError {
+        LinkError::Memory
+    }
+}
+
+/// A client's way to a server. Nothing is said of what it answers.
+pub trait Link {
+    /// Sends a message, and gives the messages of its answer, in order.
+    ///
+    /// Answers Ended where the connection has ended or failed, Refused where the answer ends with a No, NotRead where what came isn't
+    /// an answer, and Memory where memory was refused.
+    fn round(&mut self, message: &Message) -> Result<Vec<Message>, LinkError>;
+}

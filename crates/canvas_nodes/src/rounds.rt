@@ -1,0 +1,110 @@
+// What a client asks over a link.
+ghost use Rattle.std.specs.Prelude.{◌<◌, ◌≤◌, IsSome, IsNone, OnOk, length};
+ghost use Rattle.canvas_nodes.specs.GoesOn.{GoesOn};
+
+use crate::{Link, LinkError};
+use canvas_client::Client;
+use canvas_judge::Message;
+use std::alloc::Global;
+
+/// Asks for an id, for a client that has none, and gives the client the answer.
+///
+/// Answers NotRead where the answer gave no id, Memory where memory was refused, and otherwise what the link answered. The client
+/// has then received the messages that came before.
+pub fn join<L: Link>(client: &mut Client, link: &mut L) -> Result<(), LinkError>
+    requires { IsNone client.old.id }
+    ensures goes_on { GoesOn client.old client.new }
+    ensures id { OnOk result (IsSome client.new.id) }
+{
+    ask(client, link, &Client::join_message())?;
+    match client.id() {
+        Some(_) => Ok(()),
+        None => Err(LinkError::NotRead),
+    }
+}
+
+/// Sends all edits that wait, in their order, and then asks for what came after the client's version, until an answer has nothing that
+/// the client takes. The client receives each message of each answer.
+///
+/// The first error ends it: Memory where memory was refused, and otherwise what the link answered. The client has then received the
+/// messages that came before. What was sent and not acknowledged waits still, so that the next call sends it again.
+pub fn exchange<L: Link>(alloc: Global, client: &mut Client, link: &mut L) -> Result<(), LinkError>
+    requires { IsSome client.old.id }
+    ensures { GoesOn client.old client.new }
+{
+    send_edits(alloc, client, link)?;
+    catch_up(client, link)
+}
+
+// Sends the edits that wait, in their order, but not those that are judged meanwhile.
+fn send_edits<L: Link>(alloc: Global, client: &mut Client, link: &mut L) -> Result<(), LinkError>
+    ensures { GoesOn client.old client.new }
+{
+    // The view is lent, as with it comes what holds of every client: the number of its last edit is at most 2^62.
+    let _ = client.view();
+    let first = client.acknowledged();
+    let last = first + client.unacknowledged();
+    for before in first..last {
+        if client.acknowledged() <= before {
+            let i = before - client.acknowledged() + 1;
+            send_edit(alloc, client, link, i)?;
+        }
+    }
+    Ok(())
+}
+
+// Sends the i-th of the edits that wait, counted from 1.
+fn send_edit<L: Link>(
+    alloc: Global,
+    client: &mut Client,
+    link: &mut L,
+    i: u64,
+) -> Result<(), LinkError>
+    requires least { 0 < i }
+    requires most { i ≤ length client.old.waiting }
+    ensures { GoesOn client.old client.new }
+{
+    let edit = client.message(alloc, i)?;
+    ask(client, link, &edit)
+}
+
+// Asks for what came after the client's version, until its version stays.
+fn catch_up<L: Link>(client: &mut Client, link: &mut L) -> Result<(), LinkError>
+    ensures { GoesOn client.old client.new }
+{
+    'asks: loop {
+        let version = client.version();
+        ask_next(client, link)?;
+        if client.version() <= version {
+            return Ok(());
+        }
+    }
+}
+
+// Asks for what came after the client's version, once.
+fn ask_next<L: Link>(client: &mut Client, link: &mut L) -> Result<(), LinkError>
+    ensures { GoesOn client.old client.new }
+{
+    match client.ask_message() {
+        Some(message) => ask(client, link, &message),
+        None => Ok(()),
+    }
+}
+
+// Sends a message, and gives the client the answer.
+fn ask<L: Link>(client: &mut Client, link: &mut L, message: &Message) -> Result<(), LinkError>
+    ensures { GoesOn client.old client.new }
+{
+    let answer = link.round(message)?;
+    give(client, &answer)
+}
+
+// Gives the client these messages, in their order.
+fn give(client: &mut Client, messages: &[Message]) -> Result<(), LinkError>
+    ensures { GoesOn client.old client.new }
+{
+    for message in messages {
+        client.receive(message)?;
+    }
+    Ok(())
+}

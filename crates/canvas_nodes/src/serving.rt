@@ -1,0 +1,129 @@
+// A server's side of a connection.
+ghost use Rattle.std.specs.Prelude.{List, IfOk, OnOk, map};
+ghost use Rattle.tungstenite.specs.Socket.{content_of};
+ghost use Rattle.canvas_model.specs.Receive as receive;
+ghost use Rattle.canvas_judge.specs.Seen.{seen_message};
+ghost use Rattle.canvas_nodes.specs.Answers.{Replies, refused};
+ghost use Rattle.canvas_nodes.specs.Served.{Handles, SendsAnswer, Serves, Turns, WritesEach};
+
+use crate::Answerer;
+use crate::answering::{refusal, reply, written};
+use canvas_judge::{Message, NoReason};
+use std::alloc::Global;
+use std::io::{Read, Write};
+use tungstenite::{Error, Message as Frame, NoMask, WebSocket};
+
+/// Serves a connection until it ends: reads a message, answers it, and so on.
+///
+/// Bytes that are a text of no message that a client sends, and a message of text, are answered by a No for NotRead; where memory is
+/// refused while a message is decoded or answered, the answer is a No for Memory. After a No it goes on. Each message of an answer is
+/// one binary message, and a small answer leaves in one write. Pings and pongs are passed over.
+///
+/// It ends with a closing frame, or the 4294967296th message, which isn't read. Otherwise it tells what ended it: a fault of the
+/// socket, or that memory was refused, for a No too.
+pub fn serve_one<A: Answerer, S: Read + Write + Drop>(
+    alloc: Global,
+    answerer: &mut A,
+    socket: &mut WebSocket<S, NoMask>,
+) -> Result<(), Error>
+    ensures { OnOk result (Serves A.gives S.remaining S.contents 4294967295 answerer.old socket.old answerer.new socket.new) }
+{
+    for _turn in 0..u32::MAX {
+        if !serve_next(alloc, answerer, socket)? {
+            return Ok(());
+        }
+    }
+    Ok(())
+}
+
+// Reads a message, and answers it. Tells whether the connection goes on.
+fn serve_next<A: Answerer, S: Read + Write + Drop>(
+    alloc: Global,
+    answerer: &mut A,
+    socket: &mut WebSocket<S, NoMask>,
+) -> Result<bool, Error>
+    ensures { IfOk result (λ on. Turns A.gives S.remaining S.contents on answerer.old socket.old answerer.new socket.new) }
+{
+    let frame = socket.read()?;
+    handle(alloc, answerer, socket, &frame)
+}
+
+// Answers a frame that was read. Tells whether the connection goes on.
+fn handle<A: Answerer, S: Read + Write + Drop>(
+    alloc: Global,
+    answerer: &mut A,
+    socket: &mut WebSocket<S, NoMask>,
+    frame: &Frame,
+) -> Result<bool, Error>
+    ensures { IfOk result (λ on. Handles A.gives S.remaining S.contents (content_of frame.now) on answerer.old socket.old answerer.new socket.new) }
+{
+    match frame {
+        Frame::Binary(bytes) => {
+            answer_bytes(alloc, answerer, socket, bytes.as_slice())?;
+            Ok(true)
+        }
+        Frame::Text(_) => {
+            refuse(alloc, socket, NoReason::NotRead)?;
+            Ok(true)
+        }
+        Frame::Ping(_) => Ok(true),
+        Frame::Pong(_) => Ok(true),
+        Frame::Close(_) => {
+            socket.flush()?;
+            Ok(false)
+        }
+    }
+}
+
+// Sends what is answered to these bytes.
+fn answer_bytes<A: Answerer, S: Read + Write + Drop>(
+    alloc: Global,
+    answerer: &mut A,
+    socket: &mut WebSocket<S, NoMask>,
+    bytes: &[u8],
+) -> Result<(), Error>
+    ensures { OnOk result ((answer : List receive.Message) × Replies A.gives answerer.old bytes.now answer answerer.new × SendsAnswer S.contents socket.old answer socket.new) }
+{
+    let answer = reply(alloc, answerer, bytes)?;
+    send(alloc, socket, &answer)
+}
+
+// Sends a No for this reason.
+fn refuse<S: Read + Write + Drop>(
+    alloc: Global,
+    socket: &mut WebSocket<S, NoMask>,
+    reason: NoReason,
+) -> Result<(), Error>
+    ensures { OnOk result (SendsAnswer S.contents socket.old (refused reason) socket.new) }
+{
+    let answer = refusal(alloc, reason)?;
+    send(alloc, socket, &answer)
+}
+
+// Sends each message of an answer as a binary message, all of them with one flush.
+fn send<S: Read + Write + Drop>(
+    alloc: Global,
+    socket: &mut WebSocket<S, NoMask>,
+    answer: &[Message],
+) -> Result<(), Error>
+    ensures { OnOk result (SendsAnswer S.contents socket.old (map seen_message answer.now) socket.new) }
+{
+    let texts = written(alloc, answer)?;
+    write_each(alloc, socket, &texts)?;
+    socket.flush()
+}
+
+// Puts each of these texts into the socket's output, as a binary message.
+fn write_each<S: Read + Write + Drop>(
+    alloc: Global,
+    socket: &mut WebSocket<S, NoMask>,
+    texts: &[Vec<u8>],
+) -> Result<(), Error>
+    ensures { OnOk result (WritesEach S.contents socket.old (map (λ text. text.items) texts.now) socket.new) }
+{
+    for text in texts {
+        let frame = Frame::binary(alloc, text)?;
+        socket.write(frame)?;
+    }
+    Ok(())
+}
