@@ -1,0 +1,26 @@
+//! A room's published side: its history, its board, and the ends that write and read it.
+#![tactic(auto)]
+
+mod board;
+mod faults;
+mod history;
+mod laws;
+mod mark;
+mod opening;
+mod page;
+mod publisher;
+mod reader;
+mod receipt;
+mod rule;
+
+pub use board::{Board, Step};
+pub use faults::SeatError;
+pub use history::{Blank, Book, Front, RoomName};
+pub use laws::read_back;
+pub use mark::{Mark, MarkVariant, Opening};
+pub use opening::open_board;
+pub use page::Page;
+pub use publisher::Publisher;
+pub use reader::Reader;
+pub use receipt::Receipt;
+pub use rule::Published;
