@@ -1,0 +1,5 @@
+pub mod Faults
+pub mod Desks
+pub mod Judging
+pub mod Submitting
+pub mod Flooring
