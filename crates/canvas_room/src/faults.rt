@@ -1,0 +1,28 @@
+// Why there is no room.
+use std::alloc::AllocError;
+use thiserror::Error;
+
+/// Why a room isn't made or opened.
+#[derive(Clone, Copy, Debug, PartialEq, Eq, Error)]
+pub enum RoomError {
+    /// A room has 1 to 64 seats.
+    #[error("a room has 1 to 64 seats")]
+    SeatCount = 1,
+    /// There is no place for a seat's reader. It can't be told from want of memory, which is answered in its place.
+    #[error("no place for a seat")]
+    NoPlace = 2,
+    /// Memory was refused.
+    #[error("out of memory")]
+    Memory = 3,
+}
+
+impl From<AllocError> for RoomError {
+    ghost use Rattle.std.specs.Prelude.{◌≡◌};
+    ghost use Rattle.canvas_room.specs.declared.faults.RoomError.TheVariants.{Memory};
+
+    ghost from_gives = { λ _ e. e ≡ Memory };
+
+    fn from(_error: AllocError) -> RoomError {
+        RoomError::Memory
+    }
+}

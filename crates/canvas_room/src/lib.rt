@@ -1,0 +1,10 @@
+//! A room: one writer under a lock, and seats that read what it has published without waiting.
+#![tactic(auto)]
+
+mod faults;
+mod room;
+mod seat;
+
+pub use faults::RoomError;
+pub use room::{BlankRoom, Lock, Room, blank_room};
+pub use seat::Seat;
