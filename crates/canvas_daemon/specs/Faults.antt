@@ -1,0 +1,58 @@
+-- What ends the program early, and how it is told.
+use Rattle.std.specs.Prelude.{◌≡◌, ◌⊎◌, ℕ, List, [], ◌∷◌, ◌++◌, codes, Option}
+use Rattle.std.specs.Fmt.{decimal}
+use Rattle.std.specs.Io.KnownBytes.{Appends}
+use Rattle.canvas_shelf.specs.declared.shelf.ShelfError.{ShelfError}
+use Rattle.canvas_shelf.specs.declared.shelf.ShelfError.TheVariants as shelf
+use Rattle.canvas_journal.specs.declared.fault.OpenError.{OpenError}
+use Rattle.canvas_journal.specs.declared.fault.OpenError.TheVariants as opening
+use Rattle.canvas_lines.specs.declared.fault.Fault as lines
+use Rattle.canvas_lines.specs.declared.fault.Fault.TheVariants as line
+use Rattle.canvas_daemon.specs.declared.fault.Fault.{Fault}
+use Rattle.canvas_daemon.specs.declared.fault.Fault.TheVariants.{Usage, BadLine, Memory, Device, Damaged, TooLarge}
+
+-- 2 for words or a line that can't be read, 3 for want of memory, 4 for a device, socket or stream that failed, 5 for a damaged
+-- journal, 6 for one without room
+abbrev pub IsFaultStatus : Fault → ℕ → Type 0
+IsFaultStatus Usage status = status ≡ 2
+IsFaultStatus (BadLine n) status = status ≡ 2
+IsFaultStatus Memory status = status ≡ 3
+IsFaultStatus Device status = status ≡ 4
+IsFaultStatus (Damaged segment offset) status = status ≡ 5
+IsFaultStatus TooLarge status = status ≡ 6
+
+-- the text of a fault
+abbrev pub fault_text : Fault → List ℕ
+fault_text Usage = codes "usage: canvasd serve DIR PORT N | edit PORT | show DIR | trial DIR"
+fault_text (BadLine n) = codes "line " ++ decimal n ++ codes ": cannot read"
+fault_text Memory = codes "out of memory"
+fault_text Device = codes "device or socket failed"
+fault_text (Damaged segment offset) = codes "damaged segment " ++ decimal segment ++ codes " offset " ++ decimal offset
+fault_text TooLarge = codes "too large"
+
+-- a fault is told by its text in a line of its own
+abbrev pub fault_line : Fault → List ℕ
+fault_line fault = fault_text fault ++ 10 ∷ []
+
+-- the fault's status where it was told, or 4
+abbrev pub IsEnd : Fault → ℕ → Option (List ℕ) → Option (List ℕ) → Type 0
+IsEnd fault status faults told =
+    (IsFaultStatus fault status × Appends faults told (fault_line fault)) ⊎ (status ≡ 4)
+
+-- the fault that a journal that isn't opened is
+abbrev pub fault_of_opening : OpenError → Fault
+fault_of_opening opening.Device = Device
+fault_of_opening (opening.Damaged segment offset) = Damaged segment offset
+fault_of_opening opening.TooLarge = TooLarge
+fault_of_opening opening.Memory = Memory
+
+-- the fault that a shelf that doesn't tell what it holds is
+abbrev pub fault_of_shelf : ShelfError → Fault
+fault_of_shelf shelf.Device = Device
+fault_of_shelf shelf.Memory = Memory
+
+-- the fault that a line or a stream is
+abbrev pub fault_of_lines : lines.Fault → Fault
+fault_of_lines (line.BadLine n) = BadLine n
+fault_of_lines line.Memory = Memory
+fault_of_lines line.Stream = Device
