@@ -1,3 +1,5 @@
 pub mod Keeping
 pub mod Running
 pub mod Told
+pub mod Batching
+pub mod Batched

@@ -3,3 +3,4 @@ pub mod Desks
 pub mod Judging
 pub mod Submitting
 pub mod Flooring
+pub mod Batches

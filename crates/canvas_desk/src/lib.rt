@@ -1,6 +1,7 @@
 //! The desk of a room: its one writer, which judges requests, has their entries kept, and publishes them.
 #![tactic(auto)]
 
+mod batch;
 mod desk;
 mod faults;
 mod judging;
