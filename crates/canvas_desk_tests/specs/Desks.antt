@@ -1,0 +1,7 @@
+-- How desks are opened for tests.
+use Rattle.canvas_model.specs.State as state
+use Rattle.canvas_board.specs.Marks.{Opening}
+
+-- no entry yet
+abbrev pub first : Opening
+first = record { state = state.opening; version = 0 }

@@ -1,0 +1,130 @@
+//! Desks to ask, and what they are asked.
+ghost use Rattle.std.specs.Prelude.{◌≡◌, [], IsTrue, false};
+ghost use Rattle.canvas_desk.specs.Desks.{IsKeptAt};
+ghost use Rattle.canvas_desk_tests.specs.Desks.{first};
+ghost use Rattle.canvas_journal.specs.Meaning.{opening};
+ghost use Rattle.canvas_shelf.specs.Shelved.{disk_of};
+
+use canvas_board::{Blank, Opening, Receipt, RoomName, open_board};
+use canvas_desk::{Desk, SubmitError};
+use canvas_doc::{Change, Kind, ObjId, Place};
+use canvas_journal::{Journal, Keeper, open};
+use canvas_judge::State;
+use canvas_pos::Pos;
+use canvas_server::{Request, Server};
+use canvas_shelf::{Call, MemShelf};
+use std::alloc::Global;
+use std::sync::Wait;
+use std::test::Fail;
+
+/// A desk over a journal on a shelf in memory.
+pub type MemDesk<'a, N, W> = Desk<Journal<MemShelf>, N, &'a W>;
+
+// A shelf without segments, of which the call of that number fails, if one is to fail.
+fn empty_shelf(alloc: Global, failing: Option<u64>) -> MemShelf
+    ensures { disk_of result ≡ [] }
+{
+    let mut shelf = MemShelf::new(alloc);
+    if let Some(call) = failing {
+        shelf.fail_one(call);
+    }
+    shelf
+}
+
+// A desk with no entry over a keeper that keeps none.
+fn desk_over<'a, K: Keeper + Drop, N: RoomName, W: Wait>(
+    rt: &'a W,
+    alloc: Global,
+    blank: Blank,
+    keeper: K,
+) -> Result<Desk<K, N, &'a W>, Fail>
+    requires book { blank.seen.book ≡ N.book }
+    requires opening { N.opening ≡ first }
+    requires alive { K.failed keeper ≡ false }
+    requires kept { IsTrue (K.honest keeper) → IsKeptAt (K.stands keeper) K.finds (K.left_since keeper (K.moment keeper)) opening }
+{
+    let opening = Opening {
+        state: State::new(alloc)?,
+        version: 0,
+    };
+    let (publisher, _readers) = open_board::<N, W>(alloc, blank, &opening, 1, rt)?;
+    let Opening { state, version } = opening;
+    let server = Server::rebuild(alloc, state, version);
+    Ok(Desk::new(alloc, server, keeper, publisher, rt))
+}
+
+/// A desk with no entry, over a journal on a shelf of which the call of that number fails.
+pub fn new_desk<'a, N: RoomName, W: Wait>(
+    rt: &'a W,
+    alloc: Global,
+    blank: Blank,
+    failing: Option<u64>,
+) -> Result<MemDesk<'a, N, W>, Fail>
+    requires book { blank.seen.book ≡ N.book }
+    requires opening { N.opening ≡ first }
+{
+    let shelf = empty_shelf(alloc, failing);
+    match open(alloc, shelf) {
+        Ok((journal, _state, _version)) => {
+            desk_over::<Journal<MemShelf>, N, W>(rt, alloc, blank, journal)
+        }
+        Err(_) => Err(Fail::from("a shelf that isn't opened")),
+    }
+}
+
+/// The request of a client's edit that makes a page with the edit's number as its counter.
+pub fn page(alloc: Global, client: u32, seq: u64) -> Result<Request, Fail> {
+    let place = Place {
+        parent: ObjId::ROOT,
+        pos: Pos::read(alloc, b"O")?,
+    };
+    let id = ObjId {
+        client,
+        counter: (seq % 1000) as u32,
+    };
+    Ok(Request::Edit {
+        client,
+        seq,
+        change: Change::create(id, Kind::Page, place),
+    })
+}
+
+/// The requests of a client's edits with these numbers, in this order.
+pub fn pages(alloc: Global, client: u32, numbers: &[u64]) -> Result<Vec<Request>, Fail> {
+    let mut requests = Vec::with_capacity(alloc, numbers.len())?;
+    for seq in numbers {
+        requests.push(page(alloc, client, *seq)?)?;
+    }
+    Ok(requests)
+}
+
+/// Whether these are the answers: receipts of these versions, and these refusals.
+pub fn are_told<N: RoomName>(
+    answers: &[Result<Receipt<N>, SubmitError>],
+    wanted: &[Result<u64, SubmitError>],
+) -> bool {
+    if answers.len() != wanted.len() {
+        return false;
+    }
+    for (at, answer) in answers.iter().enumerate() {
+        let told = match answer {
+            Ok(receipt) => Ok(receipt.version()),
+            Err(error) => Err(*error),
+        };
+        if told != wanted[at] {
+            return false;
+        }
+    }
+    true
+}
+
+/// How many calls were made of a desk's shelf.
+pub fn calls_of<N: RoomName, W: Wait>(desk: &MemDesk<N, W>) -> usize {
+    desk.keeper().shelf().calls().len()
+}
+
+/// Whether the calls of a desk's shelf behind so many are one append and one sync.
+pub fn committed_once<N: RoomName, W: Wait>(desk: &MemDesk<N, W>, before: usize) -> bool {
+    let calls = desk.keeper().shelf().calls().get(before..);
+    matches!(calls, Some([Call::Append(1, _), Call::Sync(1)]))
+}
