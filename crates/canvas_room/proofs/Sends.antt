@@ -1,0 +1,196 @@
+-- Which of a room's types may be sent to a thread or shared with one, one layer at a time: `search` alone gives up at the depth of them all.
+use denote.RattleType.{RattleType}
+use denote.Struct.Declared.{shape}
+use denote.Param.Send.{IsSend, IsSync, sendable, view_send, recorded_send, struct_send}
+use Rattle.core.proofs.option.Option.TheSendSync as option
+use Rattle.core.proofs.rt.Memory.TheSendSync as memory
+use Rattle.std.proofs.Crossing.{crosses, frees, Arc-send, Arc-sync}
+use Rattle.std.proofs.alloc.Global.TheSendSync as heap
+use Rattle.std.specs.contracts.alloc.Global as Heap
+use Rattle.std.specs.contracts.impls.GlobalAllocator.TheImpl.{ghosts}
+use Rattle.canvas_model.proofs.Counts.TheSendSync as counts
+use Rattle.canvas_model.proofs.Kind.TheSendSync as kind
+use Rattle.canvas_model.proofs.ObjId.TheSendSync as id
+use Rattle.canvas_model.proofs.Reason.TheSendSync as reason
+use Rattle.canvas_pos.proofs.Pos.TheSendSync as pos
+use Rattle.canvas_value.proofs.Value.TheLaws.TheKnot as value
+use Rattle.canvas_value.proofs.names.Name.TheSendSync as name
+use Rattle.canvas_doc.proofs.place.Place.TheSendSync as place
+use Rattle.canvas_judge.proofs.outcome.Outcome.TheSendSync as outcome
+use Rattle.canvas_judge.specs.contracts.state.State as State
+use Rattle.canvas_judge.specs.contracts.entry.Entry as Entry
+use Rattle.canvas_server.specs.contracts.server.Server as Server
+use Rattle.canvas_board.specs.declared.history.RoomName.{Ghosts}
+use Rattle.canvas_board.specs.contracts.mark.Mark as Mark
+use Rattle.canvas_board.specs.contracts.page.Page as Page
+use Rattle.canvas_board.specs.contracts.board.Board as Board
+use Rattle.canvas_board.specs.contracts.board.Step as Step
+use Rattle.canvas_board.specs.contracts.reader.Reader as Reader
+use Rattle.canvas_board.specs.contracts.reader.Reader.TheInside as in_reader
+use Rattle.canvas_board.specs.contracts.publisher.Publisher as Publisher
+use Rattle.canvas_board.specs.contracts.publisher.Publisher.TheInside as in_publisher
+use Rattle.canvas_board.specs.contracts.rule.Published as Published
+use Rattle.canvas_board.specs.contracts.rule.PublishedProtocolBoardLinkedListMark.TheImpl as rule
+use Rattle.canvas_board.specs.declared.board.Board.{Board as BoardOf}
+use Rattle.canvas_board.specs.declared.board.Step.{Step as StepOf}
+use Rattle.canvas_board.specs.declared.mark.Mark.{Mark as MarkOf}
+use Rattle.canvas_board.specs.declared.rule.Published.{Published as PublishedOf}
+use Rattle.canvas_board.proofs.history.Book.TheSendSync as book
+use Rattle.canvas_board.proofs.history.Front.TheSendSync as front
+use Rattle.canvas_desk.specs.contracts.desk.Desk as Desk
+use Rattle.canvas_journal.specs.declared.keeper.Keeper as keeper
+use Rattle.canvas_desk.specs.contracts.desk.Desk.TheInside as in_desk
+use Rattle.canvas_room.specs.contracts.seat.Seat as Seat
+use Rattle.canvas_room.specs.contracts.seat.Seat.TheInside as in_seat
+use Rattle.crossbeam_utils.specs.declared.rule.Protocol as protocol
+use Rattle.left_right.specs.declared.Absorb as absorb
+use Rattle.left_right.proofs.reader.Reader.TheSendSync as end
+use Rattle.left_right.proofs.writer.Writer.TheSendSync as writer
+use Rattle.std.specs.contracts.collections.LinkedList as Linked
+use Rattle.std.specs.contracts.sync.Arc as Arc
+use Rattle.core.specs.contracts.sync.Mutex as Mutex
+use Rattle.std.specs.declared.alloc.Global.{Global}
+use Rattle.std.specs.declared.collections.LinkedList.{LinkedList}
+use mir.Syntax.{given}
+use denote.Array.{Array}
+use mathlib.Core.List.{List}
+
+pub ruleset leaves = (
+  memory.the_send,
+  memory.the_sync,
+  memory.the_field_send,
+  memory.the_field_sync,
+  heap.the_send,
+  heap.the_sync,
+  heap.the_field_send,
+  heap.the_field_sync,
+  option.the_send,
+  option.the_sync,
+  option.the_field_send,
+  option.the_field_sync,
+  id.the_send,
+  id.the_sync,
+  id.the_field_send,
+  id.the_field_sync,
+  kind.the_send,
+  kind.the_sync,
+  kind.the_field_send,
+  kind.the_field_sync,
+  counts.the_send,
+  counts.the_sync,
+  counts.the_field_send,
+  counts.the_field_sync,
+  reason.the_send,
+  reason.the_sync,
+  reason.the_field_send,
+  reason.the_field_sync,
+  pos.the_send,
+  pos.the_sync,
+  name.the_send,
+  name.the_sync,
+  place.the_send,
+  place.the_sync,
+  outcome.the_send,
+  outcome.the_sync,
+  value.send-Value,
+  value.sync-Value,
+)
+
+pub State-send : IsSend (State.the_row Heap.the_row ghosts)
+State-send = search (leaves, sendable, crosses) depth 40 fits 4000
+
+pub State-sync : IsSync (State.the_row Heap.the_row ghosts)
+State-sync = search (leaves, sendable, crosses) depth 40 fits 4000
+
+pub Entry-send : IsSend (Entry.the_row Heap.the_row ghosts)
+Entry-send = search (leaves, sendable, crosses) depth 40 fits 4000
+
+pub Entry-sync : IsSync (Entry.the_row Heap.the_row ghosts)
+Entry-sync = search (leaves, sendable, crosses) depth 40 fits 4000
+
+pub Server-send : IsSend (Server.the_row Heap.the_row ghosts)
+Server-send = search (State-send, Entry-send, sendable, crosses) depth 40 fits 4000
+
+pub Server-sync : IsSync (Server.the_row Heap.the_row ghosts)
+Server-sync = search (State-sync, Entry-sync, sendable, crosses) depth 40 fits 4000
+
+pub Page-send : IsSend Page.the_row
+Page-send = search (Server-send, heap.the_field_send, sendable, crosses) depth 40 fits 4000
+
+pub Page-sync : IsSync Page.the_row
+Page-sync = search (Server-sync, heap.the_field_sync, sendable, crosses) depth 40 fits 4000
+
+pub Mark-send : IsSend Mark.the_row
+Mark-send = search (Entry-send, sendable, crosses) depth 40 fits 4000
+
+pub Mark-sync : IsSync Mark.the_row
+Mark-sync = search (Entry-sync, sendable, crosses) depth 40 fits 4000
+
+pub Board-send : (N : RattleType) (g : Ghosts N.Denot) → IsSend N → IsSend (Board.the_row N g)
+Board-send N g s = search (Page-send, front.the_send, sendable, crosses) depth 40 fits 4000
+
+pub Board-sync : (N : RattleType) (g : Ghosts N.Denot) → IsSync N → IsSync (Board.the_row N g)
+Board-sync N g s = search (Page-sync, front.the_sync, sendable, crosses) depth 40 fits 4000
+
+pub Step-send : (N : RattleType) (g : Ghosts N.Denot) → IsSend N → IsSend (Step.the_row N g)
+Step-send N g s = search (Mark-send, front.the_send, sendable, crosses) depth 40 fits 4000
+
+pub Step-sync : (N : RattleType) (g : Ghosts N.Denot) → IsSync N → IsSync (Step.the_row N g)
+Step-sync N g s = search (Mark-sync, front.the_sync, sendable, crosses) depth 40 fits 4000
+
+-- what a reader of a board holds
+abbrev marks : RattleType
+marks = Linked.the_row Mark.the_row Heap.the_row ghosts
+
+pub Reader-send : (N : RattleType) (g : Ghosts N.Denot) → IsSend N → IsSync N → IsSend (Reader.the_row N g)
+Reader-send N g s y =
+    let b = Board-sync N g y in
+    view_send (in_reader.the_row N g) _ _ _ _ (recorded_send (in_reader.the_field N g).row _ _ (in_reader.the_type N g).to_one (struct_send (shape (in_reader.the_type N g)) (
+      end.the_field_send (Board.the_row N g) marks Published.the_row Heap.the_row (rule.ghosts N g (given 0)) ghosts heap.the_send b heap.the_sync frees,
+      (search (front.the_send, sendable), tt),
+    )))
+
+module _ (N : RattleType) (g : Ghosts N.Denot) (a : absorb.Ghosts (BoardOf N.Denot) (StepOf N.Denot) (List MarkOf)) (p : protocol.Ghosts PublishedOf (BoardOf N.Denot) (LinkedList MarkOf Global)) where
+  pub Publisher-send : IsSend N → IsSync N → IsSend (Publisher.the_row N g a p)
+  Publisher-send s y =
+      let b = Board-send N g s in let c = Board-sync N g y in let o = Step-send N g s in
+      view_send (in_publisher.the_row N g a p) _ _ _ _ (recorded_send (in_publisher.the_field N g a p).row _ _ (in_publisher.the_type N g a p).to_one (struct_send (shape (in_publisher.the_type N g a p)) (
+        search (book.the_field_send, sendable),
+        (
+          search (front.the_send, sendable),
+          (
+            writer.the_field_send (Board.the_row N g) (Step.the_row N g) marks Published.the_row Heap.the_row (Array Mark.the_row 0) a p ghosts b o heap.the_send c heap.the_sync frees,
+            (search (o, sendable, crosses), tt),
+          ),
+        ),
+      )))
+
+module _ (K N R : RattleType) (k : keeper.Ghosts K.Denot) (g : Ghosts N.Denot) (a : absorb.Ghosts (BoardOf N.Denot) (StepOf N.Denot) (List MarkOf)) (p : protocol.Ghosts PublishedOf (BoardOf N.Denot) (LinkedList MarkOf Global)) where
+  pub Desk-send : IsSend K → IsSend N → IsSync N → IsSend R → IsSend (Desk.the_row K N R k g a p)
+  Desk-send sk s y sr =
+      let q = Publisher-send N g a p s y in
+      view_send (in_desk.the_row K N R k g a p) _ _ _ _ (recorded_send (in_desk.the_field K N R k g a p).row _ _ (in_desk.the_type K N R k g a p).to_one (struct_send (shape (in_desk.the_type K N R k g a p)) (
+        heap.the_field_send,
+        (search (Server-send, sendable), (sk, (q, (sr, tt)))),
+      )))
+
+  pub Lock-send : IsSend K → IsSend N → IsSync N → IsSend R → IsSend (Mutex.the_row (Desk.the_row K N R k g a p))
+  Lock-send sk s y sr = let d = Desk-send sk s y sr in search (d, sendable, crosses) depth 40 fits 4000
+
+  pub Lock-sync : IsSend K → IsSend N → IsSync N → IsSend R → IsSync (Mutex.the_row (Desk.the_row K N R k g a p))
+  Lock-sync sk s y sr = let d = Desk-send sk s y sr in search (d, sendable, crosses) depth 40 fits 4000
+
+  -- what a room holds
+  pub Shared-send : IsSend K → IsSend N → IsSync N → IsSend R → IsSend (Arc.the_row (Mutex.the_row (Desk.the_row K N R k g a p)) Heap.the_row ghosts)
+  Shared-send sk s y sr = Arc-send _ (Lock-send sk s y sr) (Lock-sync sk s y sr)
+
+  pub Shared-sync : IsSend K → IsSend N → IsSync N → IsSend R → IsSync (Arc.the_row (Mutex.the_row (Desk.the_row K N R k g a p)) Heap.the_row ghosts)
+  Shared-sync sk s y sr = Arc-sync _ (Lock-send sk s y sr) (Lock-sync sk s y sr)
+
+pub Seat-send : (N D : RattleType) (g : Ghosts N.Denot) → IsSend N → IsSync N → IsSend D → IsSync D → IsSend (Seat.the_row N D g)
+Seat-send N D g s y sd yd =
+    let r = Reader-send N g s y in
+    view_send (in_seat.the_row N D g) _ _ _ _ (recorded_send (in_seat.the_field N D g).row _ _ (in_seat.the_type N D g).to_one (struct_send (shape (in_seat.the_type N D g)) (Arc-send D sd yd, (r, tt))))
+
+-- what a caller's `search` needs for a seat that it sends to a thread, beside `sendable` and `crosses`
+pub ruleset seats = (Seat-send, Lock-send, Lock-sync, Shared-send, Shared-sync)
