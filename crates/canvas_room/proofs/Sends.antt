@@ -29,6 +29,7 @@ use Rattle.canvas_board.specs.contracts.reader.Reader as Reader
 use Rattle.canvas_board.specs.contracts.reader.Reader.TheInside as in_reader
 use Rattle.canvas_board.specs.contracts.publisher.Publisher as Publisher
 use Rattle.canvas_board.specs.contracts.publisher.Publisher.TheInside as in_publisher
+use Rattle.canvas_board.specs.contracts.board.BoardAbsorbStep.TheImpl as absorbs
 use Rattle.canvas_board.specs.contracts.rule.Published as Published
 use Rattle.canvas_board.specs.contracts.rule.PublishedProtocolBoardLinkedListMark.TheImpl as rule
 use Rattle.canvas_board.specs.declared.board.Board.{Board as BoardOf}
@@ -191,6 +192,18 @@ pub Seat-send : (N D : RattleType) (g : Ghosts N.Denot) → IsSend N → IsSync 
 Seat-send N D g s y sd yd =
     let r = Reader-send N g s y in
     view_send (in_seat.the_row N D g) _ _ _ _ (recorded_send (in_seat.the_field N D g).row _ _ (in_seat.the_type N D g).to_one (struct_send (shape (in_seat.the_type N D g)) (Arc-send D sd yd, (r, tt))))
+
+module _ (K N R : RattleType) (k : keeper.Ghosts K.Denot) (g : Ghosts N.Denot) where
+  -- the lock of a room, as a caller's types have it
+  abbrev pub lock : RattleType
+  lock = Mutex.the_row (Desk.the_row K N R k g (absorbs.ghosts N g absorbs.no_dict) (rule.ghosts N g rule.no_dict))
+
+  -- a seat of a room
+  pub Room-seat-send : IsSend K → IsSend N → IsSync N → IsSend R → IsSend (Seat.the_row N lock g)
+  Room-seat-send sk s y sr =
+      let l = Lock-send K N R k g (absorbs.ghosts N g absorbs.no_dict) (rule.ghosts N g rule.no_dict) sk s y sr in
+      let m = Lock-sync K N R k g (absorbs.ghosts N g absorbs.no_dict) (rule.ghosts N g rule.no_dict) sk s y sr in
+      Seat-send N lock g s y l m
 
 -- what a caller's `search` needs for a seat that it sends to a thread, beside `sendable` and `crosses`
 pub ruleset seats = (Seat-send, Lock-send, Lock-sync, Shared-send, Shared-sync)
