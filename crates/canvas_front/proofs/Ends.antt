@@ -1,0 +1,61 @@
+-- What is answered by the table is an answer.
+use Rattle.std.proofs.Common.{◌≡◌, ℕ, ◌+◌, List, [], ◌∷◌, ◌++◌, Option, Some, None, Result, Ok, Err, IfOk, sym, subst, ⊎_elim}
+use Rattle.canvas_model.specs.Log.{What, Join, Edit, Entry}
+use Rattle.canvas_model.specs.Verdict.{Outcome}
+use Rattle.canvas_model.specs.Receive.{Message, Idle}
+use Rattle.canvas_judge.specs.declared.message.NoReason.{NoReason}
+use Rattle.canvas_judge.specs.declared.message.NoReason.TheVariants as no
+use Rattle.canvas_server.specs.Asked.{Asked}
+use Rattle.canvas_server.specs.Served.{Served, tail_of}
+use Rattle.canvas_board.specs.Marks.{Mark}
+use Rattle.canvas_desk.specs.declared.faults.SubmitError.{SubmitError}
+use Rattle.canvas_desk.specs.declared.faults.SubmitError.TheVariants.{Stranger, Repeat, Gap, Full, Device, Failed, Memory, TooLarge}
+use Rattle.canvas_nodes.specs.Answers.{IsAnswer, IsEnd, refused}
+use Rattle.canvas_front.specs.News.{tells, tells_or_copies}
+use Rattle.canvas_front.specs.Table.{AnswersAsk, AnswersRequest, IsJudged, IsRefused, IsToldAs, SaysOf, TellsNews, answer_of}
+
+told_ends : (w : What) (outcome : Outcome) (m : Message) → IsToldAs w outcome m → IsEnd m
+told_ends Join outcome m told = subst IsEnd (sym told.2) tt
+told_ends (Edit change) outcome m told = subst IsEnd (sym told) tt
+
+refused_ends : (e : SubmitError) → IsEnd (answer_of e)
+refused_ends Stranger = tt
+refused_ends (Repeat done) = tt
+refused_ends (Gap done) = tt
+refused_ends Full = tt
+refused_ends Device = tt
+refused_ends Failed = tt
+refused_ends (Memory after) = tt
+refused_ends TooLarge = tt
+
+says_ends : (q : Asked) (old : List Mark) (m : Message) (new : List Mark) → SaysOf q old m new → IsEnd m
+says_ends q old m new says = ⊎_elim
+    (λ (j : IsJudged q old m new). told_ends j.entry.what j.entry.outcome m j.told)
+    (λ (r : IsRefused q old m new). subst IsEnd (sym r.told) (refused_ends r.error))
+    says
+
+request_whole : (q : Asked) (old : List Mark) (answer : List Message) (new : List Mark) → AnswersRequest q old answer new → IsAnswer answer
+request_whole q old answer new (m, is, says) = subst IsAnswer (sym is) (says_ends q old m new says)
+
+entries_whole : (from : ℕ) (es : List Entry) → IsAnswer (tells from es ++ Idle ∷ [])
+entries_whole from [] = tt
+entries_whole from (e ∷ []) = ((λ end. end), tt)
+entries_whole from (e ∷ d ∷ es) = ((λ end. end), entries_whole (from + 1) (d ∷ es))
+
+news_whole : (b : Served) (client from : ℕ) (t : Option (List Entry)) → IsAnswer (tells_or_copies b client from t ++ Idle ∷ [])
+news_whole b client from None = ((λ end. end), tt)
+news_whole b client from (Some es) = entries_whole from es
+
+refused_whole : (reason : NoReason) (answer : List Message) → answer ≡ refused reason → IsAnswer answer
+refused_whole reason answer is = subst IsAnswer (sym is) tt
+
+ask_whole : (b : Served) (client from : ℕ) (answer : List Message) → AnswersAsk b client from answer → IsAnswer answer
+ask_whole b client from answer h = ⊎_elim
+    (λ (t : TellsNews b client from answer). subst IsAnswer (sym t.1) (news_whole b client from (tail_of b from 64)))
+    (λ r. ⊎_elim (λ s. refused_whole no.Stranger answer s.1) (λ f. refused_whole no.Failed answer f) r)
+    h
+
+-- the same for an answer to an Ask that may have failed
+pub ask_ends : {V E : Type 0} (seen : V → List Message) (b : Served) (client from : ℕ) (r : Result V E) → IfOk r (λ v. AnswersAsk b client from (seen v)) → IfOk r (λ v. IsAnswer (seen v))
+ask_ends seen b client from (Ok v) h = ask_whole b client from (seen v) h
+ask_ends seen b client from (Err e) h = tt

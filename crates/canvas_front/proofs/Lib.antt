@@ -1,0 +1,4 @@
+pub mod Boards
+pub mod Judged
+pub mod News
+pub mod Ends

@@ -1,0 +1,98 @@
+-- What is answered a client's message at a seat.
+use Rattle.std.specs.Prelude.{◌≡◌, ◌⊎◌, ℕ, true, false, List, [], ◌∷◌, ◌++◌}
+use Rattle.canvas_model.specs.State.{joined}
+use Rattle.canvas_model.specs.Log.{What, Join, Edit, Entry}
+use Rattle.canvas_model.specs.Verdict.{Outcome, Joined}
+use Rattle.canvas_model.specs.Receive.{Message, Joins, Welcome, Sends, Asks, Idle, No}
+use Rattle.canvas_judge.specs.declared.message.NoReason.TheVariants as no
+use Rattle.canvas_judge.specs.Reasons.{number_of}
+use Rattle.canvas_server.specs.Asked.{Asked}
+use Rattle.canvas_server.specs.Served.{Served}
+use Rattle.canvas_board.specs.Marks.{Logged, Mark, Opening, Sees, board}
+use Rattle.canvas_desk.specs.declared.faults.SubmitError.{SubmitError}
+use Rattle.canvas_desk.specs.declared.faults.SubmitError.TheVariants as submit
+use Rattle.canvas_room.specs.Seats.{Answers, RefusesEdit}
+use Rattle.canvas_nodes.specs.Answers.{refused}
+use Rattle.canvas_front.specs.News.{copies, news_of}
+use Rattle.canvas_front.specs.declared.asking.NoNews.{NoNews}
+use Rattle.canvas_front.specs.declared.asking.NoNews.TheVariants as none
+
+-- no more was seen, or a legal history that begins with what was seen
+abbrev pub SeesOn : Opening → List Mark → List Mark → Type 0
+SeesOn o old new = (new ≡ old) ⊎ Sees o old new
+
+-- The entry stands in what has been seen since: it is one of the marks by which the new history is longer than the old.
+pub record IsSince (old new : List Mark) (e : Entry) : Type 0 where
+  pub before : List Mark
+  pub after : List Mark
+  pub new_is : new ≡ old ++ (before ++ Logged e ∷ after)
+
+-- the message tells what became of what was asked: a Welcome with the id that a Join was given, and Idle for an edit
+abbrev pub IsToldAs : What → Outcome → Message → Type 0
+IsToldAs Join outcome m = (client : ℕ) × (outcome ≡ Joined client) × (m ≡ Welcome client)
+IsToldAs (Edit change) outcome m = m ≡ Idle
+
+-- the answer where a submit refuses a request: a No with the error's number, but Idle where the edit was judged before
+abbrev pub answer_of : SubmitError → Message
+answer_of submit.Stranger = No (number_of no.Stranger)
+answer_of (submit.Repeat done) = Idle
+answer_of (submit.Gap done) = No (number_of no.Gap)
+answer_of submit.Full = No (number_of no.Full)
+answer_of submit.Device = No (number_of no.Device)
+answer_of submit.Failed = No (number_of no.Failed)
+answer_of (submit.Memory after) = No (number_of no.Memory)
+answer_of submit.TooLarge = No (number_of no.TooLarge)
+
+-- An entry that answers the request stands in what has been seen since, and the message tells what became of it.
+pub record IsJudged (q : Asked) (old : List Mark) (m : Message) (new : List Mark) : Type 0 where
+  pub entry : Entry
+  pub answers : Answers q entry
+  pub since : IsSince old new entry
+  pub told : IsToldAs entry.what entry.outcome m
+
+-- An error by which a submit refuses the request is told, and no more was seen.
+pub record IsRefused (q : Asked) (old : List Mark) (m : Message) (new : List Mark) : Type 0 where
+  pub error : SubmitError
+  pub refuses : RefusesEdit q error
+  pub told : m ≡ answer_of error
+  pub same : new ≡ old
+
+-- the message says of a request that it was judged, or why not
+abbrev pub SaysOf : Asked → List Mark → Message → List Mark → Type 0
+SaysOf q old m new = IsJudged q old m new ⊎ IsRefused q old m new
+
+-- what is answered a request: one message that says of it what it became
+abbrev pub AnswersRequest : Asked → List Mark → List Message → List Mark → Type 0
+AnswersRequest q old answer new = (m : Message) × (answer ≡ m ∷ []) × SaysOf q old m new
+
+-- why a client has no news from a board: it hasn't joined by that board; or the room has ended, or memory was refused
+abbrev pub HasNoNews : Served → ℕ → NoNews → Type 0
+HasNoNews b client none.Stranger = joined b.state client ≡ false
+HasNoNews b client none.Closed = Unit {0}
+HasNoNews b client none.Memory = Unit {0}
+
+-- a client that has joined by this board is told its copy, and then Idle
+abbrev pub TellsCopy : Served → ℕ → List Message → Type 0
+TellsCopy b client answer = (joined b.state client ≡ true) × (answer ≡ copies b client ∷ Idle ∷ [])
+
+-- a client that has joined by this board is told its news, and then Idle
+abbrev pub TellsNews : Served → ℕ → ℕ → List Message → Type 0
+TellsNews b client from answer = (joined b.state client ≡ true) × (answer ≡ news_of b client from ++ Idle ∷ [])
+
+-- what is answered an Ask: the news of the board that was seen; a No to a client that hasn't joined by then; or a No where the room has ended
+abbrev pub AnswersAsk : Served → ℕ → ℕ → List Message → Type 0
+AnswersAsk b client from answer =
+    TellsNews b client from answer
+    ⊎ ((joined b.state client ≡ false) × (answer ≡ refused no.Stranger))
+    ⊎ (answer ≡ refused no.Failed)
+
+-- what is answered a message, and what has been seen then: by the kind of the message
+abbrev pub IsAnswerTo : Opening → List Mark → Message → List Message → List Mark → Type 0
+IsAnswerTo o old Joins answer new = AnswersRequest (record { author = 0; seq = 0; what = Join }) old answer new
+IsAnswerTo o old (Sends client seq change) answer new = AnswersRequest (record { author = client; seq = seq; what = Edit change }) old answer new
+IsAnswerTo o old (Asks client version) answer new = AnswersAsk (board o new) client version answer
+IsAnswerTo o old _ answer new = (answer ≡ refused no.NotRead) × (new ≡ old)
+
+-- an answer by the table, and no more was seen than goes on from what was
+abbrev pub Gives : Opening → List Mark → Message → List Message → List Mark → Type 0
+Gives o old m answer new = SeesOn o old new × IsAnswerTo o old m answer new

@@ -1,0 +1,12 @@
+//! A seat of a room that answers clients: what is answered each message, an answerer for connections, and a link in the same process.
+#![tactic(auto)]
+
+mod answerer;
+mod asking;
+mod messages;
+mod requests;
+mod seat_link;
+
+pub use answerer::SeatAnswerer;
+pub use messages::answer;
+pub use seat_link::SeatLink;

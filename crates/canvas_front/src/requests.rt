@@ -1,0 +1,85 @@
+// What is answered a Join and an edit.
+ghost use Rattle.std.specs.Prelude.{◌≡◌, IfOk, map};
+ghost use Rattle.canvas_judge.specs.Seen.{seen_message};
+ghost use Rattle.canvas_server.specs.Asked.{seen_request};
+ghost use Rattle.canvas_room.specs.Seats.{IsOutcomeOf};
+ghost use Rattle.canvas_front.specs.Table.{AnswersRequest, IsToldAs, SaysOf, SeesOn, answer_of};
+
+use canvas_board::RoomName;
+use canvas_desk::SubmitError;
+use canvas_journal::Keeper;
+use canvas_judge::{Entry, Message, NoReason, Outcome, What};
+use canvas_room::{Lock, Seat};
+use canvas_server::Request;
+use std::alloc::{AllocError, Global};
+use std::sync::Wait;
+
+// How many entries stand after the floor when a checkpoint is made.
+const ENTRIES_FOR_A_CHECKPOINT: u64 = 256;
+
+/// The answer to a request: a Welcome where it was a Join, Idle where it was an edit that is judged, now or before, and otherwise a No
+/// with the number of the `SubmitError`. It may wait for the room's lock. Fails only where memory is refused, and then nothing was
+/// asked of the room.
+pub fn answer_request<K: Keeper + Drop, N: RoomName, R: Wait + Drop, W: Wait>(
+    alloc: Global,
+    rt: &W,
+    seat: &mut Seat<N, Lock<K, N, R>>,
+    request: &Request,
+) -> Result<Vec<Message>, AllocError>
+    ensures answers { IfOk result (λ answer. AnswersRequest (seen_request request.now) seat.old (map seen_message answer.items) seat.new) }
+    ensures sees { SeesOn N.opening seat.old seat.new }
+{
+    let mut answer = Vec::with_capacity(alloc, 1)?;
+    let message = submit(rt, seat, request);
+    answer.push_reserved(message);
+    Ok(answer)
+}
+
+// Has a request judged, and says what became of it. A receipt is learned; then a checkpoint is made where it is time for one, and
+// whether that failed isn't told.
+fn submit<K: Keeper + Drop, N: RoomName, R: Wait + Drop, W: Wait>(
+    rt: &W,
+    seat: &mut Seat<N, Lock<K, N, R>>,
+    request: &Request,
+) -> Message
+    ensures says { SaysOf (seen_request request.now) seat.old (seen_message result) seat.new }
+    ensures sees { SeesOn N.opening seat.old seat.new }
+{
+    match seat.submit(rt, request) {
+        Ok(receipt) => {
+            let message = judged(receipt.entry());
+            seat.learn(receipt);
+            let _ = seat.tidy(rt, ENTRIES_FOR_A_CHECKPOINT);
+            message
+        }
+        Err(error) => refused(error),
+    }
+}
+
+// What is answered where this entry was judged: the id to a Join, and Idle to an edit.
+fn judged(entry: &Entry) -> Message
+    requires { IsOutcomeOf entry.now.what entry.now.outcome }
+    ensures { IsToldAs entry.now.what entry.now.outcome (seen_message result) }
+{
+    match (&entry.what, &entry.outcome) {
+        (What::Edit(_), _) => Message::Idle,
+        (What::Join, Outcome::Joined(client)) => Message::Welcome(*client),
+        _ => unreachable!(),
+    }
+}
+
+// What is answered where a submit refuses a request.
+fn refused(error: SubmitError) -> Message
+    ensures { seen_message result ≡ answer_of error }
+{
+    match error {
+        SubmitError::Stranger => Message::No(NoReason::Stranger),
+        SubmitError::Repeat { .. } => Message::Idle,
+        SubmitError::Gap { .. } => Message::No(NoReason::Gap),
+        SubmitError::Full => Message::No(NoReason::Full),
+        SubmitError::Device => Message::No(NoReason::Device),
+        SubmitError::Failed => Message::No(NoReason::Failed),
+        SubmitError::Memory { .. } => Message::No(NoReason::Memory),
+        SubmitError::TooLarge => Message::No(NoReason::TooLarge),
+    }
+}
