@@ -1,11 +1,13 @@
 // What is answered a Join and an edit.
 ghost use Rattle.std.specs.Prelude.{◌≡◌, IfOk, map};
+ghost use mathlib.Core.List.{IsPrefix};
 ghost use Rattle.canvas_judge.specs.Seen.{seen_message};
 ghost use Rattle.canvas_server.specs.Asked.{seen_request};
+ghost use Rattle.canvas_board.specs.Marks.{Sees};
 ghost use Rattle.canvas_room.specs.Seats.{IsOutcomeOf};
 ghost use Rattle.canvas_front.specs.Table.{AnswersRequest, IsToldAs, SaysOf, SeesOn, answer_of};
 
-use canvas_board::RoomName;
+use canvas_board::{Receipt, RoomName};
 use canvas_desk::SubmitError;
 use canvas_journal::Keeper;
 use canvas_judge::{Entry, Message, NoReason, Outcome, What};
@@ -35,8 +37,7 @@ pub fn answer_request<K: Keeper + Drop, N: RoomName, R: Wait + Drop, W: Wait>(
     Ok(answer)
 }
 
-// Has a request judged, and says what became of it. A receipt is learned; then a checkpoint is made where it is time for one, and
-// whether that failed isn't told.
+// Has a request judged, and says what became of it.
 fn submit<K: Keeper + Drop, N: RoomName, R: Wait + Drop, W: Wait>(
     rt: &W,
     seat: &mut Seat<N, Lock<K, N, R>>,
@@ -48,12 +49,24 @@ fn submit<K: Keeper + Drop, N: RoomName, R: Wait + Drop, W: Wait>(
     match seat.submit(rt, request) {
         Ok(receipt) => {
             let message = judged(receipt.entry());
-            seat.learn(receipt);
-            let _ = seat.tidy(rt, ENTRIES_FOR_A_CHECKPOINT);
+            take_in(rt, seat, receipt);
             message
         }
         Err(error) => refused(error),
     }
+}
+
+// Learns a receipt; then makes a checkpoint where it is time for one, and whether that failed isn't told.
+fn take_in<K: Keeper + Drop, N: RoomName, R: Wait + Drop, W: Wait>(
+    rt: &W,
+    seat: &mut Seat<N, Lock<K, N, R>>,
+    receipt: Receipt<N>,
+)
+    ensures learned { IsPrefix receipt.history seat.new }
+    ensures sees { Sees N.opening seat.old seat.new }
+{
+    seat.learn(receipt);
+    let _ = seat.tidy(rt, ENTRIES_FOR_A_CHECKPOINT);
 }
 
 // What is answered where this entry was judged: the id to a Join, and Idle to an edit.

@@ -3,4 +3,4 @@ use Rattle.canvas_front.proofs.Judged.{judged_of}
 use Rattle.canvas_front.proofs.requests.submit.Goals as goal
 
 pub returns-in-Ok-clause-says : goal.returns-in-Ok-clause-says
-returns-in-Ok-clause-says g c = judged_of g.N.RoomName.opening c.args.seat.now c.learn.new.self _ (seen_request c.args.request.now) c.in-Ok.receipt _ _ c.in-Ok.ensures.told c.learn.ensures.receipt c.tidy.ensures c.entry.ensures c.judged-message.ensures
+returns-in-Ok-clause-says g c = judged_of g.N.RoomName.opening c.args.seat.now c.take_in.new.seat (seen_request c.args.request.now) c.in-Ok.receipt _ _ c.in-Ok.ensures.told c.take_in.ensures.learned c.entry.ensures c.judged-message.ensures
