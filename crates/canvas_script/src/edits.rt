@@ -11,8 +11,9 @@ use canvas_lines::words::{Verb, cut_word, read_name, read_value, read_verb};
 use canvas_value::json::every_spelling;
 use std::alloc::Global;
 
-// The edit that the text spells: a verb, a blank, and what that verb wants.
-pub(crate) fn read_edit(alloc: Global, text: &[u8]) -> Result<EditRequest, LineError>
+/// The edit that the text spells: a verb, a blank, and what that verb wants. The errors: `Unreadable`, where it spells none; `Memory`,
+/// where memory is refused.
+pub fn read_edit(alloc: Global, text: &[u8]) -> Result<EditRequest, LineError>
     ensures ok { IfOk result (SpellsEdit text.now) }
     ensures err { IfErr result (IsLineError (SpellsEdit text.now)) }
 {

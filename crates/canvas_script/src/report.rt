@@ -83,8 +83,9 @@ pub fn write_node(
     write_client(alloc, name, client, out)
 }
 
-// Adds the block of a client of this name.
-fn write_client(
+/// Adds the block of a client of this name: the name, its id, version and number of edits that wait, and the tree of its view. Fails
+/// only where memory is refused, and then `out` is as it was.
+pub fn write_client(
     alloc: Global,
     name: &[u8],
     client: &Client,
