@@ -6,6 +6,11 @@ use Rattle.canvas_shelf.specs.declared.shelf.ShelfError.{ShelfError}
 use Rattle.canvas_shelf.specs.declared.shelf.ShelfError.TheVariants as shelf
 use Rattle.canvas_journal.specs.declared.fault.OpenError.{OpenError}
 use Rattle.canvas_journal.specs.declared.fault.OpenError.TheVariants as opening
+use Rattle.canvas_judge.specs.declared.message.NoReason.{NoReason}
+use Rattle.canvas_nodes.specs.declared.link.LinkError.{LinkError}
+use Rattle.canvas_nodes.specs.declared.link.LinkError.TheVariants as link
+use Rattle.canvas_room.specs.declared.faults.RoomError.{RoomError}
+use Rattle.canvas_room.specs.declared.faults.RoomError.TheVariants as room
 use Rattle.canvas_lines.specs.declared.fault.Fault as lines
 use Rattle.canvas_lines.specs.declared.fault.Fault.TheVariants as line
 use Rattle.canvas_daemon.specs.declared.fault.Fault.{Fault}
@@ -50,6 +55,19 @@ fault_of_opening opening.Memory = Memory
 abbrev pub fault_of_shelf : ShelfError → Fault
 fault_of_shelf shelf.Device = Device
 fault_of_shelf shelf.Memory = Memory
+
+-- the fault that a room that isn't made is
+abbrev pub fault_of_room : RoomError → Fault
+fault_of_room room.SeatCount = Usage
+fault_of_room room.NoPlace = Memory
+fault_of_room room.Memory = Memory
+
+-- the fault that a round without an answer is
+abbrev pub fault_of_link : LinkError → Fault
+fault_of_link link.Memory = Memory
+fault_of_link link.Ended = Device
+fault_of_link (link.Refused reason) = Device
+fault_of_link link.NotRead = Device
 
 -- the fault that a line or a stream is
 abbrev pub fault_of_lines : lines.Fault → Fault

@@ -4,6 +4,8 @@ ghost use Rattle.canvas_daemon.specs.Faults.{IsEnd, IsFaultStatus};
 
 use canvas_journal::OpenError;
 use canvas_lines::Fault as LineFault;
+use canvas_nodes::LinkError;
+use canvas_room::RoomError;
 use canvas_shelf::ShelfError;
 use std::alloc::{AllocError, AllocFailed};
 use std::error::Error;
@@ -90,6 +92,32 @@ impl From<OpenError> for Fault {
             OpenError::Damaged { segment, offset } => Fault::Damaged { segment, offset },
             OpenError::TooLarge => Fault::TooLarge,
             OpenError::Memory => Fault::Memory,
+        }
+    }
+}
+
+impl From<RoomError> for Fault {
+    ghost use Rattle.canvas_daemon.specs.Faults.{fault_of_room};
+
+    ghost from_gives = { λ error fault. fault ≡ fault_of_room error };
+
+    fn from(error: RoomError) -> Fault {
+        match error {
+            RoomError::SeatCount => Fault::Usage,
+            RoomError::NoPlace | RoomError::Memory => Fault::Memory,
+        }
+    }
+}
+
+impl From<LinkError> for Fault {
+    ghost use Rattle.canvas_daemon.specs.Faults.{fault_of_link};
+
+    ghost from_gives = { λ error fault. fault ≡ fault_of_link error };
+
+    fn from(error: LinkError) -> Fault {
+        match error {
+            LinkError::Memory => Fault::Memory,
+            LinkError::Ended | LinkError::Refused(_) | LinkError::NotRead => Fault::Device,
         }
     }
 }

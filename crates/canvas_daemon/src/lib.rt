@@ -2,10 +2,19 @@
 //! and its commands.
 #![tactic(auto)]
 
+mod editing;
 mod fault;
+mod node;
+mod running;
+mod serving;
 mod showing;
+mod trying;
 mod words;
 
+pub use editing::edit;
 pub use fault::{Fault, end};
+pub use running::run;
+pub use serving::serve;
 pub use showing::{report, show, show_shelf};
+pub use trying::trial;
 pub use words::{Command, read_command};

@@ -35,8 +35,8 @@ pub fn report<S: Shelf>(alloc: Global, shelf: &mut S) -> Result<Vec<u8>, Fault>
     Ok(text)
 }
 
-// The text of a document at a version. The tree is grown in an arena, which ends with it.
-fn report_text(alloc: Global, version: u64, doc: &Doc) -> Result<Vec<u8>, AllocError>
+/// The text of a document at a version. The tree is grown in an arena, which ends with it. Fails only where memory is refused.
+pub(crate) fn report_text(alloc: Global, version: u64, doc: &Doc) -> Result<Vec<u8>, AllocError>
     ensures { IfOk result (λ text. IsReportText version doc.now text.items) }
 {
     let arena = Bump::new(alloc);

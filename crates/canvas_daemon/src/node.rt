@@ -1,0 +1,97 @@
+// A client with its link to a server, and what it writes of itself.
+ghost use Rattle.std.specs.Prelude.{◌≡◌, IsSome};
+
+use crate::fault::Fault;
+use canvas_client::{Client, EditError, EditRequest};
+use canvas_doc::{Kind, ObjId};
+use canvas_lines::write_out;
+use canvas_nodes::{SocketLink, exchange, join};
+use canvas_script::write_client;
+use std::alloc::Global;
+use std::io::Write;
+use std::net::TcpStream;
+use std::random::RandomSource;
+use tungstenite::handshake::client::{client, request_of};
+use tungstenite::{Error, HandshakeError, RandomKeys};
+
+/// The name under which a client shows itself.
+const OWN_NAME: &[u8] = b"me";
+
+/// A client that has joined, and its link to the server.
+#[derive(Drop)]
+pub(crate) struct Node<R: Drop> {
+    client: Client,
+    link: SocketLink<TcpStream, RandomKeys<R>>,
+    ghost joined: { IsSome client.id },
+}
+
+impl<R: RandomSource + AllocGlobal + Clone + Drop> Node<R> {
+    /// A client that joins the server at the other end of a stream.
+    ///
+    /// The errors: `Device`, where the handshake or the socket failed, or the server answered a No; `Memory`, where memory was refused.
+    pub fn joined(rt: &R, stream: TcpStream) -> Result<Node<R>, Fault> {
+        let alloc = rt.alloc();
+        // Each message leaves at once; without this some would wait for an acknowledgement.
+        let _ = stream.set_nodelay(true);
+        let Ok(request) = request_of(alloc, "ws://127.0.0.1/") else {
+            return Err(Fault::Memory);
+        };
+        let socket = match client(alloc, rt.clone()?, request, stream) {
+            Ok((socket, _response)) => socket,
+            Err(HandshakeError::Failure(Error::OutOfMemory)) => return Err(Fault::Memory),
+            Err(_) => return Err(Fault::Device),
+        };
+        let mut link = SocketLink::new(alloc, socket);
+        let mut client = Client::new(alloc)?;
+        join(&mut client, &mut link)?;
+        Ok(Node { client, link })
+    }
+
+    /// The client.
+    pub fn client(&self) -> &Client
+        ensures { result.now ≡ self.now.client }
+    {
+        &self.client
+    }
+
+    /// Makes an edit, as the client's `edit` does.
+    pub fn edit(&mut self, request: &EditRequest) -> Result<u64, EditError> {
+        self.client.edit(request)
+    }
+
+    /// Creates an object, as the client's `create` does. Answers its id.
+    pub fn create(
+        &mut self,
+        kind: Kind,
+        parent: ObjId,
+        after: Option<ObjId>,
+    ) -> Result<ObjId, EditError> {
+        let (_edit, id) = self.client.create(kind, parent, after)?;
+        Ok(id)
+    }
+
+    /// Sends what waits, and asks for what is new.
+    ///
+    /// The errors: `Device`, where the socket failed or the server answered a No; `Memory`, where memory was refused.
+    pub fn exchange(&mut self, alloc: Global) -> Result<(), Fault> {
+        exchange(alloc, &mut self.client, &mut self.link)?;
+        Ok(())
+    }
+
+    /// Writes `version B waiting W`.
+    pub fn tell<W: Write>(&self, alloc: Global, output: &mut W) -> Result<(), Fault> {
+        let version = self.client.version();
+        let waiting = self.client.unacknowledged();
+        let line = format!(in alloc; "version {version} waiting {waiting}\n")?;
+        write_out(output, line.as_bytes())?;
+        Ok(())
+    }
+
+    /// Writes the client's block.
+    pub fn show<W: Write>(&self, alloc: Global, output: &mut W) -> Result<(), Fault> {
+        let mut block = Vec::new(alloc);
+        write_client(alloc, OWN_NAME, &self.client, &mut block)?;
+        write_out(output, &block)?;
+        Ok(())
+    }
+}

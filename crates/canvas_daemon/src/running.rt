@@ -1,0 +1,83 @@
+// The program: its words, and the status that it ends with.
+use crate::editing::edit;
+use crate::fault::{Fault, end};
+use crate::serving::serve;
+use crate::showing::show;
+use crate::trying::trial;
+use crate::words::{Command, read_command};
+use std::io::{BufRead, Write};
+use std::net::{Net, TcpListener, TcpStream};
+use std::random::RandomSource;
+use std::sync::Wait;
+use std::thread::Threads;
+
+/// Does what the words after the program's name ask for, and answers the program's status: 0; 1 where the clients of a trial differ;
+/// else that of the fault, which is told on `faults`.
+pub fn run<R, I, W, F>(
+    rt: &R,
+    files: HostRuntime,
+    words: &[String],
+    input: &mut I,
+    output: &mut W,
+    faults: &mut F,
+) -> u8
+where
+    R: Net<Listener = TcpListener, Stream = TcpStream>
+        + RandomSource
+        + Threads
+        + Wait
+        + AllocGlobal
+        + Clone
+        + Send
+        + Sync
+        + Drop,
+    I: BufRead,
+    W: Write,
+    F: Write,
+{
+    match perform(rt, files, words, input, output) {
+        Ok(status) => status,
+        Err(fault) => end(&fault, faults),
+    }
+}
+
+// Does what the words ask for. Answers the status, where no fault ends it.
+fn perform<R, I, W>(
+    rt: &R,
+    files: HostRuntime,
+    words: &[String],
+    input: &mut I,
+    output: &mut W,
+) -> Result<u8, Fault>
+where
+    R: Net<Listener = TcpListener, Stream = TcpStream>
+        + RandomSource
+        + Threads
+        + Wait
+        + AllocGlobal
+        + Clone
+        + Send
+        + Sync
+        + Drop,
+    I: BufRead,
+    W: Write,
+{
+    let Some(command) = read_command(words) else {
+        return Err(Fault::Usage);
+    };
+    match command {
+        Command::Serve {
+            dir,
+            port,
+            connections,
+        } => serve(rt, files, dir, port, connections, output)?,
+        Command::Edit { port } => edit(rt, port, input, output)?,
+        Command::Show { dir } => show(files, dir, output)?,
+        Command::Trial { dir } => {
+            if !trial(rt, files, dir, output)? {
+                return Ok(1);
+            }
+        }
+    }
+    Ok(0)
+}
