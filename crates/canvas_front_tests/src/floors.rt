@@ -1,5 +1,5 @@
 //! Long rooms: how many entries an answer has, and what is answered below the floor.
-use crate::rooms::{Heard, heard};
+use crate::rooms::{Told, heard};
 use canvas_shelf::Call;
 use std::alloc::Global;
 use std::sync::Wait;
@@ -26,19 +26,19 @@ fn after<R: Wait + Copy + Drop>(
     rt: R,
     count: u64,
     asked: &str,
-) -> Result<Heard, Fail> {
+) -> Result<Told, Fail> {
     let mut lines = edits(alloc, count)?;
     lines.push_str(asked)?;
     heard(alloc, rt, &lines)
 }
 
 // Whether what is heard ends so.
-fn ends(heard: &Heard, texts: &str) -> bool {
+fn ends(heard: &Told, texts: &str) -> bool {
     heard.texts.as_slice().ends_with(texts.as_bytes())
 }
 
 // How many of the answers' lines begin so.
-fn lines_with(heard: &Heard, start: &str) -> u32 {
+fn lines_with(heard: &Told, start: &str) -> u32 {
     let mut count = 0u32;
     for line in heard.texts.as_slice().split(|byte| *byte == b'\n') {
         if line.starts_with(start.as_bytes()) {

@@ -13,7 +13,7 @@ const REFUSED: &str = "[\"edit\",1,1,[\"delete\",[1,1]]]
 [\"ask\",1,9]
 ";
 
-const TOLD: &str = "[\"no\",1]
+const ANSWERED: &str = "[\"no\",1]
 [\"welcome\",1]
 [\"idle\"]
 [\"entry\",2,[1,1,[\"delete\",[1,1]],[\"refused\",3,null]]]
@@ -24,7 +24,7 @@ const TOLD: &str = "[\"no\",1]
 
 #[test]
 fn refused_edits(rt: HostRuntime) -> Result<(), Fail> {
-    assert!(rt; answers(rt.alloc(), rt, REFUSED, TOLD)?);
+    assert!(rt; answers(rt.alloc(), rt, REFUSED, ANSWERED)?);
     Ok(())
 }
 

@@ -17,7 +17,7 @@ pub type MemSeat<N, R> = Seat<N, Lock<Journal<MemShelf>, N, R>>;
 
 /// What was answered, one message a line, and the calls of the room's shelf.
 #[derive(Drop)]
-pub struct Heard {
+pub struct Told {
     pub texts: Vec<u8>,
     pub calls: Vec<Call>,
 }
@@ -54,25 +54,24 @@ fn tell<N: RoomName, R: Wait + Drop, W: Wait>(
 }
 
 // What the room's seat answers these lines.
-fn heard_at<N: RoomName, R: Wait + Drop, W: Wait>(
+fn heard_at<N: RoomName, R: Wait + Copy + Drop>(
     alloc: Global,
-    rt: &W,
-    own: R,
+    rt: R,
     blank: BlankRoom<Journal<MemShelf>>,
-    lines: &str,
-) -> Result<Heard, Fail>
+    lines: String,
+) -> Result<(Vec<u8>, Vec<Call>), Fail>
     requires book { blank.book ≡ N.book }
     requires opening { blank.opening ≡ N.opening }
 {
-    let (room, mut seats) = blank.open::<N, R>(own)?;
+    let (room, mut seats) = blank.open::<N, R>(rt)?;
     let mut seat = seats.pop().ok_or("a seat")?;
     let mut texts = Vec::new(alloc);
     for line in lines.lines() {
-        tell(alloc, rt, &mut seat, line, &mut texts)?;
+        tell(alloc, &rt, &mut seat, line, &mut texts)?;
     }
-    let desk = room.desk(rt);
+    let desk = room.desk(&rt);
     let calls = Vec::from_slice(alloc, desk.keeper().shelf().calls())?;
-    Ok(Heard { texts, calls })
+    Ok((texts, calls))
 }
 
 /// What a seat of a new room answers these lines, where all calls of its shelf after so many fail.
@@ -81,12 +80,16 @@ pub fn heard_with<R: Wait + Copy + Drop>(
     rt: R,
     calls: u64,
     lines: &str,
-) -> Result<Heard, Fail> {
-    heard_at::<Brand, R, R>(alloc, &rt, rt, blank(alloc, calls)?, lines)
+) -> Result<Told, Fail> {
+    let blank = blank(alloc, calls)?;
+    let mut own = String::new(alloc);
+    own.push_str(lines)?;
+    let (texts, calls) = heard_at::<Brand, R>(alloc, rt, blank, own)?;
+    Ok(Told { texts, calls })
 }
 
 /// What a seat of a new room answers these lines.
-pub fn heard<R: Wait + Copy + Drop>(alloc: Global, rt: R, lines: &str) -> Result<Heard, Fail> {
+pub fn heard<R: Wait + Copy + Drop>(alloc: Global, rt: R, lines: &str) -> Result<Told, Fail> {
     heard_with(alloc, rt, u64::MAX, lines)
 }
 
