@@ -1,0 +1,13 @@
+//! Tests of rooms: seats on one thread and on several, a keeper that fails, and the same room in a folder.
+#![tactic(auto)]
+
+#[cfg(test)]
+mod answers;
+#[cfg(test)]
+mod failing;
+#[cfg(test)]
+mod rooms;
+#[cfg(test)]
+mod seats;
+#[cfg(test)]
+mod threads;
