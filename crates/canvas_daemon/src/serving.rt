@@ -19,8 +19,8 @@ use std::thread::{Threads, map_vec};
 /// after the last has ended. A connection whose handshake fails has ended.
 ///
 /// The errors: `Device`, where the folder, the port or the output failed; `Damaged`, for the first record of the journal that isn't
-/// what it has to be; `TooLarge`, where the journal has no room for its checkpoint; `Memory`, where memory was refused, or no thread
-/// could be made.
+/// what it has to be; `TooLarge`, where the journal has no room for its checkpoint; `Memory`, where memory was refused. Where no thread
+/// can be made, connections are served one after the other.
 pub fn serve<R, W>(
     rt: &R,
     files: HostRuntime,
