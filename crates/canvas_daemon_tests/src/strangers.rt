@@ -1,5 +1,6 @@
 //! Clients that don't keep to the protocol, beside one that does.
 use crate::sessions::{edited, free_port, is_end, served};
+use std::alloc::{AllocError, Global};
 use std::io::Write;
 use std::net::{Ipv4Addr, Net, SocketAddr, TcpListener, TcpStream};
 use std::random::RandomSource;
@@ -21,7 +22,8 @@ fn stranger<R: Net<Stream = TcpStream> + Clock>(
     let address = SocketAddr::from((Ipv4Addr::LOCALHOST, port));
     for _ in 0..TRIES {
         if let Ok(mut stream) = TcpStream::connect(rt, address) {
-            stream.write_all(bytes).ok()?;
+            // The server may have ended the connection before it has read them all.
+            let _ = stream.write_all(bytes);
             return Some(stream);
         }
         thread::sleep(rt, Duration::from_millis(5));
@@ -70,6 +72,26 @@ where
 const HANDSHAKE: &str =
     "GET / HTTP/1.1\r\nHost: localhost\r\nConnection: Upgrade\r\nUpgrade: websocket\r\nSec-WebSocket-Version: 13\r\nSec-WebSocket-Key: dGhlIHNhbXBsZSBub25jZQ==\r\n\r\n";
 
+// A handshake, and these bytes behind it.
+fn after_handshake(alloc: Global, bytes: &[u8]) -> Result<Vec<u8>, AllocError> {
+    let mut all = Vec::from_slice(alloc, HANDSHAKE.as_bytes())?;
+    all.extend_from_slice(bytes)?;
+    Ok(all)
+}
+
+// A message of 17 MiB behind a handshake.
+fn large(alloc: Global) -> Result<Vec<u8>, AllocError> {
+    let mut all = after_handshake(
+        alloc,
+        b"\x82\xff\x00\x00\x00\x00\x01\x10\x00\x00\x00\x00\x00\x00",
+    )?;
+    let chunk = [0u8; 4096];
+    for _ in 0..4352 {
+        all.extend_from_slice(&chunk)?;
+    }
+    Ok(all)
+}
+
 #[test]
 fn handshakes(rt: HostRuntime) -> Result<(), Fail> {
     let _ = fs::remove_dir_all(&rt, "handshakes");
@@ -85,10 +107,32 @@ fn handshakes(rt: HostRuntime) -> Result<(), Fail> {
 #[test]
 fn frames(rt: HostRuntime) -> Result<(), Fail> {
     let _ = fs::remove_dir_all(&rt, "frames");
-    let mut unmasked = Vec::from_slice(rt.alloc(), HANDSHAKE.as_bytes())?;
-    unmasked.extend_from_slice(b"\x82\x0a[\"join\",1]")?;
-    let mut cut = Vec::from_slice(rt.alloc(), HANDSHAKE.as_bytes())?;
-    cut.extend_from_slice(b"\x82\x8a\x00\x00\x00\x00[\"jo")?;
+    let unmasked = after_handshake(rt.alloc(), b"\x82\x0a[\"join\",1]")?;
+    let cut = after_handshake(rt.alloc(), b"\x82\x8a\x00\x00\x00\x00[\"jo")?;
     assert_eq!(rt; goes_on(&rt, rt, "frames", &unmasked, &cut), Some(true));
+    Ok(())
+}
+
+#[test]
+fn messages(rt: HostRuntime) -> Result<(), Fail> {
+    let _ = fs::remove_dir_all(&rt, "messages");
+    let text = after_handshake(rt.alloc(), b"\x81\x82\x00\x00\x00\x00hi")?;
+    let parts = after_handshake(
+        rt.alloc(),
+        b"\x02\x84\x00\x00\x00\x00[\"jo\x80\x86\x00\x00\x00\x00in\",9]",
+    )?;
+    assert_eq!(rt; goes_on(&rt, rt, "messages", &text, &parts), Some(true));
+    Ok(())
+}
+
+#[test]
+fn large_message(rt: HostRuntime) -> Result<(), Fail> {
+    let _ = fs::remove_dir_all(&rt, "large-message");
+    let large = large(rt.alloc())?;
+    let masked = after_handshake(rt.alloc(), b"\x82\x82\x01\x02\x03\x04hi")?;
+    assert_eq!(rt;
+        goes_on(&rt, rt, "large-message", &large, &masked),
+        Some(true)
+    );
     Ok(())
 }
