@@ -3,3 +3,4 @@ pub mod Running
 pub mod Told
 pub mod Batching
 pub mod Batched
+pub mod Crashes

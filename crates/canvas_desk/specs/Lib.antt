@@ -4,3 +4,4 @@ pub mod Judging
 pub mod Submitting
 pub mod Flooring
 pub mod Batches
+pub mod Crashes

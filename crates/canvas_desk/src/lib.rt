@@ -5,6 +5,8 @@ mod batch;
 mod desk;
 mod faults;
 mod judging;
+mod laws;
 
 pub use desk::Desk;
 pub use faults::SubmitError;
+pub use laws::found_after_every_crash;
