@@ -1,6 +1,6 @@
 -- What the desk answers, for a seat that has seen no more than the desk has published.
-use Rattle.std.proofs.Common.{◌≡◌, ℕ, ◌+◌, ◌<◌, ◌≤◌, List, [], ◌∷◌, Bool, true, false, cond, not, Result, Ok, Err, IfOk, IfErr, refl, sym, subst, ◌∙◌, arith}
-use Rattle.std.specs.Prelude.{nat_le, nat_lt}
+use Rattle.std.proofs.Common.{◌≡◌, ℕ, ◌+◌, ◌<◌, ◌≤◌, List, [], ◌∷◌, Bool, true, false, cond, not, Result, Ok, Err, IfOk, IfErr, inl, inr, refl, sym, subst, ◌∙◌, arith}
+use Rattle.std.specs.Prelude.{◌⊎◌, nat_le, nat_lt}
 use mathlib.Core.List.{IsPrefix}
 use Rattle.canvas_model.specs.Log.{Edit, Entry, FitsAs, Join, What}
 use Rattle.canvas_model.specs.State.{State, joined, done, next}
@@ -13,11 +13,12 @@ use Rattle.canvas_server.specs.declared.taking.Took.TheVariants as took
 use Rattle.canvas_board.specs.Marks.{IsLegal, Logged, Mark, Opening, board, start}
 use Rattle.canvas_board.specs.Receipts.{ReceiptValue, Stands}
 use Rattle.canvas_board.proofs.Boards.{version_before}
-use Rattle.canvas_board.proofs.Fronts.{prefix_trans}
+use Rattle.canvas_board.proofs.Fronts.{prefix_self, prefix_trans}
 use Rattle.canvas_desk.specs.declared.faults.SubmitError.{SubmitError}
 use Rattle.canvas_desk.specs.declared.faults.SubmitError.TheVariants.{Stranger, Repeat, Gap, Full, Device, Failed, Memory, TooLarge}
-use Rattle.canvas_desk.specs.Submitting.{IsPublished, LeavesAt}
-use Rattle.canvas_room.specs.Seats.{Answers, IsEdit, IsOutcomeOf, IsTold, RefusesEdit}
+use Rattle.canvas_desk.specs.Judging.{Refuses}
+use Rattle.canvas_desk.specs.Submitting.{IsAllShown, IsPublished, LeavesAt, SettlesAt}
+use Rattle.canvas_room.specs.Seats.{Answers, IsAnswerTo, IsEdit, IsOutcomeOf, IsRefused, IsRefusedAt, IsTold, Learns, RefusesEdit}
 
 -- ---- the entry
 
@@ -26,7 +27,7 @@ outcome_as s e Join f = (next s, f.2)
 outcome_as s e (Edit change) f = tt
 
 -- an entry of the request that may come next answers it
-pub answers_of : (s : State) (q : Asked) (e : Entry) → IsNextFor s q e → Answers q e
+answers_of : (s : State) (q : Asked) (e : Entry) → IsNextFor s q e → Answers q e
 answers_of s q e n = record {
   author_is = n.0;
   seq_is = n.1;
@@ -34,7 +35,7 @@ answers_of s q e n = record {
   outcome_is = outcome_as s e q.what (subst (λ (w : What). FitsAs s e w) n.2 n.3);
 }
 
-pub told_of : (o : Opening) (seen shown old new due' : List Mark) (failed failed' : Bool) (q : Asked) (result : Result ReceiptValue SubmitError) → IsPrefix seen shown → IfOk result (λ _. IsPrefix shown old)
+told_of : (o : Opening) (seen shown old new due' : List Mark) (failed failed' : Bool) (q : Asked) (result : Result ReceiptValue SubmitError) → IsPrefix seen shown → IfOk result (λ _. IsPrefix shown old)
     → IfOk result (IsPublished o q old new due' failed failed')
     → IfOk result (λ r. Stands o r.history r.entry r.version × IsLegal o r.history)
     → IfOk result (λ r. IsTold o seen q r)
@@ -78,18 +79,76 @@ module _ (b : Served) (q : Asked) where
       by_test (nat_lt (done b.state q.author + 1) q.seq) _ _ _ (λ is y. let lt = lt_true (done b.state q.author + 1) q.seq is in let same : n ≡ done b.state q.author = cc (y.0) in (tt, omega (arith, lt, same))) (λ h.
       by_test (has_no_room b (Edit change)) _ _ _ (λ _ y. absurd (cc (y.0))) (λ j. absurd (cc (j.2.0))) h) h) h) h
 
+-- a stranger, a repeat and a gap are edits
+refuses_of : (b : Served) (q : Asked) (e : SubmitError) → Refuses b q e → RefusesEdit q e
+refuses_of b q Stranger h = stranger_edits b q q.what h
+refuses_of b q (Repeat n) h = repeat_edits b q n q.what h
+refuses_of b q (Gap n) h = gap_edits b q n q.what h
+refuses_of b q Full h = tt
+refuses_of b q Device h = tt
+refuses_of b q Failed h = tt
+refuses_of b q (Memory after) h = tt
+refuses_of b q TooLarge h = tt
+
 refuses_edit : (o : Opening) (q : Asked) (e : SubmitError) (due due' : List Mark) (failed failed' : Bool) → LeavesAt o q e due due' failed failed' → RefusesEdit q e
-refuses_edit o q Stranger due due' failed failed' l = stranger_edits (board o due) q q.what l.1
-refuses_edit o q (Repeat n) due due' failed failed' l = repeat_edits (board o due) q n q.what l.1
-refuses_edit o q (Gap n) due due' failed failed' l = gap_edits (board o due) q n q.what l.1
+refuses_edit o q Stranger due due' failed failed' l = refuses_of (board o due) q Stranger l.1
+refuses_edit o q (Repeat n) due due' failed failed' l = refuses_of (board o due) q (Repeat n) l.1
+refuses_edit o q (Gap n) due due' failed failed' l = refuses_of (board o due) q (Gap n) l.1
 refuses_edit o q Full due due' failed failed' l = tt
 refuses_edit o q Device due due' failed failed' l = tt
 refuses_edit o q Failed due due' failed failed' l = tt
 refuses_edit o q (Memory after) due due' failed failed' l = tt
 refuses_edit o q TooLarge due due' failed failed' l = tt
 
--- what the desk refuses tells the same of the request
-pub refused_of : {V : Type 0} (o : Opening) (q : Asked) (result : Result V SubmitError) (due due' : List Mark) (failed failed' : Bool)
-    → IfErr result (λ e. LeavesAt o q e due due' failed failed') → IfErr result (λ e. RefusesEdit q e)
-refused_of o q (Ok r) due due' failed failed' l = tt
-refused_of o q (Err e) due due' failed failed' l = refuses_edit o q e due due' failed failed' l
+-- ---- what a seat learns with an answer
+
+-- the request was judged in the state of all that is published, which is learned
+refused_since : (o : Opening) (q : Asked) (e : SubmitError) (seen shown shown' due due' front : List Mark) → IsPrefix seen shown → IsAllShown shown shown' due' → due' ≡ due → front ≡ shown' → IsLegal o front → Refuses (board o due) q e → IsRefusedAt o seen front q e
+refused_since o q e seen shown shown' due due' front pre all same learns legal refuses = record {
+  at = due;
+  from = subst (λ (l : List Mark). IsPrefix seen l) (all.1 ∙ same) (prefix_trans seen shown shown' pre all.0);
+  to = subst (λ (l : List Mark). IsPrefix due l) (sym (learns ∙ (all.1 ∙ same))) (prefix_self due);
+  legal = legal;
+  refuses = refuses;
+}
+
+refusal_of : (o : Opening) (q : Asked) (e : SubmitError) (seen shown shown' due due' front : List Mark) (failed failed' : Bool) → IsPrefix seen shown → LeavesAt o q e due due' failed failed' → SettlesAt e shown shown' due' → Learns (Err e) seen shown' front → IsLegal o front → IsRefused o seen front q e
+refusal_of o q Stranger seen shown shown' due due' front failed failed' pre l s k legal = refused_since o q Stranger seen shown shown' due due' front pre s l.0.0 k legal l.1
+refusal_of o q (Repeat n) seen shown shown' due due' front failed failed' pre l s k legal = refused_since o q (Repeat n) seen shown shown' due due' front pre s l.0.0 k legal l.1
+refusal_of o q (Gap n) seen shown shown' due due' front failed failed' pre l s k legal = refused_since o q (Gap n) seen shown shown' due due' front pre s l.0.0 k legal l.1
+refusal_of o q Full seen shown shown' due due' front failed failed' pre l s k legal = refused_since o q Full seen shown shown' due due' front pre s l.0.0 k legal l.1
+refusal_of o q Device seen shown shown' due due' front failed failed' pre l s k legal = k
+refusal_of o q Failed seen shown shown' due due' front failed failed' pre l s k legal = k
+refusal_of o q (Memory after) seen shown shown' due due' front failed failed' pre l s k legal = k
+refusal_of o q TooLarge seen shown shown' due due' front failed failed' pre l s k legal = refused_since o q TooLarge seen shown shown' due due' front pre s l.0.0 k legal l.1
+
+-- what the desk says is an answer to the seat
+pub answer_to : (o : Opening) (q : Asked) (a : Result ReceiptValue SubmitError) (seen shown shown' due due' front : List Mark) (failed failed' : Bool) → IsPrefix seen shown → IfOk a (λ _. IsPrefix shown due)
+    → IfOk a (IsPublished o q due shown' due' failed failed') → IfOk a (λ r. Stands o r.history r.entry r.version × IsLegal o r.history)
+    → IfErr a (λ e. LeavesAt o q e due due' failed failed') → IfErr a (λ e. SettlesAt e shown shown' due') → Learns a seen shown' front → IsLegal o front → IsAnswerTo o seen q a front
+answer_to o q (Ok r) seen shown shown' due due' front failed failed' pre more ok stands l s k legal = (told_of o seen shown due shown' due' failed failed' q (Ok r) pre more ok stands, k)
+answer_to o q (Err e) seen shown shown' due due' front failed failed' pre more ok stands l s k legal = (refuses_edit o q e due due' failed failed' l, refusal_of o q e seen shown shown' due due' front failed failed' pre l s k legal)
+
+-- the seat has seen more than what it was to learn
+refused_more : (o : Opening) (q : Asked) (e : SubmitError) (old front new : List Mark) → IsPrefix front new → IsLegal o new → IsRefusedAt o old front q e → IsRefusedAt o old new q e
+refused_more o q e old front new more legal r = record { at = r.at; from = r.from; to = prefix_trans r.at front new r.to more; legal = legal; refuses = r.refuses }
+
+-- it has learned nothing
+stays : (old front new : List Mark) → front ≡ old → (new ≡ old) ⊎ (new ≡ front) → new ≡ old
+stays old front new same (inl is) = is
+stays old front new same (inr is) = is ∙ same
+
+refused_learned : (o : Opening) (q : Asked) (e : SubmitError) (old front new : List Mark) → IsPrefix front new → (new ≡ old) ⊎ (new ≡ front) → IsLegal o new → IsRefused o old front q e → IsRefused o old new q e
+refused_learned o q Stranger old front new more one legal r = refused_more o q Stranger old front new more legal r
+refused_learned o q (Repeat n) old front new more one legal r = refused_more o q (Repeat n) old front new more legal r
+refused_learned o q (Gap n) old front new more one legal r = refused_more o q (Gap n) old front new more legal r
+refused_learned o q Full old front new more one legal r = refused_more o q Full old front new more legal r
+refused_learned o q Device old front new more one legal r = stays old front new r one
+refused_learned o q Failed old front new more one legal r = stays old front new r one
+refused_learned o q (Memory after) old front new more one legal r = stays old front new r one
+refused_learned o q TooLarge old front new more one legal r = refused_more o q TooLarge old front new more legal r
+
+-- why a seat was refused is to be seen in what it has seen since
+pub answer_judged : (o : Opening) (q : Asked) (old front : List Mark) (a : Result ReceiptValue SubmitError) (new : List Mark) → IsAnswerTo o old q a front → IsPrefix front new → (new ≡ old) ⊎ (new ≡ front) → IsLegal o new → IfErr a (λ e. IsRefused o old new q e)
+answer_judged o q old front (Ok r) new h more one legal = tt
+answer_judged o q old front (Err e) new h more one legal = refused_learned o q e old front new more one legal h.1

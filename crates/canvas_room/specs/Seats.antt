@@ -1,12 +1,14 @@
 -- What a seat is told of its request.
-use Rattle.std.specs.Prelude.{◌≡◌, ◌≤◌, ◌<◌, ◌+◌, ℕ, List}
+use Rattle.std.specs.Prelude.{◌≡◌, ◌≤◌, ◌<◌, ◌+◌, ℕ, Bool, true, false, cond, List, Result, Ok, Err}
+use mathlib.Core.List.{IsPrefix}
 use Rattle.canvas_model.specs.Log.{What, Join, Edit, Entry}
 use Rattle.canvas_model.specs.Verdict.{Joined, Outcome}
 use Rattle.canvas_server.specs.Asked.{Asked}
-use Rattle.canvas_board.specs.Marks.{Mark, Opening, Sees, board}
+use Rattle.canvas_board.specs.Marks.{IsLegal, Mark, Opening, Sees, board}
 use Rattle.canvas_board.specs.Receipts.{ReceiptValue, Stands}
 use Rattle.canvas_desk.specs.declared.faults.SubmitError.{SubmitError}
 use Rattle.canvas_desk.specs.declared.faults.SubmitError.TheVariants.{Stranger, Repeat, Gap, Full, Device, Failed, Memory, TooLarge}
+use Rattle.canvas_desk.specs.Judging.{Refuses}
 
 -- what was asked for is an edit
 abbrev pub IsEdit : What → Type 0
@@ -42,3 +44,43 @@ RefusesEdit q Device = Unit {0}
 RefusesEdit q Failed = Unit {0}
 RefusesEdit q (Memory after) = Unit {0}
 RefusesEdit q TooLarge = Unit {0}
+
+-- At one beginning of what the seat has seen since, the server's rule refuses the request, or its entry is too large.
+pub record IsRefusedAt (o : Opening) (old new : List Mark) (q : Asked) (e : SubmitError) : Type 0 where
+  pub at : List Mark
+  pub from : IsPrefix old at
+  pub to : IsPrefix at new
+  pub legal : IsLegal o new
+  pub refuses : Refuses (board o at) q e
+
+-- a refused request was refused at a beginning of what the seat has seen since; a request that wasn't judged leaves the seat as it was
+abbrev pub IsRefused : Opening → List Mark → List Mark → Asked → SubmitError → Type 0
+IsRefused o old new q Stranger = IsRefusedAt o old new q Stranger
+IsRefused o old new q (Repeat done) = IsRefusedAt o old new q (Repeat done)
+IsRefused o old new q (Gap done) = IsRefusedAt o old new q (Gap done)
+IsRefused o old new q Full = IsRefusedAt o old new q Full
+IsRefused o old new q Device = new ≡ old
+IsRefused o old new q Failed = new ≡ old
+IsRefused o old new q (Memory after) = new ≡ old
+IsRefused o old new q TooLarge = IsRefusedAt o old new q TooLarge
+
+-- the request was judged and refused: the server's rule says so, or its entry is too large
+abbrev pub is_refusal : Result ReceiptValue SubmitError → Bool
+is_refusal (Ok r) = false
+is_refusal (Err Stranger) = true
+is_refusal (Err (Repeat done)) = true
+is_refusal (Err (Gap done)) = true
+is_refusal (Err Full) = true
+is_refusal (Err Device) = false
+is_refusal (Err Failed) = false
+is_refusal (Err (Memory after)) = false
+is_refusal (Err TooLarge) = true
+
+-- what a seat learns with an answer: all that is published where its request was judged and refused, and nothing otherwise
+abbrev pub Learns : Result ReceiptValue SubmitError → List Mark → List Mark → List Mark → Type 0
+Learns answer seen shown front = front ≡ cond (is_refusal answer) shown seen
+
+-- an answer to a request whose seat had seen this, and what the seat is to learn with it
+abbrev pub IsAnswerTo : Opening → List Mark → Asked → Result ReceiptValue SubmitError → List Mark → Type 0
+IsAnswerTo o seen q (Ok r) front = IsTold o seen q r × (front ≡ seen)
+IsAnswerTo o seen q (Err e) front = RefusesEdit q e × IsRefused o seen front q e

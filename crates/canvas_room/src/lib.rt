@@ -1,6 +1,7 @@
 //! A room: one writer under a lock, and seats that read what it has published without waiting.
 #![tactic(auto)]
 
+mod asking;
 mod faults;
 mod room;
 mod seat;
