@@ -7,12 +7,12 @@ use Rattle.canvas_judge.specs.declared.message.NoReason.{NoReason}
 use Rattle.canvas_judge.specs.declared.message.NoReason.TheVariants as no
 use Rattle.canvas_server.specs.Asked.{Asked}
 use Rattle.canvas_server.specs.Served.{Served, tail_of}
-use Rattle.canvas_board.specs.Marks.{Mark}
+use Rattle.canvas_board.specs.Marks.{Mark, Opening}
 use Rattle.canvas_desk.specs.declared.faults.SubmitError.{SubmitError}
 use Rattle.canvas_desk.specs.declared.faults.SubmitError.TheVariants.{Stranger, Repeat, Gap, Full, Device, Failed, Memory, TooLarge}
 use Rattle.canvas_nodes.specs.Answers.{IsAnswer, IsEnd, refused}
 use Rattle.canvas_front.specs.News.{tells, tells_or_copies}
-use Rattle.canvas_front.specs.Table.{AnswersAsk, AnswersRequest, IsJudged, IsRefused, IsToldAs, SaysOf, TellsNews, answer_of}
+use Rattle.canvas_front.specs.Table.{AnswersAsk, AnswersRequest, IsJudged, IsToldAs, SaysOf, TellsNews, TellsRefusal, answer_of}
 
 told_ends : (w : What) (outcome : Outcome) (m : Message) → IsToldAs w outcome m → IsEnd m
 told_ends Join outcome m told = subst IsEnd (sym told.2) tt
@@ -28,14 +28,14 @@ refused_ends Failed = tt
 refused_ends (Memory after) = tt
 refused_ends TooLarge = tt
 
-says_ends : (q : Asked) (old : List Mark) (m : Message) (new : List Mark) → SaysOf q old m new → IsEnd m
-says_ends q old m new says = ⊎_elim
+says_ends : (o : Opening) (q : Asked) (old : List Mark) (m : Message) (new : List Mark) → SaysOf o q old m new → IsEnd m
+says_ends o q old m new says = ⊎_elim
     (λ (j : IsJudged q old m new). told_ends j.entry.what j.entry.outcome m j.told)
-    (λ (r : IsRefused q old m new). subst IsEnd (sym r.told) (refused_ends r.error))
+    (λ (r : TellsRefusal o q old m new). subst IsEnd (sym r.told) (refused_ends r.error))
     says
 
-request_whole : (q : Asked) (old : List Mark) (answer : List Message) (new : List Mark) → AnswersRequest q old answer new → IsAnswer answer
-request_whole q old answer new (m, is, says) = subst IsAnswer (sym is) (says_ends q old m new says)
+request_whole : (o : Opening) (q : Asked) (old : List Mark) (answer : List Message) (new : List Mark) → AnswersRequest o q old answer new → IsAnswer answer
+request_whole o q old answer new (m, is, says) = subst IsAnswer (sym is) (says_ends o q old m new says)
 
 entries_whole : (from : ℕ) (es : List Entry) → IsAnswer (tells from es ++ Idle ∷ [])
 entries_whole from [] = tt

@@ -49,7 +49,7 @@ pub outcome_of : (o : Opening) (old : List Mark) (q : Asked) (r : ReceiptValue) 
 outcome_of o old q r told = subst (λ (w : What). IsOutcomeOf w r.entry.outcome) (sym told.answers.what_is) told.answers.outcome_is
 
 -- once its receipt is learned
-pub judged_of : (o : Opening) (old new : List Mark) (q : Asked) (r : ReceiptValue) (e : Entry) (m : Message) → IsTold o old q r → IsPrefix r.history new → e ≡ r.entry → IsToldAs e.what e.outcome m → SaysOf q old m new
+pub judged_of : (o : Opening) (old new : List Mark) (q : Asked) (r : ReceiptValue) (e : Entry) (m : Message) → IsTold o old q r → IsPrefix r.history new → e ≡ r.entry → IsToldAs e.what e.outcome m → SaysOf o q old m new
 judged_of o old new q r e m told later is says =
     let says' : IsToldAs r.entry.what r.entry.outcome m = subst (λ (d : Entry). IsToldAs d.what d.outcome m) is says in
     inl (record { entry = r.entry; answers = told.answers; since = since_of o old new q r told later; told = says' })

@@ -11,7 +11,7 @@ use Rattle.canvas_server.specs.Served.{Served}
 use Rattle.canvas_board.specs.Marks.{Logged, Mark, Opening, Sees, board}
 use Rattle.canvas_desk.specs.declared.faults.SubmitError.{SubmitError}
 use Rattle.canvas_desk.specs.declared.faults.SubmitError.TheVariants as submit
-use Rattle.canvas_room.specs.Seats.{Answers, RefusesEdit}
+use Rattle.canvas_room.specs.Seats.{Answers, IsRefused, RefusesEdit}
 use Rattle.canvas_nodes.specs.Answers.{refused}
 use Rattle.canvas_front.specs.News.{copies, news_of}
 use Rattle.canvas_front.specs.declared.asking.NoNews.{NoNews}
@@ -50,20 +50,20 @@ pub record IsJudged (q : Asked) (old : List Mark) (m : Message) (new : List Mark
   pub since : IsSince old new entry
   pub told : IsToldAs entry.what entry.outcome m
 
--- An error by which a submit refuses the request is told, and no more was seen.
-pub record IsRefused (q : Asked) (old : List Mark) (m : Message) (new : List Mark) : Type 0 where
+-- An error by which a submit refuses the request is told, and the request was refused so by a history that has been seen since.
+pub record TellsRefusal (o : Opening) (q : Asked) (old : List Mark) (m : Message) (new : List Mark) : Type 0 where
   pub error : SubmitError
   pub refuses : RefusesEdit q error
+  pub judged : IsRefused o old new q error
   pub told : m ≡ answer_of error
-  pub same : new ≡ old
 
 -- the message says of a request that it was judged, or why not
-abbrev pub SaysOf : Asked → List Mark → Message → List Mark → Type 0
-SaysOf q old m new = IsJudged q old m new ⊎ IsRefused q old m new
+abbrev pub SaysOf : Opening → Asked → List Mark → Message → List Mark → Type 0
+SaysOf o q old m new = IsJudged q old m new ⊎ TellsRefusal o q old m new
 
 -- what is answered a request: one message that says of it what it became
-abbrev pub AnswersRequest : Asked → List Mark → List Message → List Mark → Type 0
-AnswersRequest q old answer new = (m : Message) × (answer ≡ m ∷ []) × SaysOf q old m new
+abbrev pub AnswersRequest : Opening → Asked → List Mark → List Message → List Mark → Type 0
+AnswersRequest o q old answer new = (m : Message) × (answer ≡ m ∷ []) × SaysOf o q old m new
 
 -- why a client has no news from a board: it hasn't joined by that board; or the room has ended, or memory was refused
 abbrev pub HasNoNews : Served → ℕ → NoNews → Type 0
@@ -88,8 +88,8 @@ AnswersAsk b client from answer =
 
 -- what is answered a message, and what has been seen then: by the kind of the message
 abbrev pub IsAnswerTo : Opening → List Mark → Message → List Message → List Mark → Type 0
-IsAnswerTo o old Joins answer new = AnswersRequest (record { author = 0; seq = 0; what = Join }) old answer new
-IsAnswerTo o old (Sends client seq change) answer new = AnswersRequest (record { author = client; seq = seq; what = Edit change }) old answer new
+IsAnswerTo o old Joins answer new = AnswersRequest o (record { author = 0; seq = 0; what = Join }) old answer new
+IsAnswerTo o old (Sends client seq change) answer new = AnswersRequest o (record { author = client; seq = seq; what = Edit change }) old answer new
 IsAnswerTo o old (Asks client version) answer new = AnswersAsk (board o new) client version answer
 IsAnswerTo o old _ answer new = (answer ≡ refused no.NotRead) × (new ≡ old)
 

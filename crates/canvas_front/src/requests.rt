@@ -28,7 +28,7 @@ pub fn answer_request<K: Keeper + Drop, N: RoomName, R: Wait + Drop, W: Wait>(
     seat: &mut Seat<N, Lock<K, N, R>>,
     request: &Request,
 ) -> Result<Vec<Message>, AllocError>
-    ensures answers { IfOk result (λ answer. AnswersRequest (seen_request request.now) seat.old (map seen_message answer.items) seat.new) }
+    ensures answers { IfOk result (λ answer. AnswersRequest N.opening (seen_request request.now) seat.old (map seen_message answer.items) seat.new) }
     ensures sees { SeesOn N.opening seat.old seat.new }
 {
     let mut answer = Vec::with_capacity(alloc, 1)?;
@@ -43,7 +43,7 @@ fn submit<K: Keeper + Drop, N: RoomName, R: Wait + Drop, W: Wait>(
     seat: &mut Seat<N, Lock<K, N, R>>,
     request: &Request,
 ) -> Message
-    ensures says { SaysOf (seen_request request.now) seat.old (seen_message result) seat.new }
+    ensures says { SaysOf N.opening (seen_request request.now) seat.old (seen_message result) seat.new }
     ensures sees { SeesOn N.opening seat.old seat.new }
 {
     match seat.submit(rt, request) {
