@@ -1,7 +1,9 @@
-//! Tests of `canvas_desk`: batches, over a journal on a shelf in memory.
+//! Tests of `canvas_desk`: batches and crashes, over a journal on a shelf in memory.
 #![tactic(auto)]
 
 #[cfg(test)]
 mod batches;
+#[cfg(test)]
+mod crashes;
 #[cfg(test)]
 mod desks;
