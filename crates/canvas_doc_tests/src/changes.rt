@@ -1,21 +1,28 @@
 //! Changes: what they ask for, and which are the same.
-use crate::samples::{FRAME, PAGE, SHAPE, creation, movement, naming, set};
+use crate::samples::{FRAME, PAGE, SHAPE, Sort, change, creation, movement, set};
 use canvas_doc::{Change, ChangeVariant, Kind, Name, ObjId, TooDeep, Value};
 use std::alloc::{AllocError, Global};
 use std::test::Fail;
 
 // Whether a copy of the change is the same.
-fn copied(alloc: Global, change: Change) -> Result<bool, Fail> {
+fn copied(alloc: Global, sort: Sort) -> Result<bool, Fail> {
+    let change = change(alloc, sort)?;
     Ok(change.copy_in(alloc)?.same(&change))
 }
 
+const SORTS: [Sort; 5] = [
+    Sort::Create,
+    Sort::Move,
+    Sort::Name,
+    Sort::Clear,
+    Sort::Delete,
+];
+
 #[test]
 fn copies(rt: HostRuntime) -> Result<(), Fail> {
-    assert!(rt; copied(rt.alloc(), creation(rt.alloc())?)?);
-    assert!(rt; copied(rt.alloc(), movement(rt.alloc())?)?);
-    assert!(rt; copied(rt.alloc(), naming(rt.alloc())?)?);
-    assert!(rt; copied(rt.alloc(), set(rt.alloc(), SHAPE, b"fill", None)?)?);
-    assert!(rt; copied(rt.alloc(), Change::delete(SHAPE))?);
+    for (row, sort) in SORTS.iter().enumerate() {
+        assert!(rt; copied(rt.alloc(), *sort)?, "row {row}");
+    }
     Ok(())
 }
 
@@ -28,8 +35,12 @@ fn creates_the_shape(change: &Change) -> bool {
     }
 }
 
-// The parent that an object is moved to, if the change is a move.
-fn moved_to(change: Change) -> Option<ObjId> {
+// The parent that an object is moved to, if a change of this sort is a move.
+fn moved_to(alloc: Global, sort: Sort) -> Result<Option<ObjId>, Fail> {
+    Ok(parent_of_move(change(alloc, sort)?))
+}
+
+fn parent_of_move(change: Change) -> Option<ObjId> {
     match change.into_variant() {
         ChangeVariant::Move { place, .. } => Some(place.parent),
         _ => None,
@@ -43,8 +54,9 @@ fn creates(alloc: Global) -> Result<bool, Fail> {
 #[test]
 fn variants(rt: HostRuntime) -> Result<(), Fail> {
     assert!(rt; creates(rt.alloc())?);
-    assert_eq!(rt; moved_to(movement(rt.alloc())?), Some(PAGE));
-    assert_eq!(rt; moved_to(creation(rt.alloc())?), None);
+    for (sort, want) in [(Sort::Move, Some(PAGE)), (Sort::Create, None)] {
+        assert!(rt; moved_to(rt.alloc(), sort)? == want);
+    }
     Ok(())
 }
 
@@ -57,21 +69,31 @@ fn set_apart(alloc: Global, id: ObjId, name: &[u8], number: Option<i64>) -> Resu
     Ok(differ(one, set(alloc, id, name, number)?))
 }
 
-fn kinds_apart(alloc: Global) -> Result<bool, Fail> {
-    Ok(
-        differ(creation(alloc)?, movement(alloc)?)
-            && differ(Change::delete(SHAPE), movement(alloc)?),
-    )
+// Whether a change of this sort is not the move.
+fn is_no_move(alloc: Global, sort: Sort) -> Result<bool, Fail> {
+    Ok(differ(change(alloc, sort)?, movement(alloc)?))
 }
+
+// Properties of objects, and whether setting them so is another change than setting the fill of the shape to 1.
+const OTHERS: [(ObjId, &[u8], Option<i64>, bool); 5] = [
+    (FRAME, b"fill", Some(1), true),
+    (SHAPE, b"blur", Some(1), true),
+    (SHAPE, b"fill", Some(2), true),
+    (SHAPE, b"fill", None, true),
+    (SHAPE, b"fill", Some(1), false),
+];
 
 #[test]
 fn tells_apart(rt: HostRuntime) -> Result<(), Fail> {
-    assert!(rt; kinds_apart(rt.alloc())?);
-    assert!(rt; set_apart(rt.alloc(), FRAME, b"fill", Some(1))?);
-    assert!(rt; set_apart(rt.alloc(), SHAPE, b"blur", Some(1))?);
-    assert!(rt; set_apart(rt.alloc(), SHAPE, b"fill", Some(2))?);
-    assert!(rt; set_apart(rt.alloc(), SHAPE, b"fill", None)?);
-    assert!(rt; !set_apart(rt.alloc(), SHAPE, b"fill", Some(1))?);
+    for sort in [Sort::Create, Sort::Delete] {
+        assert!(rt; is_no_move(rt.alloc(), sort)?);
+    }
+    for (row, (id, name, number, want)) in OTHERS.iter().enumerate() {
+        assert!(rt;
+            set_apart(rt.alloc(), *id, name, *number)? == *want,
+            "row {row}"
+        );
+    }
     Ok(())
 }
 
@@ -94,7 +116,8 @@ fn refusal(alloc: Global, lists: u32) -> Result<Option<TooDeep>, Fail> {
 
 #[test]
 fn refuses_the_too_deep(rt: HostRuntime) -> Result<(), Fail> {
-    assert!(rt; refusal(rt.alloc(), 16)?.is_none());
-    assert!(rt; refusal(rt.alloc(), 17)? == Some(TooDeep));
+    for (lists, want) in [(16, None), (17, Some(TooDeep))] {
+        assert!(rt; refusal(rt.alloc(), lists)? == want, "at {lists}");
+    }
     Ok(())
 }

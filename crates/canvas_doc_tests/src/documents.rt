@@ -1,6 +1,6 @@
 //! What stands in a document, and where.
 use crate::samples::{FRAME, PAGE, SHAPE, drawing, place, put};
-use canvas_doc::{Doc, Kind, ObjId};
+use canvas_doc::{Doc, Kind, ObjId, Place};
 use canvas_pos::Pos;
 use std::alloc::{AllocError, Global};
 use std::test::Fail;
@@ -10,20 +10,22 @@ const OTHER: ObjId = ObjId {
     counter: 2,
 };
 
-fn has(alloc: Global, id: ObjId) -> Result<bool, Fail> {
-    Ok(drawing(alloc)?.has(id))
-}
-
-fn kind_of(alloc: Global, id: ObjId) -> Result<Option<Kind>, Fail> {
-    Ok(drawing(alloc)?.kind_of(id))
+// Whether the object is there, and its kind.
+fn looked_up(alloc: Global, id: ObjId) -> Result<(bool, Option<Kind>), Fail> {
+    let doc = drawing(alloc)?;
+    Ok((doc.has(id), doc.kind_of(id)))
 }
 
 // Whether the object has a place, and whether it is this one.
 fn stands_at(alloc: Global, id: ObjId, parent: ObjId, pos: &[u8]) -> Result<(bool, bool), Fail> {
-    let doc = drawing(alloc)?;
+    let place = place(alloc, parent, pos)?;
+    Ok(found_at(&drawing(alloc)?, id, &place))
+}
+
+fn found_at(doc: &Doc, id: ObjId, place: &Place) -> (bool, bool) {
     match doc.place_of(id) {
-        Some(found) => Ok((true, found.same(&place(alloc, parent, pos)?))),
-        None => Ok((false, false)),
+        Some(found) => (true, found.same(place)),
+        None => (false, false),
     }
 }
 
@@ -34,8 +36,10 @@ fn looks_up(rt: HostRuntime) -> Result<(), Fail> {
         (SHAPE, Some(Kind::Shape)),
         (OTHER, None),
     ] {
-        assert_eq!(rt; kind_of(rt.alloc(), id)?, want, "of {id}");
-        assert_eq!(rt; has(rt.alloc(), id)?, want.is_some(), "of {id}");
+        assert!(rt;
+            looked_up(rt.alloc(), id)? == (want.is_some(), want),
+            "of {id}"
+        );
     }
     Ok(())
 }
@@ -47,7 +51,7 @@ fn places(rt: HostRuntime) -> Result<(), Fail> {
         (SHAPE, b"D", (true, false)),
         (ObjId::ROOT, b"C", (false, false)),
     ] {
-        assert_eq!(rt; stands_at(rt.alloc(), id, PAGE, pos)?, want, "of {id}");
+        assert!(rt; stands_at(rt.alloc(), id, PAGE, pos)? == want, "of {id}");
     }
     Ok(())
 }
@@ -66,7 +70,7 @@ fn in_order(alloc: Global, ids: &[ObjId]) -> Result<(usize, usize), Fail> {
 #[test]
 fn objects_stand_by_id(rt: HostRuntime) -> Result<(), Fail> {
     let ids = [ObjId::ROOT, PAGE, SHAPE, FRAME];
-    assert_eq!(rt; in_order(rt.alloc(), &ids)?, (4, 4));
+    assert!(rt; in_order(rt.alloc(), &ids)? == (4, 4));
     Ok(())
 }
 
@@ -86,11 +90,14 @@ fn is_first(alloc: Global, except: ObjId, bytes: &[u8]) -> Result<bool, Fail> {
 
 // Whether there is a position after this one on the page, and whether it is the other.
 fn is_next(alloc: Global, after: &[u8], bytes: &[u8]) -> Result<(bool, bool), Fail> {
-    let doc = drawing(alloc)?;
     let after = Pos::read(alloc, after)?;
-    match doc.next_position(PAGE, Some(&after), ObjId::ROOT) {
-        Some(found) => Ok((true, found.bytes() == bytes)),
-        None => Ok((false, false)),
+    Ok(found_next(&drawing(alloc)?, &after, bytes))
+}
+
+fn found_next(doc: &Doc, after: &Pos, bytes: &[u8]) -> (bool, bool) {
+    match doc.next_position(PAGE, Some(after), ObjId::ROOT) {
+        Some(found) => (true, found.bytes() == bytes),
+        None => (false, false),
     }
 }
 
@@ -101,17 +108,22 @@ fn taken_positions(rt: HostRuntime) -> Result<(), Fail> {
         (PAGE, SHAPE, false),
         (ObjId::ROOT, FRAME, false),
     ] {
-        assert_eq!(rt; taken(rt.alloc(), parent, b"C", except)?, want, "{except}");
+        assert!(rt;
+            taken(rt.alloc(), parent, b"C", except)? == want,
+            "{except}"
+        );
     }
     Ok(())
 }
 
 #[test]
 fn next_positions(rt: HostRuntime) -> Result<(), Fail> {
-    assert!(rt; is_first(rt.alloc(), ObjId::ROOT, b"C")?);
-    assert!(rt; is_first(rt.alloc(), SHAPE, b"m")?);
-    assert_eq!(rt; is_next(rt.alloc(), b"C", b"m")?, (true, true));
-    assert_eq!(rt; is_next(rt.alloc(), b"m", b"m")?, (false, false));
+    for (except, pos) in [(ObjId::ROOT, b"C"), (SHAPE, b"m")] {
+        assert!(rt; is_first(rt.alloc(), except, pos)?, "{except}");
+    }
+    for (after, want) in [(b"C", (true, true)), (b"m", (false, false))] {
+        assert!(rt; is_next(rt.alloc(), after, b"m")? == want);
+    }
     Ok(())
 }
 
@@ -126,11 +138,18 @@ fn after_move(alloc: Global, pos: &[u8], ids: &[ObjId]) -> Result<bool, Fail> {
     Ok(has_children(alloc, &doc, ids)?)
 }
 
+// Where the shape is moved to on the page, and the page's children then.
+const MOVES: [(&[u8], [ObjId; 2]); 3] = [
+    (b"C", [SHAPE, FRAME]),
+    (b"m", [SHAPE, FRAME]),
+    (b"n", [FRAME, SHAPE]),
+];
+
 #[test]
 fn moves(rt: HostRuntime) -> Result<(), Fail> {
-    assert!(rt; after_move(rt.alloc(), b"C", &[SHAPE, FRAME])?);
-    assert!(rt; after_move(rt.alloc(), b"m", &[SHAPE, FRAME])?);
-    assert!(rt; after_move(rt.alloc(), b"n", &[FRAME, SHAPE])?);
+    for (row, (pos, ids)) in MOVES.iter().enumerate() {
+        assert!(rt; after_move(rt.alloc(), pos, ids)?, "row {row}");
+    }
     Ok(())
 }
 
@@ -150,22 +169,27 @@ fn after_removals(alloc: Global) -> Result<(bool, usize), Fail> {
 
 #[test]
 fn removals(rt: HostRuntime) -> Result<(), Fail> {
-    assert_eq!(rt; after_removal(rt.alloc())?, (true, 3));
-    assert_eq!(rt; after_removals(rt.alloc())?, (true, 2));
+    assert!(rt; after_removal(rt.alloc())? == (true, 3));
+    assert!(rt; after_removals(rt.alloc())? == (true, 2));
     Ok(())
+}
+
+// Adds an object: whether the copy was the same before, and is so after.
+fn is_copy(alloc: Global, doc: &mut Doc, copy: &Doc) -> Result<(bool, bool), Fail> {
+    let same = copy.same(doc);
+    put(alloc, doc, OTHER, Kind::Text, FRAME, b"O")?;
+    Ok((same, copy.same(doc)))
 }
 
 // Whether a copy is the same, and still so after an object was added.
 fn copied(alloc: Global) -> Result<(bool, bool), Fail> {
     let mut doc = drawing(alloc)?;
     let copy = doc.copy(alloc)?;
-    let same = copy.same(&doc);
-    put(alloc, &mut doc, OTHER, Kind::Text, FRAME, b"O")?;
-    Ok((same, copy.same(&doc)))
+    is_copy(alloc, &mut doc, &copy)
 }
 
 #[test]
 fn copies(rt: HostRuntime) -> Result<(), Fail> {
-    assert_eq!(rt; copied(rt.alloc())?, (true, false));
+    assert!(rt; copied(rt.alloc())? == (true, false));
     Ok(())
 }

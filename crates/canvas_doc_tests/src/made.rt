@@ -40,26 +40,34 @@ fn made_of_nothing(alloc: Global) -> Result<bool, Fail> {
     Ok(Doc::from_objects(Vec::<(ObjId, Object)>::new(alloc))?.is_some())
 }
 
-// Whether a document made at once is the one that grew by one page.
-fn same_as_grown(alloc: Global) -> Result<bool, Fail> {
+// A document that grew by one page.
+fn grown(alloc: Global) -> Result<Doc, Fail> {
     let mut doc = Doc::new(alloc)?;
     put(alloc, &mut doc, PAGE, Kind::Page, ObjId::ROOT, b"O")?;
+    Ok(doc)
+}
+
+// Whether a document made at once is that one.
+fn same_as_grown(alloc: Global) -> Result<bool, Fail> {
     match Doc::from_objects(pairs(alloc, ObjId::ROOT, &[PAGE])?)? {
-        Some(made) => Ok(made.same(&doc)),
+        Some(made) => Ok(made.same(&grown(alloc)?)),
         None => Ok(false),
     }
 }
 
+// Roots and pages, and how many objects the document of them has, if they are one.
+const DOCUMENTS: [(ObjId, &[ObjId], Option<usize>); 5] = [
+    (ObjId::ROOT, &[PAGE, SHAPE, FRAME], Some(4)),
+    (ObjId::ROOT, &[PAGE, FRAME, SHAPE], None),
+    (ObjId::ROOT, &[PAGE, PAGE], None),
+    (ObjId::ROOT, &[ObjId::ROOT], None),
+    (PAGE, &[SHAPE], None),
+];
+
 #[test]
 fn documents(rt: HostRuntime) -> Result<(), Fail> {
-    for (root, pages, want) in [
-        (ObjId::ROOT, [PAGE, SHAPE, FRAME].as_slice(), Some(4)),
-        (ObjId::ROOT, [PAGE, FRAME, SHAPE].as_slice(), None),
-        (ObjId::ROOT, [PAGE, PAGE].as_slice(), None),
-        (ObjId::ROOT, [ObjId::ROOT].as_slice(), None),
-        (PAGE, [SHAPE].as_slice(), None),
-    ] {
-        assert_eq!(rt; made(rt.alloc(), root, pages)?, want);
+    for (row, (root, pages, want)) in DOCUMENTS.iter().enumerate() {
+        assert!(rt; made(rt.alloc(), *root, pages)? == *want, "row {row}");
     }
     assert!(rt; same_as_grown(rt.alloc())?);
     Ok(())
@@ -72,7 +80,7 @@ fn parts(rt: HostRuntime) -> Result<(), Fail> {
         (Kind::Page, true, false),
         (Kind::Document, false, false),
     ] {
-        assert_eq!(rt; made_with(rt.alloc(), root, is_placed)?, want);
+        assert!(rt; made_with(rt.alloc(), root, is_placed)? == want);
     }
     assert!(rt; !made_of_nothing(rt.alloc())?);
     Ok(())
@@ -90,15 +98,18 @@ fn named(alloc: Global, names: &[&str]) -> Result<Option<usize>, Fail> {
     }
 }
 
+// Names of properties, and how many an object with these has, if it can be made of them.
+const OBJECTS: [(&[&str], Option<usize>); 4] = [
+    (&[], Some(0)),
+    (&["blur", "fill"], Some(2)),
+    (&["fill", "blur"], None),
+    (&["fill", "fill"], None),
+];
+
 #[test]
 fn objects(rt: HostRuntime) -> Result<(), Fail> {
-    for (names, want) in [
-        ([].as_slice(), Some(0)),
-        (["blur", "fill"].as_slice(), Some(2)),
-        (["fill", "blur"].as_slice(), None),
-        (["fill", "fill"].as_slice(), None),
-    ] {
-        assert_eq!(rt; named(rt.alloc(), names)?, want);
+    for (row, (names, want)) in OBJECTS.iter().enumerate() {
+        assert!(rt; named(rt.alloc(), names)? == *want, "row {row}");
     }
     Ok(())
 }

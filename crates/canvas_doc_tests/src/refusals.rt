@@ -77,39 +77,65 @@ fn both(alloc: Global, step: Step) -> Result<Docs, Fail> {
     })
 }
 
-// Takes the step on a copy with the nth growth refused, and once more where one was: whether one was, and whether the document
-// was as before then and is as it has to be at the end.
+// Takes the step with the heap's growth refused, and once more where one was: whether one was, and whether the document was as before
+// then and is as it has to be at the end.
+fn insist<A: Allocator + Copy>(
+    alloc: A,
+    heap: &Refusing<Global>,
+    doc: &mut Doc<A>,
+    docs: &Docs,
+    step: Step,
+) -> Result<(bool, bool), AllocError> {
+    if take(alloc, doc, step).is_ok() {
+        return Ok((false, heap.left() > 0 && doc.same(&docs.after)));
+    }
+    let as_before = heap.left() == 0 && doc.same(&docs.before);
+    take(alloc, doc, step)?;
+    Ok((true, as_before && doc.same(&docs.after)))
+}
+
+// The same to a copy of the document, with the nth growth refused.
 fn refused(alloc: Global, docs: &Docs, step: Step, nth: u64) -> Result<(bool, bool), AllocError> {
     let heap = Refusing::new(alloc, 0);
     let mut doc = docs.before.copy(&heap)?;
     heap.refuse(nth);
-    if take(&heap, &mut doc, step).is_ok() {
-        return Ok((false, heap.left() > 0 && doc.same(&docs.after)));
-    }
-    let as_before = heap.left() == 0 && doc.same(&docs.before);
-    take(&heap, &mut doc, step)?;
-    Ok((true, as_before && doc.same(&docs.after)))
+    insist(&heap, &heap, &mut doc, docs, step)
 }
 
 // Whether the step has so many growths, and each may be refused.
-fn has_growths(alloc: Global, step: Step, growths: u64) -> Result<bool, Fail> {
-    let docs = both(alloc, step)?;
+fn may_be_refused(
+    alloc: Global,
+    docs: &Docs,
+    step: Step,
+    growths: u64,
+) -> Result<bool, AllocError> {
     for nth in 1..=growths {
-        if refused(alloc, &docs, step, nth)? != (true, true) {
+        if refused(alloc, docs, step, nth)? != (true, true) {
             return Ok(false);
         }
     }
     let last = growths.saturating_add(1);
-    Ok(refused(alloc, &docs, step, last)? == (false, true))
+    Ok(refused(alloc, docs, step, last)? == (false, true))
+}
+
+fn has_growths(alloc: Global, step: Step, growths: u64) -> Result<bool, Fail> {
+    let docs = both(alloc, step)?;
+    Ok(may_be_refused(alloc, &docs, step, growths)?)
 }
 
 // A position, a name or a text is a growth each, and so is room for the first property, or for a fifth object.
+const STEPS: [(Step, u64); 4] = [
+    (Step::Add, 2),
+    (Step::Give, 3),
+    (Step::Replace, 2),
+    (Step::Clear, 1),
+];
+
 #[test]
 fn steps(rt: HostRuntime) -> Result<(), Fail> {
-    assert!(rt; has_growths(rt.alloc(), Step::Add, 2)?);
-    assert!(rt; has_growths(rt.alloc(), Step::Give, 3)?);
-    assert!(rt; has_growths(rt.alloc(), Step::Replace, 2)?);
-    assert!(rt; has_growths(rt.alloc(), Step::Clear, 1)?);
+    for (row, (step, growths)) in STEPS.iter().enumerate() {
+        assert!(rt; has_growths(rt.alloc(), *step, *growths)?, "row {row}");
+    }
     Ok(())
 }
 
@@ -147,6 +173,22 @@ fn is_kept(alloc: Global, kept: &Kept) -> Result<bool, Fail> {
     )
 }
 
+fn has_children<A: Allocator + Copy>(alloc: A, doc: &Doc) -> Result<bool, AllocError> {
+    Ok(doc.children(alloc, PAGE)?.as_slice() == [SHAPE, FRAME].as_slice())
+}
+
+fn copies_doc<A: Allocator + Copy>(alloc: A, doc: &Doc) -> Result<bool, AllocError> {
+    Ok(doc.copy(alloc)?.same(doc))
+}
+
+fn copies_change<A: Allocator + Copy>(alloc: A, change: &Change) -> Result<bool, AllocError> {
+    Ok(change.copy_in(alloc)?.same(change))
+}
+
+fn copies_object<A: Allocator + Copy>(alloc: A, object: &Object) -> Result<bool, AllocError> {
+    Ok(object.copy_in(alloc)?.same(object))
+}
+
 // Whether the answer is as it should be.
 fn is_right<A: Allocator + Copy>(
     alloc: A,
@@ -155,12 +197,10 @@ fn is_right<A: Allocator + Copy>(
 ) -> Result<bool, AllocError> {
     match question {
         Question::Blank => Ok(Doc::new(alloc)?.has(ObjId::ROOT)),
-        Question::Children => Ok(
-            kept.doc.children(alloc, PAGE)?.as_slice() == [SHAPE, FRAME].as_slice(),
-        ),
-        Question::Copy => Ok(kept.doc.copy(alloc)?.same(&kept.doc)),
-        Question::ChangeCopy => Ok(kept.change.copy_in(alloc)?.same(&kept.change)),
-        Question::ObjectCopy => Ok(kept.object.copy_in(alloc)?.same(&kept.object)),
+        Question::Children => has_children(alloc, &kept.doc),
+        Question::Copy => copies_doc(alloc, &kept.doc),
+        Question::ChangeCopy => copies_change(alloc, &kept.change),
+        Question::ObjectCopy => copies_object(alloc, &kept.object),
     }
 }
 
@@ -178,24 +218,37 @@ fn asked(alloc: Global, kept: &Kept, question: Question, nth: u64) -> (bool, boo
     }
 }
 
-// Whether the answer has so many growths, each may be refused, and nothing that was asked of has changed then.
-fn answer_has_growths(alloc: Global, question: Question, growths: u64) -> Result<bool, Fail> {
-    let kept = sample(alloc)?;
+// Whether the answer has so many growths, and each may be refused.
+fn answers_each(alloc: Global, kept: &Kept, question: Question, growths: u64) -> bool {
     for nth in 1..=growths {
-        if asked(alloc, &kept, question, nth) != (true, true) {
-            return Ok(false);
+        if asked(alloc, kept, question, nth) != (true, true) {
+            return false;
         }
     }
-    let last = asked(alloc, &kept, question, growths.saturating_add(1));
-    Ok(last == (false, true) && is_kept(alloc, &kept)?)
+    asked(alloc, kept, question, growths.saturating_add(1)) == (false, true)
 }
+
+// The same, where nothing that was asked of has changed then.
+fn answer_has_growths(alloc: Global, question: Question, growths: u64) -> Result<bool, Fail> {
+    let kept = sample(alloc)?;
+    Ok(answers_each(alloc, &kept, question, growths) && is_kept(alloc, &kept)?)
+}
+
+const ANSWERS: [(Question, u64); 5] = [
+    (Question::Blank, 2),
+    (Question::Children, 1),
+    (Question::Copy, 10),
+    (Question::ChangeCopy, 2),
+    (Question::ObjectCopy, 3),
+];
 
 #[test]
 fn answers(rt: HostRuntime) -> Result<(), Fail> {
-    assert!(rt; answer_has_growths(rt.alloc(), Question::Blank, 2)?);
-    assert!(rt; answer_has_growths(rt.alloc(), Question::Children, 1)?);
-    assert!(rt; answer_has_growths(rt.alloc(), Question::Copy, 10)?);
-    assert!(rt; answer_has_growths(rt.alloc(), Question::ChangeCopy, 2)?);
-    assert!(rt; answer_has_growths(rt.alloc(), Question::ObjectCopy, 3)?);
+    for (row, (question, growths)) in ANSWERS.iter().enumerate() {
+        assert!(rt;
+            answer_has_growths(rt.alloc(), *question, *growths)?,
+            "row {row}"
+        );
+    }
     Ok(())
 }

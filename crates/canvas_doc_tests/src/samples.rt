@@ -79,6 +79,27 @@ pub fn shape(alloc: Global) -> Result<Object, Fail> {
     Ok(object)
 }
 
+/// What a change asks of the shape.
+#[derive(Clone, Copy)]
+pub enum Sort {
+    Create,
+    Move,
+    Name,
+    Clear,
+    Delete,
+}
+
+/// A change of that sort.
+pub fn change(alloc: Global, sort: Sort) -> Result<Change, Fail> {
+    match sort {
+        Sort::Create => creation(alloc),
+        Sort::Move => movement(alloc),
+        Sort::Name => naming(alloc),
+        Sort::Clear => set(alloc, SHAPE, b"fill", None),
+        Sort::Delete => Ok(Change::delete(SHAPE)),
+    }
+}
+
 /// The creation of the shape.
 pub fn creation(alloc: Global) -> Result<Change, Fail> {
     Ok(Change::create(SHAPE, Kind::Shape, place(alloc, PAGE, b"C")?))
