@@ -14,44 +14,46 @@ fn fault_of(alloc: Global, text: &str) -> Option<JsonFault> {
     }
 }
 
+// Texts that are JSON, and their faults.
+const FAULTS: [(&str, Option<JsonFault>); 26] = [
+    ("9223372036854775807", None),
+    ("-9223372036854775808", None),
+    ("9223372036854775808", Some(JsonFault::OutOfRange)),
+    ("18446744073709551615", Some(JsonFault::OutOfRange)),
+    ("18446744073709551616", Some(JsonFault::NotAValue)),
+    ("-9223372036854775809", Some(JsonFault::NotAValue)),
+    ("-0", Some(JsonFault::NotAValue)),
+    ("1.0", Some(JsonFault::NotAValue)),
+    ("1e2", Some(JsonFault::NotAValue)),
+    ("null", Some(JsonFault::NotAValue)),
+    ("false", None),
+    ("\"\"", None),
+    ("{}", Some(JsonFault::NotAValue)),
+    ("[]", Some(JsonFault::NotAValue)),
+    ("[1]", Some(JsonFault::NotAValue)),
+    ("[\"rgba\"]", Some(JsonFault::NotAValue)),
+    ("[\"rgba\",4294967295]", None),
+    ("[\"rgba\",4294967296]", Some(JsonFault::OutOfRange)),
+    ("[\"rgba\",-1]", Some(JsonFault::OutOfRange)),
+    ("[\"rgba\",1.0]", Some(JsonFault::NotAValue)),
+    ("[\"rgba\",1,2]", Some(JsonFault::NotAValue)),
+    ("[\"rgb\",1]", Some(JsonFault::NotAValue)),
+    ("[\"list\"]", None),
+    ("[\"list\",1,[\"list\",true,\"a\"]]", None),
+    (
+        "[\"list\",[\"rgba\",4294967296],1]",
+        Some(JsonFault::OutOfRange),
+    ),
+    (
+        "[\"list\",[\"rgba\",4294967296],null]",
+        Some(JsonFault::NotAValue),
+    ),
+];
+
 #[test]
 fn faults(rt: HostRuntime) -> Result<(), Fail> {
-    let rows = [
-        ("9223372036854775807", None),
-        ("-9223372036854775808", None),
-        ("9223372036854775808", Some(JsonFault::OutOfRange)),
-        ("18446744073709551615", Some(JsonFault::OutOfRange)),
-        ("18446744073709551616", Some(JsonFault::NotAValue)),
-        ("-9223372036854775809", Some(JsonFault::NotAValue)),
-        ("-0", Some(JsonFault::NotAValue)),
-        ("1.0", Some(JsonFault::NotAValue)),
-        ("1e2", Some(JsonFault::NotAValue)),
-        ("null", Some(JsonFault::NotAValue)),
-        ("false", None),
-        ("\"\"", None),
-        ("{}", Some(JsonFault::NotAValue)),
-        ("[]", Some(JsonFault::NotAValue)),
-        ("[1]", Some(JsonFault::NotAValue)),
-        ("[\"rgba\"]", Some(JsonFault::NotAValue)),
-        ("[\"rgba\",4294967295]", None),
-        ("[\"rgba\",4294967296]", Some(JsonFault::OutOfRange)),
-        ("[\"rgba\",-1]", Some(JsonFault::OutOfRange)),
-        ("[\"rgba\",1.0]", Some(JsonFault::NotAValue)),
-        ("[\"rgba\",1,2]", Some(JsonFault::NotAValue)),
-        ("[\"rgb\",1]", Some(JsonFault::NotAValue)),
-        ("[\"list\"]", None),
-        ("[\"list\",1,[\"list\",true,\"a\"]]", None),
-        (
-            "[\"list\",[\"rgba\",4294967296],1]",
-            Some(JsonFault::OutOfRange),
-        ),
-        (
-            "[\"list\",[\"rgba\",4294967296],null]",
-            Some(JsonFault::NotAValue),
-        ),
-    ];
-    for (text, want) in rows {
-        assert_eq!(rt; fault_of(rt.alloc(), text), want, "at {text}");
+    for (text, want) in &FAULTS {
+        assert!(rt; fault_of(rt.alloc(), text) == *want, "at {text}");
     }
     Ok(())
 }
@@ -70,14 +72,21 @@ fn number_read_as(alloc: Global, text: &str, number: i64) -> Result<Option<bool>
     read_as(alloc, text, &Value::number(number))
 }
 
+// Texts and the numbers that they are read as, if they are, and whether they were in range.
+const NUMBERS: [(&str, i64, Option<bool>); 3] = [
+    ("-7", -7, Some(true)),
+    ("9223372036854775808", 0, Some(false)),
+    ("null", 0, None),
+];
+
 #[test]
 fn numbers_read(rt: HostRuntime) -> Result<(), Fail> {
-    assert_eq!(rt; number_read_as(rt.alloc(), "-7", -7)?, Some(true));
-    assert_eq!(rt;
-        number_read_as(rt.alloc(), "9223372036854775808", 0)?,
-        Some(false)
-    );
-    assert_eq!(rt; number_read_as(rt.alloc(), "null", 0)?, None);
+    for (text, number, want) in &NUMBERS {
+        assert!(rt;
+            number_read_as(rt.alloc(), text, *number)? == *want,
+            "at {text}"
+        );
+    }
     Ok(())
 }
 
@@ -103,21 +112,23 @@ fn is_rewritten(alloc: Global, text: &str, wanted: &str) -> Result<bool, Fail> {
     Ok(value.json_text(alloc)?.as_str() == wanted)
 }
 
+// Texts, and what is written of the values that they are read as.
+const TEXTS: [(&str, &str); 7] = [
+    ("-9223372036854775808", "-9223372036854775808"),
+    ("9223372036854775807", "9223372036854775807"),
+    (" true ", "true"),
+    ("\"n\\u00e9e\"", "\"née\""),
+    ("[ \"rgba\", 4294967295 ]", "[\"rgba\",4294967295]"),
+    ("[\"list\"]", "[\"list\"]"),
+    (
+        "[\"list\", 1, [\"rgba\", 7], [\"list\"]]",
+        "[\"list\",1,[\"rgba\",7],[\"list\"]]",
+    ),
+];
+
 #[test]
 fn texts(rt: HostRuntime) -> Result<(), Fail> {
-    let rows = [
-        ("-9223372036854775808", "-9223372036854775808"),
-        ("9223372036854775807", "9223372036854775807"),
-        (" true ", "true"),
-        ("\"n\\u00e9e\"", "\"née\""),
-        ("[ \"rgba\", 4294967295 ]", "[\"rgba\",4294967295]"),
-        ("[\"list\"]", "[\"list\"]"),
-        (
-            "[\"list\", 1, [\"rgba\", 7], [\"list\"]]",
-            "[\"list\",1,[\"rgba\",7],[\"list\"]]",
-        ),
-    ];
-    for (text, wanted) in rows {
+    for (text, wanted) in &TEXTS {
         assert!(rt; is_rewritten(rt.alloc(), text, wanted)?, "at {text}");
     }
     Ok(())

@@ -22,10 +22,10 @@ fn judged(alloc: Global, lists: u32) -> Result<(u32, Result<(), TooDeep>), Alloc
 
 #[test]
 fn depths(rt: HostRuntime) -> Result<(), Fail> {
-    assert_eq!(rt; judged(rt.alloc(), 1)?, (1, Ok(())));
-    assert_eq!(rt; judged(rt.alloc(), 16)?, (16, Ok(())));
-    assert_eq!(rt; judged(rt.alloc(), 17)?, (17, Err(TooDeep)));
-    assert_eq!(rt; depth_of_truth(), 0);
+    for (lists, want) in [(1, Ok(())), (16, Ok(())), (17, Err(TooDeep))] {
+        assert!(rt; judged(rt.alloc(), lists)? == (lists, want), "at {lists}");
+    }
+    assert!(rt; depth_of_truth() == 0);
     Ok(())
 }
 
@@ -58,18 +58,28 @@ fn fault_of(alloc: Global, bytes: &[u8]) -> Option<NameError> {
     Name::read(alloc, bytes).err()
 }
 
+// Bytes, and why they are no name, if they aren't: the longest name has 32 of them.
+const NAMES: [(&[u8], Option<NameError>); 11] = [
+    (b"", Some(NameError::Empty)),
+    (
+        b"aaaaaaaaaaaaaaaaaaaaaaaaaaaaaaaaa",
+        Some(NameError::TooLong),
+    ),
+    (b"aaaaaaaaaaaaaaaaaaaaaaaaaaaaaaaa", None),
+    (b"aX", Some(NameError::BadByte)),
+    (b"a ", Some(NameError::BadByte)),
+    (b"a-", Some(NameError::BadByte)),
+    (b"a`", Some(NameError::BadByte)),
+    (b"a{", Some(NameError::BadByte)),
+    (b"a/", Some(NameError::BadByte)),
+    (b"a:", Some(NameError::BadByte)),
+    (b"a\xc3", Some(NameError::BadByte)),
+];
+
 #[test]
 fn names(rt: HostRuntime) -> Result<(), Fail> {
-    let long = [b'a'; 33];
-    assert_eq!(rt; fault_of(rt.alloc(), b""), Some(NameError::Empty));
-    assert_eq!(rt; fault_of(rt.alloc(), &long), Some(NameError::TooLong));
-    assert_eq!(rt; fault_of(rt.alloc(), &long[1..]), None);
-    for byte in [b'X', b' ', b'-', b'`', b'{', b'/', b':', 195] {
-        assert_eq!(rt;
-            fault_of(rt.alloc(), &[b'a', byte]),
-            Some(NameError::BadByte),
-            "at {byte}"
-        );
+    for (row, (bytes, want)) in NAMES.iter().enumerate() {
+        assert!(rt; fault_of(rt.alloc(), bytes) == *want, "row {row}");
     }
     Ok(())
 }
