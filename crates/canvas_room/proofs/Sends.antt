@@ -2,6 +2,7 @@
 use denote.RattleType.{RattleType}
 use denote.Struct.Declared.{shape}
 use denote.Param.Send.{IsSend, IsSync, sendable, view_send, recorded_send, struct_send}
+use denote.Param.SendFields.{as_row_send, declared_send, variants_send}
 use Rattle.core.proofs.option.Option.TheSendSync as option
 use Rattle.core.proofs.rt.Memory.TheSendSync as memory
 use Rattle.std.proofs.Crossing.{crosses, frees, Arc-send, Arc-sync}
@@ -19,6 +20,7 @@ use Rattle.canvas_doc.proofs.place.Place.TheSendSync as place
 use Rattle.canvas_judge.proofs.outcome.Outcome.TheSendSync as outcome
 use Rattle.canvas_judge.specs.contracts.state.State as State
 use Rattle.canvas_judge.specs.contracts.entry.Entry as Entry
+use Rattle.canvas_server.specs.contracts.request.Request as Request
 use Rattle.canvas_server.specs.contracts.server.Server as Server
 use Rattle.canvas_board.specs.declared.history.RoomName.{Ghosts}
 use Rattle.canvas_board.specs.contracts.mark.Mark as Mark
@@ -26,6 +28,7 @@ use Rattle.canvas_board.specs.contracts.page.Page as Page
 use Rattle.canvas_board.specs.contracts.board.Board as Board
 use Rattle.canvas_board.specs.contracts.board.Step as Step
 use Rattle.canvas_board.specs.contracts.reader.Reader as Reader
+use Rattle.canvas_board.specs.contracts.receipt.Receipt as Receipt
 use Rattle.canvas_board.specs.contracts.reader.Reader.TheInside as in_reader
 use Rattle.canvas_board.specs.contracts.publisher.Publisher as Publisher
 use Rattle.canvas_board.specs.contracts.publisher.Publisher.TheInside as in_publisher
@@ -38,9 +41,18 @@ use Rattle.canvas_board.specs.declared.mark.Mark.{Mark as MarkOf}
 use Rattle.canvas_board.specs.declared.rule.Published.{Published as PublishedOf}
 use Rattle.canvas_board.proofs.history.Book.TheSendSync as book
 use Rattle.canvas_board.proofs.history.Front.TheSendSync as front
+use Rattle.canvas_desk.proofs.faults.SubmitError.TheSendSync as submit_error
+use Rattle.canvas_desk.specs.contracts.faults.SubmitError as SubmitError
 use Rattle.canvas_desk.specs.contracts.desk.Desk as Desk
 use Rattle.canvas_journal.specs.declared.keeper.Keeper as keeper
 use Rattle.canvas_desk.specs.contracts.desk.Desk.TheInside as in_desk
+use Rattle.canvas_room.specs.contracts.asking.Told as Told
+use Rattle.canvas_room.specs.contracts.mailbox.Letter as Letter
+use Rattle.canvas_room.specs.contracts.mailbox.Mailbox as Mailbox
+use Rattle.canvas_room.specs.contracts.mailbox.Reply as Reply
+use Rattle.canvas_room.specs.contracts.mailbox.Reply.TheInside as in_reply
+use Rattle.canvas_room.specs.contracts.mailbox.Slot as Slot
+use Rattle.canvas_room.specs.contracts.place.Place as Place
 use Rattle.canvas_room.specs.contracts.seat.Seat as Seat
 use Rattle.canvas_room.specs.contracts.seat.Seat.TheInside as in_seat
 use Rattle.crossbeam_utils.specs.declared.rule.Protocol as protocol
@@ -49,6 +61,7 @@ use Rattle.left_right.proofs.reader.Reader.TheSendSync as end
 use Rattle.left_right.proofs.writer.Writer.TheSendSync as writer
 use Rattle.std.specs.contracts.collections.LinkedList as Linked
 use Rattle.std.specs.contracts.sync.Arc as Arc
+use Rattle.core.specs.contracts.result.Result as Result
 use Rattle.core.specs.contracts.sync.Mutex as Mutex
 use Rattle.std.specs.declared.alloc.Global.{Global}
 use Rattle.std.specs.declared.collections.LinkedList.{LinkedList}
@@ -188,10 +201,47 @@ module _ (K N R : RattleType) (k : keeper.Ghosts K.Denot) (g : Ghosts N.Denot) (
   pub Shared-sync : IsSend K → IsSend N → IsSync N → IsSend R → IsSync (Arc.the_row (Mutex.the_row (Desk.the_row K N R k g a p)) Heap.the_row ghosts)
   Shared-sync sk s y sr = Arc-sync _ (Lock-send sk s y sr) (Lock-sync sk s y sr)
 
+-- what stands in a mailbox
+pub Request-send : IsSend (Request.the_row Heap.the_row ghosts)
+Request-send = search (leaves, sendable, crosses) depth 40 fits 4000
+
+pub Receipt-send : (N : RattleType) (g : Ghosts N.Denot) → IsSend N → IsSend (Receipt.the_row N g)
+Receipt-send N g s = search (Entry-send, front.the_send, sendable, crosses) depth 40 fits 4000
+
+pub Told-send : (N : RattleType) (g : Ghosts N.Denot) → IsSend N → IsSend (Told.the_row N g)
+Told-send N g s =
+    let r = Receipt-send N g s in
+    declared_send (Told.the_type N g) (as_row_send (Result.the_field (Receipt.the_row N g) SubmitError.the_row) (search (r, submit_error.the_send, sendable)), (search (front.the_send, sendable), tt))
+
+pub Letter-send : (N : RattleType) (g : Ghosts N.Denot) → IsSend N → IsSend (Letter.the_row N g)
+Letter-send N g s = declared_send (Letter.the_type N g) (Request-send, (search (front.the_send, sendable), tt))
+
+pub Reply-send : (N : RattleType) (g : Ghosts N.Denot) → IsSend N → IsSend (Reply.the_row N g)
+Reply-send N g s = view_send (in_reply.the_row N g) _ _ _ _ (declared_send (in_reply.the_type N g) (Letter-send N g s, (Told-send N g s, tt)))
+
+pub Slot-send : (N : RattleType) (g : Ghosts N.Denot) → IsSend N → IsSend (Slot.the_row N g)
+Slot-send N g s =
+    let r = Reply-send N g s in
+    variants_send (Slot.enum N g) (tt, ((Letter-send N g s, tt), ((search (r, sendable), tt), tt)))
+
+pub Mailbox-send : (N : RattleType) (g : Ghosts N.Denot) → IsSend N → IsSend (Mailbox.the_row N g)
+Mailbox-send N g s = let l = Slot-send N g s in declared_send (Mailbox.the_type N g) (search (l, sendable, crosses), tt)
+
+pub Mailbox-lock-send : (N : RattleType) (g : Ghosts N.Denot) → IsSend N → IsSend (Mutex.the_row (Mailbox.the_row N g))
+Mailbox-lock-send N g s = let m = Mailbox-send N g s in search (m, sendable, crosses) depth 40 fits 4000
+
+pub Mailbox-lock-sync : (N : RattleType) (g : Ghosts N.Denot) → IsSend N → IsSync (Mutex.the_row (Mailbox.the_row N g))
+Mailbox-lock-sync N g s = let m = Mailbox-send N g s in search (m, sendable, crosses) depth 40 fits 4000
+
+-- a seat's place at it, as a field
+pub Place-field-send : (N : RattleType) (g : Ghosts N.Denot) → IsSend N → IsSend (Place.the_field N g).row
+Place-field-send N g s = struct_send (shape (Place.the_type N g)) (heap.the_field_send, (Arc-send _ (Mailbox-lock-send N g s) (Mailbox-lock-sync N g s), (search sendable, tt)))
+
 pub Seat-send : (N D : RattleType) (g : Ghosts N.Denot) → IsSend N → IsSync N → IsSend D → IsSync D → IsSend (Seat.the_row N D g)
 Seat-send N D g s y sd yd =
     let r = Reader-send N g s y in
-    view_send (in_seat.the_row N D g) _ _ _ _ (recorded_send (in_seat.the_field N D g).row _ _ (in_seat.the_type N D g).to_one (struct_send (shape (in_seat.the_type N D g)) (Arc-send D sd yd, (r, tt))))
+    let p = Place-field-send N g s in
+    view_send (in_seat.the_row N D g) _ _ _ _ (recorded_send (in_seat.the_field N D g).row _ _ (in_seat.the_type N D g).to_one (struct_send (shape (in_seat.the_type N D g)) (Arc-send D sd yd, (p, (r, tt)))))
 
 module _ (K N R : RattleType) (k : keeper.Ghosts K.Denot) (g : Ghosts N.Denot) where
   -- the lock of a room, as a caller's types have it

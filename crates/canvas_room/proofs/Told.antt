@@ -27,7 +27,7 @@ outcome_as s e Join f = (next s, f.2)
 outcome_as s e (Edit change) f = tt
 
 -- an entry of the request that may come next answers it
-answers_of : (s : State) (q : Asked) (e : Entry) → IsNextFor s q e → Answers q e
+pub answers_of : (s : State) (q : Asked) (e : Entry) → IsNextFor s q e → Answers q e
 answers_of s q e n = record {
   author_is = n.0;
   seq_is = n.1;
@@ -54,7 +54,7 @@ told_of o seen shown old new due' failed failed' q (Err e) pre more ok stands = 
 -- ---- refusals
 
 -- one of two came of a test
-by_test : (b : Bool) (P Q R : Type 0) → (b ≡ true → P → R) → (Q → R) → cond b P Q → R
+pub by_test : (b : Bool) (P Q R : Type 0) → (b ≡ true → P → R) → (Q → R) → cond b P Q → R
 by_test true P Q R this others h = this refl h
 by_test false P Q R this others h = others h
 
@@ -80,7 +80,7 @@ module _ (b : Served) (q : Asked) where
       by_test (has_no_room b (Edit change)) _ _ _ (λ _ y. absurd (cc (y.0))) (λ j. absurd (cc (j.2.0))) h) h) h) h
 
 -- a stranger, a repeat and a gap are edits
-refuses_of : (b : Served) (q : Asked) (e : SubmitError) → Refuses b q e → RefusesEdit q e
+pub refuses_of : (b : Served) (q : Asked) (e : SubmitError) → Refuses b q e → RefusesEdit q e
 refuses_of b q Stranger h = stranger_edits b q q.what h
 refuses_of b q (Repeat n) h = repeat_edits b q n q.what h
 refuses_of b q (Gap n) h = gap_edits b q n q.what h

@@ -1,8 +1,9 @@
 // How a desk is asked for a seat.
 ghost use Rattle.std.specs.Prelude.{◌≡◌};
 ghost use mathlib.Core.List.{IsPrefix};
-ghost use Rattle.canvas_server.specs.Asked.{seen_request};
+ghost use Rattle.canvas_server.specs.Asked.{Asked, seen_request};
 ghost use Rattle.canvas_board.specs.Marks.{IsLegal};
+ghost use Rattle.canvas_room.specs.Batches.{IsUnjudged};
 ghost use Rattle.canvas_room.specs.Seats as seats;
 ghost use Rattle.canvas_room.specs.Seats.{IsAnswerTo, Learns};
 
@@ -21,8 +22,8 @@ pub struct Told<N: RoomName> {
     pub learns: Front<N>,
 }
 
-// Whether an answer says that the server's rule refuses the request, or that its entry is too large.
-fn is_refusal<N: RoomName>(answer: &Result<Receipt<N>, SubmitError>) -> bool
+/// Whether an answer says that the server's rule refuses the request, or that its entry is too large.
+pub fn is_refusal<N: RoomName>(answer: &Result<Receipt<N>, SubmitError>) -> bool
     ensures { result ≡ seats.is_refusal answer.now }
 {
     match answer {
@@ -39,8 +40,8 @@ fn is_refusal<N: RoomName>(answer: &Result<Receipt<N>, SubmitError>) -> bool
     }
 }
 
-// What a seat is to learn with an answer.
-fn learned<N: RoomName>(
+/// What a seat is to learn with an answer.
+pub fn learned<N: RoomName>(
     answer: &Result<Receipt<N>, SubmitError>,
     seen: &Front<N>,
     shown: &Front<N>,
@@ -52,6 +53,17 @@ fn learned<N: RoomName>(
         shown.again()
     } else {
         seen.again()
+    }
+}
+
+/// What is told where a batch as a whole was refused: nothing is learned.
+pub fn unjudged<N: RoomName>(error: SubmitError, seen: &Front<N>) -> Told<N>
+    requires { IsUnjudged error }
+    ensures { (q : Asked) → IsAnswerTo N.opening seen.now q result.answer result.learns }
+{
+    Told {
+        answer: Err(error),
+        learns: seen.again(),
     }
 }
 

@@ -2,7 +2,10 @@
 #![tactic(auto)]
 
 mod asking;
+mod batch;
 mod faults;
+mod mailbox;
+mod place;
 mod room;
 mod seat;
 

@@ -1,0 +1,153 @@
+// How the requests of a mailbox are committed as one batch.
+ghost use Rattle.std.specs.Prelude.{◌≡◌, ◌≤◌, IfErr, IfOk, IfSome, length, map};
+ghost use Rattle.canvas_server.specs.Asked.{seen_request};
+ghost use Rattle.canvas_board.specs.Marks.{IsLegal};
+ghost use Rattle.canvas_room.specs.Batches.{AreSaid, AreSeen, IsUnjudged, Says, seen_of};
+
+use crate::asking::{Told, is_refusal, learned};
+use crate::mailbox::{Letter, Mailbox, Reply, Slot};
+use canvas_board::{Front, Receipt, RoomName};
+use canvas_desk::{Desk, SubmitError};
+use canvas_journal::Keeper;
+use canvas_server::Request;
+use std::alloc::{AllocError, Global};
+use std::sync::{Mutex, Wait};
+
+// A room has at most so many seats.
+const MOST_SEATS: usize = 64;
+
+/// The seat of a request, and what it has seen.
+#[derive(Drop)]
+pub struct Sender<N: RoomName> {
+    seat: usize,
+    seen: Front<N>,
+}
+
+/// Requests, and beside each its seat.
+#[derive(Drop)]
+pub struct Batch<N: RoomName> {
+    requests: Vec<Request>,
+    senders: Vec<Sender<N>>,
+}
+
+// Takes the letters that wait, except those of seats that have seen more than this. Fails only where memory is refused, and then takes none.
+fn gather<N: RoomName>(
+    alloc: Global,
+    mailbox: &mut Mailbox<N>,
+    shown: &Front<N>,
+) -> Result<Batch<N>, AllocError>
+    ensures most { IfOk result (λ batch. length batch.requests.items ≤ 64) }
+    ensures seen { IfOk result (λ batch. AreSeen shown.now (map seen_of batch.senders.items)) }
+{
+    let mut requests = Vec::with_capacity(alloc, MOST_SEATS)?;
+    let mut senders = Vec::with_capacity(alloc, MOST_SEATS)?;
+    for seat in 0..MOST_SEATS {
+        let Some(letter) = mailbox.take_letter(seat, shown) else {
+            continue;
+        };
+        let Letter { request, seen } = letter;
+        requests.push_reserved(request);
+        senders.push_reserved(Sender { seat, seen });
+    }
+    Ok(Batch { requests, senders })
+}
+
+// The reply to a letter that stood in a batch. None where the request was refused, and not all that is due is published.
+fn reply<N: RoomName>(
+    letter: Letter<N>,
+    answer: Result<Receipt<N>, SubmitError>,
+    due: &Front<N>,
+    is_shown: bool,
+) -> Option<Reply<N>>
+    requires { Says N.opening letter.seen due.now (seen_request letter.request) answer }
+{
+    if !is_shown && is_refusal(&answer) {
+        return None;
+    }
+    let learns = learned(&answer, &letter.seen, due);
+    Some(Reply::new(letter, Told { answer, learns }))
+}
+
+// Leaves the answer to a request in the slot of its seat.
+fn leave<N: RoomName>(
+    mailbox: &mut Mailbox<N>,
+    request: Request,
+    sender: Sender<N>,
+    answer: Result<Receipt<N>, SubmitError>,
+    due: &Front<N>,
+    is_shown: bool,
+)
+    requires { Says N.opening sender.seen due.now (seen_request request) answer }
+{
+    let Sender { seat, seen } = sender;
+    if let Some(reply) = reply(Letter { request, seen }, answer, due, is_shown) {
+        mailbox.put(seat, Slot::Answered(reply));
+    }
+}
+
+// Leaves each answer of a batch in the slot of its seat.
+fn leave_each<N: RoomName>(
+    mailbox: &mut Mailbox<N>,
+    batch: Batch<N>,
+    answers: Vec<Result<Receipt<N>, SubmitError>>,
+    due: &Front<N>,
+    is_shown: bool,
+)
+    requires { AreSaid N.opening due.now (map seen_request batch.requests.items) (map seen_of batch.senders.items) answers.items }
+{
+    let Batch { requests, senders } = batch;
+    let mut senders = senders.into_iter();
+    let mut answers = answers.into_iter();
+    for request in requests {
+        let Some(sender) = senders.next() else {
+            return;
+        };
+        let Some(answer) = answers.next() else {
+            return;
+        };
+        leave(mailbox, request, sender, answer, due, is_shown);
+    }
+}
+
+// Takes the letters that wait, where one of another seat is among them. None too where memory is refused.
+fn waiting<N: RoomName, W: Wait>(
+    alloc: Global,
+    rt: &W,
+    mailbox: &Mutex<Mailbox<N>>,
+    seat: usize,
+    shown: &Front<N>,
+) -> Option<Batch<N>>
+    ensures most { IfSome result (λ batch. length batch.requests.items ≤ 64) }
+    ensures seen { IfSome result (λ batch. AreSeen shown.now (map seen_of batch.senders.items)) }
+{
+    let mut mailbox = mailbox.lock(rt);
+    if !mailbox.has_others(seat) {
+        return None;
+    }
+    gather(alloc, &mut mailbox, shown).ok()
+}
+
+/// Where requests of other seats than this one wait, has all that wait committed as one batch, and leaves the answers in their slots.
+/// A request is left unanswered, and isn't kept, where memory was refused for the batch, or where it was refused and not all that is due
+/// is published. Fails where the batch as a whole was refused, and then nothing of it is due.
+#[tactic(auto, using(crate::proofs::Saying::answers_said, crate::proofs::Saying::batch_unjudged))]
+pub fn commit<K: Keeper, N: RoomName, R: Wait + Drop, W: Wait>(
+    alloc: Global,
+    rt: &W,
+    desk: &mut Desk<K, N, R>,
+    mailbox: &Mutex<Mailbox<N>>,
+    seat: usize,
+) -> Result<(), SubmitError>
+    ensures { IfErr result IsUnjudged }
+{
+    let shown = desk.shown();
+    let Some(batch) = waiting(alloc, rt, mailbox, seat, &shown) else {
+        return Ok(());
+    };
+    let answers = desk.submit_many(rt, &batch.requests)?;
+    let due = desk.due();
+    let is_shown = due.is_same(&desk.shown());
+    let mut mailbox = mailbox.lock(rt);
+    leave_each(&mut mailbox, batch, answers, &due, is_shown);
+    Ok(())
+}

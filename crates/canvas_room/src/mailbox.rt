@@ -1,0 +1,212 @@
+// The mailbox of a room, where seats leave their requests for whoever has the desk.
+ghost use Rattle.std.specs.Prelude.{◌≡◌, IfOk, IfSome, IsTrue, MatchOption, slice_get, slice_set};
+ghost use mathlib.Core.List.{IsPrefix};
+ghost use Rattle.canvas_server.specs.Asked.{seen_request};
+ghost use Rattle.canvas_room.specs.Seats.{IsAnswerTo};
+
+use crate::asking::Told;
+use canvas_board::{Front, RoomName};
+use canvas_server::Request;
+use std::alloc::{AllocError, Global};
+use std::marker::Model;
+use std::mem::replace;
+
+/// A request, with what its seat has seen.
+#[derive(Drop)]
+pub struct Letter<N: RoomName> {
+    /// The request.
+    pub request: Request,
+    /// What its seat has seen.
+    pub seen: Front<N>,
+}
+
+/// What was told of a request, beside it. Contracts see it as what the seat had seen.
+#[derive(Drop)]
+pub struct Reply<N: RoomName> {
+    letter: Letter<N>,
+    told: Told<N>,
+}
+
+impl<N: RoomName> Model for Reply<N> {
+    ghost use Rattle.std.specs.Prelude.{List};
+    ghost use Rattle.std.specs.Coded.{codes};
+    ghost use Rattle.canvas_model.specs.Codes.{value_code};
+    ghost use Rattle.canvas_server.specs.Asked.{seen_request};
+    ghost use Rattle.canvas_board.specs.Marks.{Mark};
+    ghost use Rattle.canvas_room.specs.Seats.{IsAnswerTo};
+
+    ghost Value = { List Mark };
+
+    ghost coded = { Prim.hlevel (codes, value_code) };
+
+    ghost view = { λ r. r.letter.seen };
+
+    ghost invariant = { λ r. IsAnswerTo N.opening r.letter.seen (seen_request r.letter.request) r.told.answer r.told.learns };
+}
+
+/// What is in a slot of the mailbox.
+#[derive(Drop)]
+pub enum Slot<N: RoomName> {
+    /// Nothing.
+    Empty,
+    /// A request that waits.
+    Waiting(Letter<N>),
+    /// A request that was answered.
+    Answered(Reply<N>),
+}
+
+/// A slot for each seat of a room.
+#[derive(Drop)]
+pub struct Mailbox<N: RoomName> {
+    slots: Vec<Slot<N>>,
+}
+
+// A request once more. Fails only where memory is refused.
+fn copy(alloc: Global, request: &Request) -> Result<Request, AllocError>
+    ensures { IfOk result (λ copy. seen_request copy ≡ seen_request request.now) }
+{
+    match request {
+        Request::Join => Ok(Request::Join),
+        Request::Edit {
+            client,
+            seq,
+            change,
+        } => Ok(Request::Edit {
+            client: *client,
+            seq: *seq,
+            change: change.copy_in(alloc)?,
+        }),
+    }
+}
+
+// Whether two requests are the same.
+fn same(request: &Request, other: &Request) -> bool
+    ensures { IsTrue result → seen_request request.now ≡ seen_request other.now }
+{
+    match (request, other) {
+        (Request::Join, Request::Join) => true,
+        (
+            Request::Edit {
+                client,
+                seq,
+                change,
+            },
+            Request::Edit {
+                client: other_client,
+                seq: other_seq,
+                change: other_change,
+            },
+        ) => client == other_client && seq == other_seq && change.same(other_change),
+        _ => false,
+    }
+}
+
+impl<N: RoomName> Letter<N> {
+    /// A copy of a request, with what its seat has seen. Fails only where memory is refused.
+    pub fn new(alloc: Global, request: &Request, seen: &Front<N>) -> Result<Letter<N>, AllocError>
+        ensures { IfOk result (λ letter. (seen_request letter.request ≡ seen_request request.now) × (letter.seen ≡ seen.now)) }
+    {
+        let request = copy(alloc, request)?;
+        Ok(Letter {
+            request,
+            seen: seen.again(),
+        })
+    }
+}
+
+impl<N: RoomName> Reply<N> {
+    /// What was told of the request of a letter.
+    pub fn new(letter: Letter<N>, told: Told<N>) -> Reply<N>
+        requires { IsAnswerTo N.opening letter.seen (seen_request letter.request) told.answer told.learns }
+        ensures { result ≡ letter.seen }
+    {
+        Reply { letter, told }
+    }
+
+    /// What was told, if it was told of this request, to a seat that had seen just this.
+    #[tactic(auto, using(crate::proofs::Saying::answer_as))]
+    pub fn told_of(self, request: &Request, seen: &Front<N>) -> Option<Told<N>>
+        ensures { IfSome result (λ told. IsAnswerTo N.opening seen.now (seen_request request.now) told.answer told.learns) }
+    {
+        let Reply { letter, told } = self;
+        if !same(&letter.request, request) || !letter.seen.is_same(seen) {
+            return None;
+        }
+        Some(told)
+    }
+}
+
+impl<N: RoomName> Mailbox<N> {
+    /// A mailbox of so many slots, all empty. Fails only where memory is refused.
+    pub fn new(alloc: Global, seats: usize) -> Result<Mailbox<N>, AllocError> {
+        let mut slots = Vec::with_capacity(alloc, seats)?;
+        for _ in 0..seats {
+            slots.push(Slot::Empty)?;
+        }
+        Ok(Mailbox { slots })
+    }
+
+    /// Puts this into the slot of a seat, in place of what is there.
+    pub fn put(&mut self, seat: usize, content: Slot<N>)
+        ensures { self.new.slots.items ≡ slice_set self.old.slots.items seat content }
+    {
+        if let Some(slot) = self.slots.get_mut(seat) {
+            *slot = content;
+        }
+    }
+
+    /// Takes what is in the slot of a seat, and leaves it empty.
+    pub fn take(&mut self, seat: usize) -> Slot<N>
+        ensures taken { MatchOption (slice_get self.old.slots.items seat) (result ≡ Slot.Empty) (λ content. result ≡ content) }
+        ensures left { self.new.slots.items ≡ slice_set self.old.slots.items seat Slot.Empty }
+    {
+        match self.slots.get_mut(seat) {
+            Some(slot) => replace(slot, Slot::Empty),
+            None => Slot::Empty,
+        }
+    }
+
+    // Takes the letter that waits in the slot of a seat.
+    fn take_waiting(&mut self, seat: usize) -> Option<Letter<N>> {
+        match self.take(seat) {
+            Slot::Waiting(letter) => Some(letter),
+            content => {
+                self.put(seat, content);
+                None
+            }
+        }
+    }
+
+    /// Takes the letter that waits in the slot of a seat, unless that has seen more than this.
+    pub fn take_letter(&mut self, seat: usize, shown: &Front<N>) -> Option<Letter<N>>
+        ensures { IfSome result (λ letter. IsPrefix letter.seen shown.now) }
+    {
+        let letter = self.take_waiting(seat)?;
+        if letter.seen.begins(shown) {
+            return Some(letter);
+        }
+        self.put(seat, Slot::Waiting(letter));
+        None
+    }
+
+    /// Takes the reply in the slot of a seat.
+    pub fn take_reply(&mut self, seat: usize) -> Option<Reply<N>> {
+        match self.take(seat) {
+            Slot::Answered(reply) => Some(reply),
+            content => {
+                self.put(seat, content);
+                None
+            }
+        }
+    }
+
+    /// Whether a letter waits in the slot of another seat.
+    pub fn has_others(&self, seat: usize) -> bool {
+        for (other, slot) in self.slots.iter().enumerate() {
+            if other != seat && matches!(slot, Slot::Waiting(_)) {
+                return true;
+            }
+        }
+        false
+    }
+}
