@@ -1,0 +1,11 @@
+//! Clients on threads of their own: one that is told by messages what to do, and several that edit at seats of one room at once.
+#![tactic(auto)]
+
+mod client_node;
+mod gate;
+mod node;
+mod nodes;
+
+pub use client_node::{ClientNode, Command};
+pub use gate::{Gate, NoGate};
+pub use nodes::run_nodes;

@@ -1,0 +1,11 @@
+//! Tests of `canvas_threads`: nodes that edit at once at seats of one room, and clients on threads of their own.
+#![tactic(auto)]
+
+#[cfg(test)]
+mod client_nodes;
+#[cfg(test)]
+mod gates;
+#[cfg(test)]
+mod rooms;
+#[cfg(test)]
+mod running;
