@@ -1,7 +1,8 @@
 //! Frames of each kind that a server reads, and how often it writes.
 use crate::rooms::Room;
-use crate::sockets::{heard, sent, served, socket};
+use crate::sockets::served;
 use canvas_nodes::serve_one;
+use memory_sockets::{heard, sent, socket};
 use std::alloc::Global;
 use std::io;
 use std::io::{Read, Write};

@@ -1,5 +1,6 @@
 //! The first session of a server and a client.
-use crate::sockets::{heard, sent, served};
+use crate::sockets::served;
+use memory_sockets::{heard, sent};
 use std::alloc::Global;
 use std::test::Fail;
 use tungstenite::Role;

@@ -1,7 +1,7 @@
 //! Links over sockets: what is sent, and how each answer is told.
-use crate::sockets::{sent, socket};
 use canvas_judge::{Message, NoReason};
 use canvas_nodes::{Link, LinkError, SocketLink};
+use memory_sockets::{sent, socket};
 use std::alloc::Global;
 use std::test::Fail;
 use tungstenite::Role;
