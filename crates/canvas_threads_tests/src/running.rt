@@ -182,10 +182,11 @@ fn copies_in<
     let alloc = rt.alloc();
     let mut early = seats.pop().ok_or("a seat")?;
     early.submit(rt, &Request::Join)?;
-    if !early.tidy(rt, 0)? || seats.is_empty() {
+    let work = pages(alloc, 1, 1)?;
+    if !early.tidy(rt, 0)? || seats.len() < work.len() {
         return Ok(false);
     }
-    let clients = run_nodes(rt, &room, seats, pages(alloc, 1, 1)?, &NoGate)?;
+    let clients = run_nodes(rt, &room, seats, work, &NoGate)?;
     match clients.first() {
         Some(client) => Ok(
             client.id() == Some(2) && client.version() == 3 && client.acknowledged() == 1,
