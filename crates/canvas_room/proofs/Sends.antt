@@ -2,7 +2,7 @@
 use denote.RattleType.{RattleType}
 use denote.Struct.Declared.{shape}
 use denote.Param.Send.{IsSend, IsSync, sendable, view_send, recorded_send, struct_send}
-use denote.Param.SendFields.{as_row_send, declared_send, variants_send}
+use denote.Param.SendFields.{as_row_send, declared_send, declared_sync, variants_send}
 use Rattle.core.proofs.option.Option.TheSendSync as option
 use Rattle.core.proofs.rt.Memory.TheSendSync as memory
 use Rattle.std.proofs.Crossing.{crosses, frees, Arc-send, Arc-sync}
@@ -53,6 +53,7 @@ use Rattle.canvas_room.specs.contracts.mailbox.Reply as Reply
 use Rattle.canvas_room.specs.contracts.mailbox.Reply.TheInside as in_reply
 use Rattle.canvas_room.specs.contracts.mailbox.Slot as Slot
 use Rattle.canvas_room.specs.contracts.place.Place as Place
+use Rattle.canvas_room.specs.contracts.place.SharedMailbox as SharedMailbox
 use Rattle.canvas_room.specs.contracts.seat.Seat as Seat
 use Rattle.canvas_room.specs.contracts.seat.Seat.TheInside as in_seat
 use Rattle.crossbeam_utils.specs.declared.rule.Protocol as protocol
@@ -225,17 +226,17 @@ Slot-send N g s =
     variants_send (Slot.enum N g) (tt, ((Letter-send N g s, tt), ((search (r, sendable), tt), tt)))
 
 pub Mailbox-send : (N : RattleType) (g : Ghosts N.Denot) → IsSend N → IsSend (Mailbox.the_row N g)
-Mailbox-send N g s = let l = Slot-send N g s in declared_send (Mailbox.the_type N g) (search (l, sendable, crosses), tt)
+Mailbox-send N g s = let l = Slot-send N g s in declared_send (Mailbox.the_type N g) (search (l, sendable, crosses), (search sendable, tt))
 
-pub Mailbox-lock-send : (N : RattleType) (g : Ghosts N.Denot) → IsSend N → IsSend (Mutex.the_row (Mailbox.the_row N g))
-Mailbox-lock-send N g s = let m = Mailbox-send N g s in search (m, sendable, crosses) depth 40 fits 4000
+pub Shared-mailbox-send : (N : RattleType) (g : Ghosts N.Denot) → IsSend N → IsSend (SharedMailbox.the_row N g)
+Shared-mailbox-send N g s = let l = Mailbox-send N g s in declared_send (SharedMailbox.the_type N g) (search (l, sendable, crosses) depth 40 fits 4000, (search (sendable, crosses), tt))
 
-pub Mailbox-lock-sync : (N : RattleType) (g : Ghosts N.Denot) → IsSend N → IsSync (Mutex.the_row (Mailbox.the_row N g))
-Mailbox-lock-sync N g s = let m = Mailbox-send N g s in search (m, sendable, crosses) depth 40 fits 4000
+pub Shared-mailbox-sync : (N : RattleType) (g : Ghosts N.Denot) → IsSend N → IsSync (SharedMailbox.the_row N g)
+Shared-mailbox-sync N g s = let l = Mailbox-send N g s in declared_sync (SharedMailbox.the_type N g) (search (l, sendable, crosses) depth 40 fits 4000, (search (sendable, crosses), tt))
 
 -- a seat's place at it, as a field
 pub Place-field-send : (N : RattleType) (g : Ghosts N.Denot) → IsSend N → IsSend (Place.the_field N g).row
-Place-field-send N g s = struct_send (shape (Place.the_type N g)) (heap.the_field_send, (Arc-send _ (Mailbox-lock-send N g s) (Mailbox-lock-sync N g s), (search sendable, tt)))
+Place-field-send N g s = struct_send (shape (Place.the_type N g)) (heap.the_field_send, (Arc-send _ (Shared-mailbox-send N g s) (Shared-mailbox-sync N g s), (search sendable, tt)))
 
 pub Seat-send : (N D : RattleType) (g : Ghosts N.Denot) → IsSend N → IsSync N → IsSend D → IsSync D → IsSend (Seat.the_row N D g)
 Seat-send N D g s y sd yd =

@@ -1,4 +1,4 @@
-// The mailbox of a room, where seats leave their requests for whoever has the desk.
+// The mailbox of a room, where seats leave their requests for the one that leads.
 ghost use Rattle.std.specs.Prelude.{◌≡◌, IfOk, IfSome, IsTrue, MatchOption, slice_get, slice_set};
 ghost use mathlib.Core.List.{IsPrefix};
 ghost use Rattle.canvas_server.specs.Asked.{seen_request};
@@ -55,10 +55,11 @@ pub enum Slot<N: RoomName> {
     Answered(Reply<N>),
 }
 
-/// A slot for each seat of a room.
+/// A slot for each seat of a room, and whether a seat leads: it is to have what waits committed.
 #[derive(Drop)]
 pub struct Mailbox<N: RoomName> {
     slots: Vec<Slot<N>>,
+    is_led: bool,
 }
 
 // A request once more. Fails only where memory is refused.
@@ -137,13 +138,16 @@ impl<N: RoomName> Reply<N> {
 }
 
 impl<N: RoomName> Mailbox<N> {
-    /// A mailbox of so many slots, all empty. Fails only where memory is refused.
+    /// A mailbox of so many slots, all empty, that nobody leads. Fails only where memory is refused.
     pub fn new(alloc: Global, seats: usize) -> Result<Mailbox<N>, AllocError> {
         let mut slots = Vec::with_capacity(alloc, seats)?;
         for _ in 0..seats {
             slots.push(Slot::Empty)?;
         }
-        Ok(Mailbox { slots })
+        Ok(Mailbox {
+            slots,
+            is_led: false,
+        })
     }
 
     /// Puts this into the slot of a seat, in place of what is there.
@@ -198,6 +202,18 @@ impl<N: RoomName> Mailbox<N> {
                 None
             }
         }
+    }
+
+    /// Whether a seat is to go on waiting: another leads, and its own slot has no reply.
+    pub fn is_pending(&self, seat: usize) -> bool {
+        self.is_led && !matches!(self.slots.get(seat), Some(Slot::Answered(_)))
+    }
+
+    /// Says whether a seat leads from now on.
+    pub fn set_led(&mut self, is_led: bool)
+        ensures { self.new.slots ≡ self.old.slots }
+    {
+        self.is_led = is_led;
     }
 
     /// Whether a letter waits in the slot of another seat.

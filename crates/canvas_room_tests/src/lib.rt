@@ -10,4 +10,6 @@ mod rooms;
 #[cfg(test)]
 mod seats;
 #[cfg(test)]
+mod syncs;
+#[cfg(test)]
 mod threads;

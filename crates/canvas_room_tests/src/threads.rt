@@ -14,8 +14,8 @@ use std::sync::atomic::{AtomicBool, Ordering};
 use std::test::Fail;
 use std::thread::{Threads, join, map_vec, yield_now};
 
-// What one thread makes of a value that is sent to it, and what this one gives meanwhile.
-fn apart<S: Send + Drop, A: Send, B, F: Fn(S) -> A + Sync, G: FnOnce() -> B, R: Threads>(
+/// What one thread makes of a value that is sent to it, and what this one gives meanwhile.
+pub fn apart<S: Send + Drop, A: Send, B, F: Fn(S) -> A + Sync, G: FnOnce() -> B, R: Threads>(
     rt: &R,
     value: S,
     there: &F,
