@@ -229,10 +229,10 @@ pub Mailbox-send : (N : RattleType) (g : Ghosts N.Denot) → IsSend N → IsSend
 Mailbox-send N g s = let l = Slot-send N g s in declared_send (Mailbox.the_type N g) (search (l, sendable, crosses), (search sendable, tt))
 
 pub Shared-mailbox-send : (N : RattleType) (g : Ghosts N.Denot) → IsSend N → IsSend (SharedMailbox.the_row N g)
-Shared-mailbox-send N g s = let l = Mailbox-send N g s in declared_send (SharedMailbox.the_type N g) (search (l, sendable, crosses) depth 40 fits 4000, (search (sendable, crosses), tt))
+Shared-mailbox-send N g s = let l = Mailbox-send N g s in declared_send (SharedMailbox.the_type N g) (search (l, sendable, crosses) depth 40 fits 4000, (search (sendable, crosses) depth 40 fits 4000, tt))
 
 pub Shared-mailbox-sync : (N : RattleType) (g : Ghosts N.Denot) → IsSend N → IsSync (SharedMailbox.the_row N g)
-Shared-mailbox-sync N g s = let l = Mailbox-send N g s in declared_sync (SharedMailbox.the_type N g) (search (l, sendable, crosses) depth 40 fits 4000, (search (sendable, crosses), tt))
+Shared-mailbox-sync N g s = let l = Mailbox-send N g s in declared_sync (SharedMailbox.the_type N g) (search (l, sendable, crosses) depth 40 fits 4000, (search (sendable, crosses) depth 40 fits 4000, tt))
 
 -- a seat's place at it, as a field
 pub Place-field-send : (N : RattleType) (g : Ghosts N.Denot) → IsSend N → IsSend (Place.the_field N g).row

@@ -216,6 +216,18 @@ impl<N: RoomName> Mailbox<N> {
         self.is_led = is_led;
     }
 
+    /// Whether a letter waits in the slot of a seat.
+    pub fn has_letter(&self, seat: usize) -> bool {
+        matches!(self.slots.get(seat), Some(Slot::Waiting(_)))
+    }
+
+    /// A seat whose letter waits, if there is one.
+    pub fn some_waiting(&self) -> Option<usize> {
+        self.slots
+            .iter()
+            .position(|slot| matches!(slot, Slot::Waiting(_)))
+    }
+
     /// Whether a letter waits in the slot of another seat.
     pub fn has_others(&self, seat: usize) -> bool {
         for (other, slot) in self.slots.iter().enumerate() {

@@ -14,11 +14,11 @@ use canvas_server::Request;
 use std::alloc::{AllocError, Global};
 use std::sync::{Arc, Condvar, Mutex, Wait};
 
-/// The mailbox of a room, and the call to all seats that wait at it, when the one that led has stepped down.
+/// The mailbox of a room, and for each seat the call that it waits for there.
 #[derive(Drop)]
 pub struct SharedMailbox<N: RoomName> {
     mailbox: Mutex<Mailbox<N>>,
-    stepped_down: Condvar,
+    calls: Vec<Condvar>,
 }
 
 /// The slot of a seat in the mailbox of its room.
@@ -32,9 +32,13 @@ pub struct Place<N: RoomName> {
 impl<N: RoomName> SharedMailbox<N> {
     /// The mailbox of a room with so many seats. Fails only where memory is refused.
     pub fn new(alloc: Global, seats: usize) -> Result<SharedMailbox<N>, AllocError> {
+        let mut calls = Vec::with_capacity(alloc, seats)?;
+        for _ in 0..seats {
+            calls.push(Condvar::new())?;
+        }
         Ok(SharedMailbox {
             mailbox: Mutex::new(Mailbox::new(alloc, seats)?),
-            stepped_down: Condvar::new(),
+            calls,
         })
     }
 }
@@ -65,16 +69,12 @@ impl<N: RoomName> Place<N> {
     pub fn follow<W: Wait>(&self, rt: &W, request: &Request, seen: &Front<N>) -> Option<Told<N>>
         ensures { IfSome result (λ told. IsAnswerTo N.opening seen.now (seen_request request.now) told.answer told.learns) }
     {
-        let SharedMailbox {
-            mailbox,
-            stepped_down,
-        } = &*self.shared;
+        let SharedMailbox { mailbox, calls } = &*self.shared;
         let seat = self.seat;
-        let mut mailbox = stepped_down.wait_while(
-            rt,
-            mailbox.lock(rt),
-            |mailbox| mailbox.is_pending(seat),
-        );
+        let mut mailbox = mailbox.lock(rt);
+        if let Some(call) = calls.get(seat) {
+            mailbox = call.wait_while(rt, mailbox, |mailbox| mailbox.is_pending(seat));
+        }
         if let Some(reply) = mailbox.take_reply(seat) {
             if let Some(told) = reply.told_of(request, seen) {
                 return Some(told);
@@ -84,10 +84,25 @@ impl<N: RoomName> Place<N> {
         None
     }
 
-    /// This seat leads no more: wakes all that wait, of which another may lead.
+    // Says that no seat leads, and tells of one whose request waits.
+    fn end_lead<W: Wait>(&self, rt: &W) -> Option<usize> {
+        let mut mailbox = self.shared.mailbox.lock(rt);
+        mailbox.set_led(false);
+        mailbox.some_waiting()
+    }
+
+    /// This seat leads no more. Calls one whose request waits, so that it leads; and then all whose request doesn't, since it was answered,
+    /// or was left out and comes alone.
     pub fn step_down<W: Wait>(&self, rt: &W) {
-        self.shared.mailbox.lock(rt).set_led(false);
-        self.shared.stepped_down.notify_all();
+        let SharedMailbox { mailbox, calls } = &*self.shared;
+        if let Some(call) = self.end_lead(rt).and_then(|seat| calls.get(seat)) {
+            call.notify_one();
+        }
+        for (seat, call) in calls.iter().enumerate() {
+            if !mailbox.lock(rt).has_letter(seat) {
+                call.notify_one();
+            }
+        }
     }
 
     /// Takes what was told of a request, if it stands in the slot; a request that waits there is taken back. It may wait for the mailbox's
