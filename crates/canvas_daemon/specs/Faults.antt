@@ -6,7 +6,6 @@ use Rattle.canvas_shelf.specs.declared.shelf.ShelfError.{ShelfError}
 use Rattle.canvas_shelf.specs.declared.shelf.ShelfError.TheVariants as shelf
 use Rattle.canvas_journal.specs.declared.fault.OpenError.{OpenError}
 use Rattle.canvas_journal.specs.declared.fault.OpenError.TheVariants as opening
-use Rattle.canvas_judge.specs.declared.message.NoReason.{NoReason}
 use Rattle.canvas_nodes.specs.declared.link.LinkError.{LinkError}
 use Rattle.canvas_nodes.specs.declared.link.LinkError.TheVariants as link
 use Rattle.canvas_room.specs.declared.faults.RoomError.{RoomError}
@@ -74,3 +73,12 @@ abbrev pub fault_of_lines : lines.Fault → Fault
 fault_of_lines (line.BadLine n) = BadLine n
 fault_of_lines line.Memory = Memory
 fault_of_lines line.Stream = Device
+
+-- the fault is want of memory, or a device, socket or stream that failed
+abbrev pub IsMemoryOrDevice : Fault → Type 0
+IsMemoryOrDevice Usage = ⊥
+IsMemoryOrDevice (BadLine n) = ⊥
+IsMemoryOrDevice Memory = Unit {0}
+IsMemoryOrDevice Device = Unit {0}
+IsMemoryOrDevice (Damaged segment offset) = ⊥
+IsMemoryOrDevice TooLarge = ⊥

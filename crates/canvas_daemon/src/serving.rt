@@ -1,13 +1,17 @@
 // What `canvasd serve` does: a room over the journal of a folder, each of whose seats answers one connection.
-ghost use Rattle.std.specs.Prelude.{◌≡◌};
+ghost use Rattle.std.specs.Prelude.{◌≡◌, IfErr, IfOk, OnOk, length, string_bytes};
+ghost use Rattle.std.specs.Io.KnownBytes.{Appends};
+ghost use Rattle.canvas_daemon.specs.Faults.{IsMemoryOrDevice};
+ghost use Rattle.canvas_daemon.specs.Served.{BeginsServing, IsServeFault, WritesServed, served_line, serving_line};
 
 use crate::fault::Fault;
 use canvas_board::{Opening, RoomName};
 use canvas_front::SeatAnswerer;
 use canvas_journal::{Journal, Keeper, open};
 use canvas_nodes::serve_one;
-use canvas_room::{BlankRoom, Lock, Seat, blank_room};
+use canvas_room::{BlankRoom, Lock, Room, Seat, blank_room};
 use canvas_shelf::DirShelf;
+use std::alloc::{AllocError, Global};
 use std::io::Write;
 use std::marker::Brand;
 use std::net::{Ipv4Addr, Net, SocketAddr, TcpListener, TcpStream};
@@ -15,12 +19,13 @@ use std::sync::Wait;
 use std::thread::{Threads, map_vec};
 
 /// Opens the document of a folder, which is made where it is missing, listens at a port of the own machine, and serves so many
-/// connections, each in a thread of its own. Writes `serving PORT version V` before it accepts the first, and `served N version V`
+/// connections, each in a thread of its own. Writes `serving PORT version V` before it accepts the first, and `served N version W`
 /// after the last has ended. A connection whose handshake fails has ended.
 ///
 /// The errors: `Device`, where the folder, the port or the output failed; `Damaged`, for the first record of the journal that isn't
-/// what it has to be; `TooLarge`, where the journal has no room for its checkpoint; `Memory`, where memory was refused. Where no thread
-/// can be made, connections are served one after the other.
+/// what it has to be; `TooLarge`, where the journal has no room for its checkpoint; `Memory`, where memory was refused; `Usage`, only
+/// for fewer connections than 1 or more than 64. With an error other than `Device` nothing was written, or the first line alone. Where
+/// no thread can be made, connections are served one after the other.
 pub fn serve<R, W>(
     rt: &R,
     files: HostRuntime,
@@ -39,6 +44,11 @@ where
         + Sync
         + Drop,
     W: Write,
+    ensures told { OnOk result
+        (WritesServed port connections (W.contents output.old) (W.contents output.new)) }
+    ensures begun { IfErr result (λ fault. (fault ≡ Fault.Device → ⊥) →
+        BeginsServing port (W.contents output.old) (W.contents output.new)) }
+    ensures faults { IfErr result (IsServeFault connections) }
 {
     let room = open_room(files, dir, connections)?;
     let listener = listen(rt, port)?;
@@ -52,7 +62,10 @@ pub(crate) fn open_room(
     files: HostRuntime,
     dir: &str,
     seats: u32,
-) -> Result<BlankRoom<Journal<DirShelf<HostRuntime>>>, Fault> {
+) -> Result<BlankRoom<Journal<DirShelf<HostRuntime>>>, Fault>
+    ensures seats { IfOk result (λ room. room.seats ≡ seats) }
+    ensures faults { IfErr result (IsServeFault seats) }
+{
     let alloc = files.alloc();
     let shelf = DirShelf::new(files, dir)?;
     let (journal, state, version) = match open(alloc, shelf) {
@@ -67,9 +80,31 @@ pub(crate) fn open_room(
 }
 
 /// Listens at a port of the own machine, or at any free one for 0.
-pub(crate) fn listen<R: Net>(rt: &R, port: u16) -> Result<R::Listener, Fault> {
+pub(crate) fn listen<R: Net>(rt: &R, port: u16) -> Result<R::Listener, Fault>
+    ensures { IfErr result (λ fault. fault ≡ Fault.Device) }
+{
     let address = SocketAddr::from((Ipv4Addr::LOCALHOST, port));
     TcpListener::bind(rt, address).map_err(|_| Fault::Device)
+}
+
+// A room with its seats.
+type Opened<K, N, R> = (Room<K, N, R>, Vec<Seat<N, Lock<K, N, R>>>);
+
+/// The room with its seats. A room isn't opened only where memory is refused.
+pub(crate) fn opened<N, K, R>(rt: &R, room: BlankRoom<K>) -> Result<Opened<K, N, R>, Fault>
+where
+    N: RoomName,
+    K: Keeper + Drop,
+    R: Wait + Clone + Drop,
+    requires book { room.book ≡ N.book }
+    requires opening { room.opening ≡ N.opening }
+    ensures seats { IfOk result (λ opened. length opened.1.items ≡ room.seats) }
+    ensures fault { IfErr result (λ fault. fault ≡ Fault.Memory) }
+{
+    match room.open::<N, R>(rt.clone()?) {
+        Ok(opened) => Ok(opened),
+        Err(_) => Err(Fault::Memory),
+    }
 }
 
 // Serves one connection for each seat of a room, and tells of it.
@@ -87,20 +122,33 @@ where
     W: Write,
     requires book { room.book ≡ N.book }
     requires opening { room.opening ≡ N.opening }
+    ensures told { OnOk result
+        (WritesServed port room.seats (W.contents output.old) (W.contents output.new)) }
+    ensures begun { IfErr result (λ fault. (fault ≡ Fault.Device → ⊥) →
+        BeginsServing port (W.contents output.old) (W.contents output.new)) }
+    ensures faults { IfErr result IsMemoryOrDevice }
 {
-    let (room, seats) = room.open::<N, R>(rt.clone()?)?;
+    let (room, seats) = opened::<N, K, R>(rt, room)?;
     let count = seats.len();
     let version = room.desk(rt).version();
-    write_line(
-        output,
-        format!(in rt.alloc(); "serving {port} version {version}\n")?,
-    )?;
+    write_line(output, serving_line(rt.alloc(), port, version)?)?;
     serve_seats(rt, listener, seats)?;
     let version = room.desk(rt).version();
-    write_line(
-        output,
-        format!(in rt.alloc(); "served {count} version {version}\n")?,
-    )
+    write_line(output, served_line(rt.alloc(), count, version)?)
+}
+
+// The line of a server that begins.
+fn serving_line(alloc: Global, port: u16, version: u64) -> Result<String, AllocError>
+    ensures { IfOk result (λ line. string_bytes line ≡ serving_line port version) }
+{
+    format!(in alloc; "serving {port} version {version}\n")
+}
+
+// The line of a server that has ended.
+fn served_line(alloc: Global, count: usize, version: u64) -> Result<String, AllocError>
+    ensures { IfOk result (λ line. string_bytes line ≡ served_line count version) }
+{
+    format!(in alloc; "served {count} version {version}\n")
 }
 
 /// Accepts a connection for each seat, and serves each in a thread of its own. Returns once all have ended.
@@ -115,6 +163,7 @@ where
     N: RoomName + Send + Sync,
     K: Keeper + Drop + Send,
     R: Threads + Wait + AllocGlobal + Clone + Send + Sync + Drop,
+    ensures { IfErr result IsMemoryOrDevice }
 {
     let ended = map_vec(rt, seats, &|seat| serve_next(rt, listener, seat))?;
     for end in ended {
@@ -133,6 +182,7 @@ where
     N: RoomName,
     K: Keeper + Drop,
     R: Wait + AllocGlobal + Clone + Drop,
+    ensures { IfErr result IsMemoryOrDevice }
 {
     let (stream, _address) = listener.accept().map_err(|_| Fault::Device)?;
     serve_stream(rt, seat, stream)
@@ -148,6 +198,7 @@ where
     N: RoomName,
     K: Keeper + Drop,
     R: Wait + AllocGlobal + Clone + Drop,
+    ensures { IfErr result IsMemoryOrDevice }
 {
     let alloc = rt.alloc();
     // Each answer leaves at once; without this some would wait for an acknowledgement.
@@ -160,7 +211,11 @@ where
 }
 
 // Writes a line, and flushes the output.
-fn write_line<W: Write>(output: &mut W, line: String) -> Result<(), Fault> {
+fn write_line<W: Write>(output: &mut W, line: String) -> Result<(), Fault>
+    ensures bytes { OnOk result
+        (Appends (W.contents output.old) (W.contents output.new) (string_bytes line)) }
+    ensures fault { IfErr result (λ fault. fault ≡ Fault.Device) }
+{
     canvas_lines::write_out(output, line.as_bytes())?;
     Ok(())
 }

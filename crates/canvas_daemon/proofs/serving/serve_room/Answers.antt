@@ -1,0 +1,32 @@
+use Rattle.std.proofs.Common.{rules, ◌≡◌, List, ℕ, ap, subst, inr, ◌∙◌}
+use Rattle.std.proofs.KnownBytes.{Appends-trans}
+use Rattle.std.proofs.lemmas.Result.{err_from_is_err_and, on_ok_weaker}
+use Rattle.std.specs.Io.KnownBytes.{Appends}
+use Rattle.canvas_daemon.specs.Served.{served_line, serving_line}
+use Rattle.canvas_daemon.proofs.serving.serve_room.Goals as goal
+
+pub returns-in_err-serve_seats-clause-begun : goal.returns-in_err-serve_seats-clause-begun
+returns-in_err-serve_seats-clause-begun g c =
+    let first = subst (λ (t : List ℕ). Appends (g.W.Write.contents c.args.output.now) (g.W.Write.contents c.write_line.new.output) t) c.in_ok-serving_line.ensures c.in_ok-write_line.ensures.bytes in
+    let p = err_from_is_err_and c.from_residual-in_err-serve_seats.result c.from_residual-in_err-serve_seats.ensures.1 in
+    rw p.1 (λ other. inr (c.version-version.result, first))
+
+pub returns-in_err-served_line-clause-begun : goal.returns-in_err-served_line-clause-begun
+returns-in_err-served_line-clause-begun g c =
+    let first = subst (λ (t : List ℕ). Appends (g.W.Write.contents c.args.output.now) (g.W.Write.contents c.write_line.new.output) t) c.in_ok-serving_line.ensures c.in_ok-write_line.ensures.bytes in
+    let p = err_from_is_err_and c.from_residual-in_err-served_line.result c.from_residual-in_err-served_line.ensures.1 in
+    rw p.1 (λ other. inr (c.version-version.result, first))
+
+pub returns-clause-told : goal.returns-clause-told
+returns-clause-told g c =
+    let first = subst (λ (t : List ℕ). Appends (g.W.Write.contents c.args.output.now) (g.W.Write.contents c.write_line.new.output) t) c.in_ok-serving_line.ensures c.in_ok-write_line.ensures.bytes in
+    let count : c.len-count.result ≡ c.args.room.seats = search rules in
+    let line = c.in_ok-served_line.ensures ∙ ap (λ n. served_line n c.version-version-2.result) count in
+    on_ok_weaker c.write_line-2.result
+    (λ told. (
+      c.version-version.result,
+      c.version-version-2.result,
+      Appends-trans _ _ _ (serving_line c.args.port c.version-version.result) (served_line c.args.room.seats c.version-version-2.result) first
+          (subst (λ (t : List ℕ). Appends (g.W.Write.contents c.write_line.new.output) (g.W.Write.contents c.write_line-2.new.output) t) line told),
+    ))
+    c.write_line-2.ensures.bytes
