@@ -1,1 +1,4 @@
+pub mod Faulty
 pub mod Numbers
+pub mod Playing
+pub mod Taking

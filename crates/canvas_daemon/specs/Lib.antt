@@ -1,3 +1,5 @@
+pub mod Answered
+pub mod Edited
 pub mod Faults
 pub mod Served
 pub mod Shown

@@ -1,41 +1,55 @@
 // What `canvasd edit` does: a client that plays the lines of its input.
+ghost use Rattle.std.specs.Prelude.{◌≡◌, ◌↔◌, ◌-◌, [], ◌∷◌, IfErr, IfOk, IsTrue, MatchOption, OnOk, length, slice_get};
+ghost use Rattle.canvas_daemon.specs.Answered.{AnswersEdit, AnswersLine, IsUnreadable, MakesEdit, SpellsNoEdit};
+ghost use Rattle.canvas_daemon.specs.Edited.{HasEnded, IsCutBy, IsLeftBy, IsLineCutBy, IsPlayed, PlaysAll, TakesLines};
+ghost use Rattle.canvas_daemon.specs.Faults.{IsMemoryOrDevice};
+ghost use Rattle.canvas_world.specs.Seen.{seen_answer};
+
 use crate::fault::Fault;
 use crate::node::Node;
-use canvas_client::EditError;
+use canvas_client::{EditError, EditRequest};
 use canvas_lines::lines::is_passed;
 use canvas_lines::{LineError, write_out};
 use canvas_script::{answer_line, read_edit};
 use canvas_world::Answer;
-use std::alloc::Global;
+use std::alloc::{AllocError, Global};
 use std::io::{BufRead, ErrorKind, Write};
 use std::net::{Ipv4Addr, Net, SocketAddr, TcpStream};
 use std::random::RandomSource;
 
 /// Joins the server at a port of the own machine, and plays the lines of the input: an edit is made in the client's document,
 /// `exchange` sends what waits and asks for what is new, and `show` writes the client's block. Each answer is written before the next
-/// line is read. At the end of the input it exchanges and shows.
+/// line is read. At the end of the input it exchanges, and writes its version and its block.
 ///
 /// An edit is answered `edit N`, or `refused NAME` where the client refuses it, and `exchange` by `version B waiting W`. Empty lines
 /// and those that begin with `#` are passed over.
 ///
-/// The errors: `BadLine`, for the first line that can't be read; `Device`, where the socket, the input or the output failed, or the
-/// server answered a No; `Memory`, where memory was refused.
+/// The errors: `BadLine`, for the first line that can't be read, and then the answers to the lines before it were written, and no more;
+/// `Device`, where the socket, the input or the output failed, or the server answered a No; `Memory`, where memory was refused, and
+/// then the answers to some of the first lines were written, with the version at most behind those to all.
 pub fn edit<R, I, W>(rt: &R, port: u16, input: &mut I, output: &mut W) -> Result<(), Fault>
 where
     R: Net<Stream = TcpStream> + RandomSource + AllocGlobal + Clone + Drop,
     I: BufRead,
     W: Write,
+    ensures played { OnOk result (IsPlayed
+        (I.remaining input.old) (I.remaining input.new)
+        (W.contents output.old) (W.contents output.new)) }
+    ensures left { IfErr result (IsLeftBy
+        (I.remaining input.old) (I.remaining input.new)
+        (W.contents output.old) (W.contents output.new)) }
 {
     let alloc = rt.alloc();
     let mut node = Node::joined(rt, connect(rt, port)?)?;
     play(alloc, &mut node, input, output)?;
-    node.exchange(alloc)?;
-    node.tell(alloc, output)?;
+    node.exchange_and_tell(alloc, output)?;
     node.show(alloc, output)
 }
 
 /// Connects to a port of the own machine.
-pub(crate) fn connect<R: Net<Stream = TcpStream>>(rt: &R, port: u16) -> Result<TcpStream, Fault> {
+pub(crate) fn connect<R: Net<Stream = TcpStream>>(rt: &R, port: u16) -> Result<TcpStream, Fault>
+    ensures { IfErr result (λ fault. fault ≡ Fault.Device) }
+{
     let address = SocketAddr::from((Ipv4Addr::LOCALHOST, port));
     TcpStream::connect(rt, address).map_err(|_| Fault::Device)
 }
@@ -51,28 +65,30 @@ where
     R: RandomSource + AllocGlobal + Clone + Drop,
     I: BufRead,
     W: Write,
+    ensures played { OnOk result (PlaysAll node.old.client
+        (I.remaining input.old) (I.remaining input.new)
+        (W.contents output.old) (W.contents output.new) node.new.client) }
+    ensures cut { IfErr result (IsCutBy node.old.client
+        (I.remaining input.old) (I.remaining input.new)
+        (W.contents output.old) (W.contents output.new)) }
 {
     for number in 1..u64::MAX {
         let Some(line) = next_line(alloc, input)? else {
             return Ok(());
         };
-        if is_passed(&line) {
-            continue;
-        }
-        match line.as_slice() {
-            b"exchange" => {
-                node.exchange(alloc)?;
-                node.tell(alloc, output)?;
-            }
-            b"show" => node.show(alloc, output)?,
-            edit => play_edit(alloc, node, number, edit, output)?,
-        }
+        play_line(alloc, node, number, &line, output)?;
     }
     Err(Fault::Device)
 }
 
 // The next line of the input, without its line feed; `None` at its end.
-fn next_line<I: BufRead>(alloc: Global, input: &mut I) -> Result<Option<Vec<u8>>, Fault> {
+fn next_line<I: BufRead>(alloc: Global, input: &mut I) -> Result<Option<Vec<u8>>, Fault>
+    ensures taken { IfOk result (λ next. MatchOption next
+        (TakesLines (I.remaining input.old) (I.remaining input.new) []
+        × HasEnded (I.remaining input.old) (I.remaining input.new))
+        (λ line. TakesLines (I.remaining input.old) (I.remaining input.new) (line.items ∷ []))) }
+    ensures faults { IfErr result IsMemoryOrDevice }
+{
     let mut line = Vec::new(alloc);
     match input.read_until(b'\n', &mut line) {
         Ok(0) => return Ok(None),
@@ -85,10 +101,46 @@ fn next_line<I: BufRead>(alloc: Global, input: &mut I) -> Result<Option<Vec<u8>>
             });
         }
     }
-    if line.last() == Some(&b'\n') {
+    if ends_with_feed(&line) {
         line.pop();
     }
     Ok(Some(line))
+}
+
+// Whether a line feed ends the text.
+fn ends_with_feed(text: &[u8]) -> bool
+    ensures { IsTrue result ↔ (slice_get text.now (length text.now - 1) ≡ Some 10) }
+{
+    match text.last() {
+        Some(byte) => *byte == b'\n',
+        None => false,
+    }
+}
+
+// Does what a line asks for, and writes its answer.
+fn play_line<R, W>(
+    alloc: Global,
+    node: &mut Node<R>,
+    number: u64,
+    line: &[u8],
+    output: &mut W,
+) -> Result<(), Fault>
+where
+    R: RandomSource + AllocGlobal + Clone + Drop,
+    W: Write,
+    ensures answered { OnOk result (AnswersLine node.old.client line.now
+        (W.contents output.old) (W.contents output.new) node.new.client) }
+    ensures cut { IfErr result (IsLineCutBy number (IsUnreadable line.now)
+        (W.contents output.old) (W.contents output.new)) }
+{
+    if is_passed(line) {
+        return Ok(());
+    }
+    match line {
+        b"exchange" => node.exchange_and_tell(alloc, output),
+        b"show" => node.show(alloc, output),
+        edit => play_edit(alloc, node, number, edit, output),
+    }
 }
 
 // Makes the edit that a line spells, and writes its answer.
@@ -102,18 +154,31 @@ fn play_edit<R, W>(
 where
     R: RandomSource + AllocGlobal + Clone + Drop,
     W: Write,
+    ensures answered { OnOk result (AnswersEdit node.old.client line.now
+        (W.contents output.old) (W.contents output.new) node.new.client) }
+    ensures cut { IfErr result (IsLineCutBy number (SpellsNoEdit line.now)
+        (W.contents output.old) (W.contents output.new)) }
 {
     let request = match read_edit(alloc, line) {
         Ok(request) => request,
         Err(LineError::Unreadable) => return Err(Fault::BadLine(number)),
         Err(LineError::Memory) => return Err(Fault::Memory),
     };
-    let answer = match node.edit(&request) {
-        Ok(edit) => Answer::EditIs(edit),
-        Err(EditError::Memory) => return Err(Fault::Memory),
-        Err(error) => Answer::RefusedEdit(error),
-    };
+    let answer = made(node, &request)?;
     let line = answer_line(alloc, &answer)?;
     write_out(output, line.as_bytes())?;
     Ok(())
+}
+
+// Makes an edit, and answers its number, or why the client refuses it. Fails only where memory is refused.
+fn made<R>(node: &mut Node<R>, request: &EditRequest) -> Result<Answer, AllocError>
+where
+    R: RandomSource + AllocGlobal + Clone + Drop,
+    ensures { IfOk result (λ answer. MakesEdit node.old.client request.now (seen_answer answer) node.new.client) }
+{
+    match node.edit(request) {
+        Ok(edit) => Ok(Answer::EditIs(edit)),
+        Err(EditError::Memory) => Err(AllocError),
+        Err(error) => Ok(Answer::RefusedEdit(error)),
+    }
 }

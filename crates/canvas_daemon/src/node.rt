@@ -1,5 +1,11 @@
 // A client with its link to a server, and what it writes of itself.
-ghost use Rattle.std.specs.Prelude.{◌≡◌, IsSome};
+ghost use Rattle.std.specs.Prelude.{◌≡◌, ◌+◌, IfErr, IfOk, IsSome, OnErr, OnOk};
+ghost use Rattle.std.specs.Io.KnownBytes.{Appends};
+ghost use Rattle.canvas_client.specs.Asked.{HasMade, IsRefusal, refusal};
+ghost use Rattle.canvas_model.specs.Client.{last_number};
+ghost use Rattle.canvas_nodes.specs.GoesOn.{GoesOn};
+ghost use Rattle.canvas_daemon.specs.Answered.{HasJoined, WritesBlock, version_line};
+ghost use Rattle.canvas_daemon.specs.Faults.{IsMemoryOrDevice};
 
 use crate::fault::Fault;
 use canvas_client::{Client, EditError, EditRequest};
@@ -29,7 +35,10 @@ impl<R: RandomSource + AllocGlobal + Clone + Drop> Node<R> {
     /// A client that joins the server at the other end of a stream.
     ///
     /// The errors: `Device`, where the handshake or the socket failed, or the server answered a No; `Memory`, where memory was refused.
-    pub fn joined(rt: &R, stream: TcpStream) -> Result<Node<R>, Fault> {
+    pub fn joined(rt: &R, stream: TcpStream) -> Result<Node<R>, Fault>
+        ensures joined { IfOk result (λ node. HasJoined node.client) }
+        ensures faults { IfErr result IsMemoryOrDevice }
+    {
         let alloc = rt.alloc();
         // Each message leaves at once; without this some would wait for an acknowledgement.
         let _ = stream.set_nodelay(true);
@@ -55,7 +64,12 @@ impl<R: RandomSource + AllocGlobal + Clone + Drop> Node<R> {
     }
 
     /// Makes an edit, as the client's `edit` does.
-    pub fn edit(&mut self, request: &EditRequest) -> Result<u64, EditError> {
+    pub fn edit(&mut self, request: &EditRequest) -> Result<u64, EditError>
+        ensures ok { OnOk result (HasMade self.old.client request.now self.new.client) }
+        ensures number { IfOk result (λ n. n ≡ last_number self.old.client + 1) }
+        ensures refused { IfErr result (λ error. IsRefusal self.old.client request.now (refusal error)) }
+        ensures err { OnErr result (self.new.client ≡ self.old.client) }
+    {
         self.client.edit(request)
     }
 
@@ -73,13 +87,37 @@ impl<R: RandomSource + AllocGlobal + Clone + Drop> Node<R> {
     /// Sends what waits, and asks for what is new.
     ///
     /// The errors: `Device`, where the socket failed or the server answered a No; `Memory`, where memory was refused.
-    pub fn exchange(&mut self, alloc: Global) -> Result<(), Fault> {
+    pub fn exchange(&mut self, alloc: Global) -> Result<(), Fault>
+        ensures goes_on { GoesOn self.old.client self.new.client }
+        ensures faults { IfErr result IsMemoryOrDevice }
+    {
         exchange(alloc, &mut self.client, &mut self.link)?;
         Ok(())
     }
 
+    /// Exchanges, and then writes `version B waiting W`.
+    pub fn exchange_and_tell<W: Write>(
+        &mut self,
+        alloc: Global,
+        output: &mut W,
+    ) -> Result<(), Fault>
+        ensures goes_on { GoesOn self.old.client self.new.client }
+        ensures told { OnOk result
+            (Appends (W.contents output.old) (W.contents output.new) (version_line self.new.client)) }
+        ensures unwritten { IfErr result (λ fault. (fault ≡ Fault.Device → ⊥) → W.contents output.new ≡ W.contents output.old) }
+        ensures faults { IfErr result IsMemoryOrDevice }
+    {
+        self.exchange(alloc)?;
+        self.tell(alloc, output)
+    }
+
     /// Writes `version B waiting W`.
-    pub fn tell<W: Write>(&self, alloc: Global, output: &mut W) -> Result<(), Fault> {
+    pub fn tell<W: Write>(&self, alloc: Global, output: &mut W) -> Result<(), Fault>
+        ensures told { OnOk result
+            (Appends (W.contents output.old) (W.contents output.new) (version_line self.now.client)) }
+        ensures unwritten { IfErr result (λ fault. (fault ≡ Fault.Device → ⊥) → W.contents output.new ≡ W.contents output.old) }
+        ensures faults { IfErr result IsMemoryOrDevice }
+    {
         let version = self.client.version();
         let waiting = self.client.unacknowledged();
         let line = format!(in alloc; "version {version} waiting {waiting}\n")?;
@@ -88,7 +126,12 @@ impl<R: RandomSource + AllocGlobal + Clone + Drop> Node<R> {
     }
 
     /// Writes the client's block.
-    pub fn show<W: Write>(&self, alloc: Global, output: &mut W) -> Result<(), Fault> {
+    pub fn show<W: Write>(&self, alloc: Global, output: &mut W) -> Result<(), Fault>
+        ensures shown { OnOk result
+            (WritesBlock self.now.client (W.contents output.old) (W.contents output.new)) }
+        ensures unwritten { IfErr result (λ fault. (fault ≡ Fault.Device → ⊥) → W.contents output.new ≡ W.contents output.old) }
+        ensures faults { IfErr result IsMemoryOrDevice }
+    {
         let mut block = Vec::new(alloc);
         write_client(alloc, OWN_NAME, &self.client, &mut block)?;
         write_out(output, &block)?;
