@@ -3,4 +3,5 @@ pub mod Edited
 pub mod Faults
 pub mod Served
 pub mod Shown
+pub mod Trials
 pub mod Words

@@ -1,17 +1,22 @@
 // What `canvasd trial` does: a server and two clients in one process.
-ghost use Rattle.std.specs.Prelude.{◌≡◌};
+ghost use Rattle.std.specs.Prelude.{◌≡◌, ◌↔◌, IfErr, IfOk, IsTrue, string_bytes};
+ghost use Rattle.canvas_daemon.specs.Faults.{IsMemoryOrDevice};
+ghost use Rattle.canvas_daemon.specs.Served.{IsServeFault};
+ghost use Rattle.canvas_daemon.specs.Shown.{IsReportText};
+ghost use Rattle.canvas_daemon.specs.Trials.{WritesTrial, equal_word, trial_line};
 
 use crate::editing::connect;
 use crate::fault::Fault;
 use crate::node::Node;
-use crate::serving::{listen, open_room, serve_seats};
+use crate::serving::{listen, open_room, opened, serve_seats};
 use crate::showing::report_text;
 use canvas_board::RoomName;
-use canvas_client::EditError;
+use canvas_client::{Client, EditError};
 use canvas_doc::{Kind, ObjId};
 use canvas_journal::Keeper;
 use canvas_lines::write_out;
 use canvas_room::BlankRoom;
+use std::alloc::{AllocError, Global};
 use std::io::Write;
 use std::marker::Brand;
 use std::net::{Net, TcpListener, TcpStream};
@@ -26,7 +31,8 @@ const SHAPES: u32 = 7;
 /// and seven shapes on it, each after the former, while the other does, and exchanges; when both have, each exchanges again. Writes
 /// `trial version V equal yes`, or `no` where their documents or versions differ, and answers which.
 ///
-/// The errors are those of `serve` and `edit`.
+/// The errors: `Device`, where the folder, a socket or the output failed, or an edit was refused; `Damaged`, `TooLarge` and `Memory`, as
+/// `serve` answers them. With an error other than `Device` nothing was written.
 pub fn trial<R, W>(rt: &R, files: HostRuntime, dir: &str, output: &mut W) -> Result<bool, Fault>
 where
     R: Net<Listener = TcpListener, Stream = TcpStream>
@@ -39,14 +45,32 @@ where
         + Sync
         + Drop,
     W: Write,
+    ensures told { IfOk result (λ equal.
+        WritesTrial equal (W.contents output.old) (W.contents output.new)) }
+    ensures unwritten { IfErr result (λ fault. (fault ≡ Fault.Device → ⊥) → W.contents output.new ≡ W.contents output.old) }
+    ensures faults { IfErr result (IsServeFault 2) }
 {
     let room = open_room(files, dir, 2)?;
     let listener = listen(rt, 0)?;
     let (version, equal) = try_room::<Brand, _, _>(rt, room, &listener)?;
-    let word = if equal { "yes" } else { "no" };
-    let line = format!(in rt.alloc(); "trial version {version} equal {word}\n")?;
+    let line = trial_line(rt.alloc(), version, equal)?;
     write_out(output, line.as_bytes())?;
     Ok(equal)
+}
+
+// The line of a trial.
+fn trial_line(alloc: Global, version: u64, equal: bool) -> Result<String, AllocError>
+    ensures { IfOk result (λ line. string_bytes line ≡ trial_line version equal) }
+{
+    let word = equal_word(equal);
+    format!(in alloc; "trial version {version} equal {word}\n")
+}
+
+// Whether the clients agree, in a word.
+fn equal_word(equal: bool) -> &'static str
+    ensures { result.now ≡ equal_word equal }
+{
+    if equal { "yes" } else { "no" }
 }
 
 // Serves two clients from a room of two seats. Answers the first one's version, and whether they agree.
@@ -69,8 +93,9 @@ where
         + Drop,
     requires book { room.book ≡ N.book }
     requires opening { room.opening ≡ N.opening }
+    ensures { IfErr result IsMemoryOrDevice }
 {
-    let (_room, seats) = room.open::<N, R>(rt.clone()?)?;
+    let (_room, seats) = opened::<N, K, R>(rt, room)?;
     let address = listener.local_addr().map_err(|_| Fault::Device)?;
     // Both connections stand before one is accepted, so that none is waited for that never comes.
     let first = connect(rt, address.port())?;
@@ -88,6 +113,7 @@ where
 fn edit_both<R>(rt: &R, first: TcpStream, second: TcpStream) -> Result<(u64, bool), Fault>
 where
     R: RandomSource + Threads + Wait + AllocGlobal + Clone + Send + Sync + Drop,
+    ensures { IfErr result IsMemoryOrDevice }
 {
     let both = Barrier::new(2);
     let (first, second) = join(
@@ -96,7 +122,15 @@ where
         || edited(rt, second, &both),
     );
     let (first, second) = (first?, second?);
-    Ok((first.version, first.text == second.text))
+    Ok(compared(&first, &second))
+}
+
+// The first one's version, and whether both show the same.
+fn compared(first: &Shown, second: &Shown) -> (u64, bool)
+    ensures version { result.0 ≡ first.now.version }
+    ensures equal { IsTrue result.1 ↔ (first.now.text.items ≡ second.now.text.items) }
+{
+    (first.version, first.text == second.text)
 }
 
 // What a client shows: its version, and the report of its document at that version.
@@ -110,22 +144,31 @@ struct Shown {
 fn edited<R>(rt: &R, stream: TcpStream, both: &Barrier) -> Result<Shown, Fault>
 where
     R: RandomSource + Wait + AllocGlobal + Clone + Drop,
+    ensures { IfErr result IsMemoryOrDevice }
 {
     let edited = sent(rt, stream);
     // One that failed comes here too, so that the other doesn't wait for ever.
     both.wait(rt);
     let mut node = edited?;
     node.exchange(rt.alloc())?;
-    Ok(Shown {
-        version: node.client().version(),
-        text: report_text(rt.alloc(), node.client().version(), node.client().view())?,
-    })
+    Ok(show_client(rt.alloc(), node.client())?)
+}
+
+// What this client shows.
+fn show_client(alloc: Global, client: &Client) -> Result<Shown, AllocError>
+    ensures version { IfOk result (λ shown. shown.version ≡ client.now.version) }
+    ensures report { IfOk result (λ shown. IsReportText client.now.version client.now.view shown.text.items) }
+{
+    let version = client.version();
+    let text = report_text(alloc, version, client.view())?;
+    Ok(Shown { version, text })
 }
 
 // A client that has made its page and sent it.
 fn sent<R>(rt: &R, stream: TcpStream) -> Result<Node<R>, Fault>
 where
     R: RandomSource + AllocGlobal + Clone + Drop,
+    ensures { IfErr result IsMemoryOrDevice }
 {
     let mut node = Node::joined(rt, stream)?;
     match make_page(&mut node) {
