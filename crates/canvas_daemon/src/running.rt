@@ -1,4 +1,7 @@
 // The program: its words, and the status that it ends with.
+ghost use Rattle.std.specs.Prelude.{IfErr, IfOk, map, string_bytes};
+ghost use Rattle.canvas_daemon.specs.Runs.{Does, Fails, IsRun};
+
 use crate::editing::edit;
 use crate::fault::{Fault, end};
 use crate::serving::serve;
@@ -12,7 +15,8 @@ use std::sync::Wait;
 use std::thread::Threads;
 
 /// Does what the words after the program's name ask for, and answers the program's status: 0; 1 where the clients of a trial differ;
-/// else that of the fault, which is told on `faults`.
+/// else that of the fault, which is told on `faults`, or 4 where it can't be told. Words that ask for nothing are the fault `Usage`, and
+/// then nothing is read or written.
 pub fn run<R, I, W, F>(
     rt: &R,
     files: HostRuntime,
@@ -34,6 +38,10 @@ where
     I: BufRead,
     W: Write,
     F: Write,
+    ensures { IsRun (map string_bytes words.now) result
+        (I.remaining input.old) (I.remaining input.new)
+        (W.contents output.old) (W.contents output.new)
+        (F.contents faults.old) (F.contents faults.new) }
 {
     match perform(rt, files, words, input, output) {
         Ok(status) => status,
@@ -61,6 +69,12 @@ where
         + Drop,
     I: BufRead,
     W: Write,
+    ensures done { IfOk result (λ status. Does (map string_bytes words.now) status
+        (I.remaining input.old) (I.remaining input.new)
+        (W.contents output.old) (W.contents output.new)) }
+    ensures failed { IfErr result (Fails (map string_bytes words.now)
+        (I.remaining input.old) (I.remaining input.new)
+        (W.contents output.old) (W.contents output.new)) }
 {
     let Some(command) = read_command(words) else {
         return Err(Fault::Usage);
