@@ -20,6 +20,7 @@ const SEATS: usize = 8;
 
 // How often a thread that waits yields at most, and how often one that lets the others come to the lock does.
 const MOST_TURNS: u32 = 1_000_000;
+
 const LATE_TURNS: u32 = 10_000;
 
 // Waits until so many are coming.
@@ -61,11 +62,7 @@ fn all_come<
     N: RoomName + Send + Sync,
     Q: Wait + Drop + Send,
     R: Threads + Wait + Sync,
->(
-    rt: &R,
-    seats: Vec<SeatOf<K, N, Q>>,
-    coming: &AtomicUsize,
-) -> bool {
+>(rt: &R, seats: Vec<SeatOf<K, N, Q>>, coming: &AtomicUsize) -> bool {
     match map_vec(rt, seats, &|seat| comes(rt, seat, coming)) {
         Ok(came) => came.into_iter().all(|is_joined| is_joined),
         Err(_) => false,
@@ -78,11 +75,7 @@ fn all_meet<
     N: RoomName + Send + Sync,
     Q: Wait + Drop + Send,
     R: Threads + Wait + Sync,
->(
-    rt: &R,
-    room: &Room<K, N, Q>,
-    seats: Vec<SeatOf<K, N, Q>>,
-) -> bool {
+>(rt: &R, room: &Room<K, N, Q>, seats: Vec<SeatOf<K, N, Q>>) -> bool {
     let coming = AtomicUsize::new(0);
     let (came, ()) = apart(
         rt,
@@ -108,10 +101,7 @@ fn sync_count<N: RoomName, Q: Wait + Drop, W: Wait>(
 }
 
 // Whether seats that meet all get an id, at so many entries, by fewer syncs than those.
-fn are_synced_together<
-    N: RoomName + Send + Sync,
-    R: Threads + Wait + Clone + Drop + Send + Sync,
->(
+fn are_synced_together<N: RoomName + Send + Sync, R: Threads + Wait + Clone + Drop + Send + Sync>(
     rt: &R,
     blank: Blank<MemShelf>,
 ) -> Result<bool, Fail>
