@@ -1,6 +1,7 @@
 -- Meant for the crates above too.
 pub mod Maps
 pub mod Searched
+pub mod Edges
 pub mod Standing
 pub mod Without
 pub mod Props
@@ -10,7 +11,6 @@ pub mod Laid
 mod Kept
 mod Copied
 mod Rooted
-mod Edges
 mod Told
 mod Spotted
 mod Placing

@@ -7,6 +7,7 @@ use Rattle.canvas_model.specs.State.{counts, joined}
 use Rattle.canvas_model.specs.Log.{Edit, Entry, Join, What, change_at, change_counts, clients_after, last_version}
 use Rattle.canvas_model.proofs.Tests.{lt_false}
 use Rattle.canvas_server.specs.Served.{Served, tail_of}
+use Rattle.canvas_journal.proofs.Entries.{take-least}
 use Rattle.canvas_board.specs.Marks.{Floor, IsLegal, LegalFrom, Logged, Mark, Opening, Sees, board, board_from, start, step}
 use Rattle.canvas_board.proofs.Boards.{board_append, legal_begin, legal_rest}
 use Rattle.canvas_board.proofs.Fronts.{prefix_trans}
@@ -92,21 +93,15 @@ floor_later o xs ys pre legal =
 
 -- ---- tails
 
-length_take : {A : Type 0} (k : ℕ) (xs : List A) → length (take k xs) ≤ length xs
-length_take zero [] = omega arith
-length_take zero (x ∷ xs) = omega arith
-length_take (suc k) [] = omega arith
-length_take (suc k) (x ∷ xs) = let r = length_take k xs in omega (arith, r)
-
 few_by : (t : Bool) (b : Served) (from : ℕ) (es : List Entry) → IsFilled b → from < 2 ^ 64 → nat_lt from b.floor ≡ t
     → Some es ≡ cond t None (Some (take 64 (drop (from - b.floor) (take (b.published - b.floor) b.kept)))) → from + length es < 2 ^ 64
 few_by true b from es f small is told = absurd (cc told)
 few_by false b from es f small is told =
     let same : es ≡ take 64 (drop (from - b.floor) (take (b.published - b.floor) b.kept)) = cc told in
     let size : length es ≡ length (take 64 (drop (from - b.floor) (take (b.published - b.floor) b.kept))) = ap length same in
-    let first : length (take 64 (drop (from - b.floor) (take (b.published - b.floor) b.kept))) ≤ length (drop (from - b.floor) (take (b.published - b.floor) b.kept)) = length_take 64 (drop (from - b.floor) (take (b.published - b.floor) b.kept)) in
+    let first : length (take 64 (drop (from - b.floor) (take (b.published - b.floor) b.kept))) ≤ length (drop (from - b.floor) (take (b.published - b.floor) b.kept)) = take-least 64 (drop (from - b.floor) (take (b.published - b.floor) b.kept)) in
     let rest = length-drop (from - b.floor) (take (b.published - b.floor) b.kept) in
-    let all : length (take (b.published - b.floor) b.kept) ≤ length b.kept = length_take (b.published - b.floor) b.kept in
+    let all : length (take (b.published - b.floor) b.kept) ≤ length b.kept = take-least (b.published - b.floor) b.kept in
     let above = lt_false from b.floor is in
     ⊎_elim (λ (none : length b.kept ≡ 0). omega (arith, size, first, rest, all, small, none)) (λ (few : b.version ≤ last_version). omega (arith, size, first, rest, all, small, above, f.whole, few)) f.few
 

@@ -1,40 +1,16 @@
 -- What stands where a search through rows in order ends.
-use Rattle.std.proofs.Common.{◌≡◌, ℕ, zero, suc, ◌-◌, ◌<◌, ◌≤◌, true, false, List, [], ◌∷◌, length, get_or, Some, None, Ok, Err, T, refl, sym, ap, subst, ◌∙◌, arith}
+use Rattle.std.proofs.Common.{◌≡◌, ℕ, ◌-◌, ◌<◌, ◌≤◌, List, length, get_or, Some, None, Ok, Err, T, refl, sym, ap, subst, ◌∙◌, arith}
 use Rattle.std.specs.List.{AllWithin, slice_get}
 use Rattle.std.specs.Cmp.{IsTotalOrder}
 use Rattle.std.specs.declared.cmp.Ordering.{Ordering}
 use Rattle.std.specs.declared.cmp.Ordering.TheVariants.{Less, Equal, Greater}
 use Rattle.std.specs.Ordering.{is_lt, ordering_index}
 use Rattle.std.specs.FinMap.{find, is_sorted}
-use Rattle.std.proofs.lemmas.Option.{get_or_from_slice_get, none-some, slice_get_within}
+use Rattle.std.proofs.lemmas.Option.{get_or_from_slice_get, slice_get_within}
 use Rattle.canvas_blocks.specs.Blocks.{IsEdge}
 use Rattle.canvas_doc.specs.Sorted.{IsPairAt, IsGapAt}
 use Rattle.canvas_doc.proofs.Searched.{rises, searched}
-
-lowest : (o : Ordering) → ordering_index o ≤ 0 → o ≡ Less
-lowest Less le = refl
-lowest Equal le = absurd (omega arith)
-lowest Greater le = absurd (omega arith)
-
-highest : (o : Ordering) → 2 ≤ ordering_index o → o ≡ Greater
-highest Less le = absurd (omega arith)
-highest Equal le = absurd (omega arith)
-highest Greater le = refl
-
-is_less : (o : Ordering) → true ≡ is_lt o → o ≡ Less
-is_less Less e = refl
-is_less Equal e = absurd (let f : true ≡ false = e in cc)
-is_less Greater e = absurd (let f : true ≡ false = e in cc)
-
-is_more : (o : Ordering) → false ≡ is_lt o → (o ≡ Equal → ⊥) → o ≡ Greater
-is_more Less e ne = absurd (let f : false ≡ true = e in cc)
-is_more Equal e ne = absurd (ne refl)
-is_more Greater e ne = refl
-
-past_all : {X : Type 0} (xs : List X) (i : ℕ) → None ≡ slice_get xs i → length xs ≤ i
-past_all [] i e = omega arith
-past_all (y ∷ xs) zero e = absurd (none-some y e)
-past_all (y ∷ xs) (suc i) e = let rest = past_all xs i e in omega (arith, rest)
+use Rattle.canvas_doc.proofs.Edges.{lowest, highest, is_less, is_more, got_none}
 
 module _ {K X : Type 0} {R : K → K → Ordering} (o : IsTotalOrder R) (es : List (K × X)) (sorted : T (is_sorted R es)) (k : K) (i : ℕ) (edge : IsEdge (λ e b. b ≡ is_lt (R e.0 k)) es i) where
   less_below : AllWithin (λ e. R e.0 k ≡ Less) es 0 i
@@ -54,7 +30,7 @@ module _ {K X : Type 0} {R : K → K → Ordering} (o : IsTotalOrder R) (es : Li
 
   -- no row is there, or that of another key
   pub gap_at_end : None ≡ slice_get es i → IsGapAt R es k i
-  gap_at_end none = let past = past_all es i none in gap_here (λ d lt. absurd (omega arith))
+  gap_at_end none = let past = got_none es i none in gap_here (λ d lt. absurd (omega arith))
 
   pub gap_before : (e : K × X) → slice_get es i ≡ Some e → (R e.0 k ≡ Equal → ⊥) → IsGapAt R es k i
   gap_before e got other = gap_here (λ d lt tied. other (subst (λ (x : K × X). R x.0 k ≡ Equal) (get_or_from_slice_get es i e d got) tied))
