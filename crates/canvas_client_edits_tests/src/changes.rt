@@ -1,54 +1,50 @@
 //! How many changes of a client an entry makes that it takes, also where it shows many other objects.
+use crate::clients::{name, opened};
 use canvas_client::Client;
-use canvas_doc::{Change, Doc, Kind, Name, ObjId, Place, Value};
+use canvas_doc::{Change, Doc, Kind, ObjId, Value};
 use canvas_judge::{DocCopy, Entry, Message, Outcome, What};
-use canvas_pos::Pos;
+use canvas_samples::{object, put};
 use std::alloc::Global;
 use std::test::Fail;
 
 // The page of client 2, and frames on it.
-fn object(counter: u32) -> ObjId {
-    ObjId { client: 2, counter }
-}
-
-// Adds an object that isn't there yet.
-fn add(alloc: Global, doc: &mut Doc, id: ObjId, kind: Kind, parent: ObjId) -> Result<(), Fail> {
-    if doc.has(id) {
-        return Err(Fail::from("it is there already"));
-    }
-    let pos = Pos::read(alloc, b"O")?;
-    doc.put_object(id, kind, Place { parent, pos })?;
-    Ok(())
+fn theirs(counter: u32) -> ObjId {
+    object(2, counter)
 }
 
 // A page with ten frames, and so many other pages.
 fn document(alloc: Global, others: u32) -> Result<Doc, Fail> {
     let mut doc = Doc::new(alloc)?;
-    add(alloc, &mut doc, object(1), Kind::Page, ObjId::ROOT)?;
+    put(alloc, &mut doc, theirs(1), Kind::Page, ObjId::ROOT, b"O")?;
     for counter in 2..12 {
-        add(alloc, &mut doc, object(counter), Kind::Frame, object(1))?;
+        put(
+            alloc,
+            &mut doc,
+            theirs(counter),
+            Kind::Frame,
+            theirs(1),
+            b"O",
+        )?;
     }
     for counter in 0..others {
-        let other = ObjId { client: 3, counter };
-        add(alloc, &mut doc, other, Kind::Page, ObjId::ROOT)?;
+        let other = object(3, counter);
+        put(alloc, &mut doc, other, Kind::Page, ObjId::ROOT, b"O")?;
     }
     Ok(doc)
 }
 
 // A client with id 1 that shows that.
 fn showing(alloc: Global, others: u32) -> Result<Client, Fail> {
-    let mut client = Client::new(alloc)?;
-    let welcome: Message<Global> = Message::Welcome(1);
-    client.receive(&welcome)?;
-    client.receive(&copy(alloc, others)?)?;
+    let mut client = opened(alloc)?;
+    client.receive(&copy(alloc, 1, others)?)?;
     Ok(client)
 }
 
-// The copy of that.
-fn copy(alloc: Global, others: u32) -> Result<Message, Fail> {
+// The copy of that at this version.
+fn copy(alloc: Global, version: u64, others: u32) -> Result<Message, Fail> {
     let doc = document(alloc, others)?;
     Ok(Message::Copy(DocCopy {
-        version: 1,
+        version,
         done: 0,
         doc,
     }))
@@ -71,15 +67,14 @@ fn entry(change: Change, outcome: Outcome) -> Message {
 fn deletion(alloc: Global) -> Result<Message, Fail> {
     let mut ids = Vec::new(alloc);
     for counter in 1..12 {
-        ids.push(object(counter))?;
+        ids.push(theirs(counter))?;
     }
-    Ok(entry(Change::delete(object(1)), Outcome::Removed(ids)))
+    Ok(entry(Change::delete(theirs(1)), Outcome::Removed(ids)))
 }
 
 // A property of the page set.
 fn set(alloc: Global) -> Result<Message, Fail> {
-    let name = Name::read(alloc, b"name")?;
-    let change = Change::set(object(1), name, Some(Value::number(7)))?;
+    let change = Change::set(theirs(1), name(alloc)?, Some(Value::number(7)))?;
     Ok(entry(change, Outcome::WasSet))
 }
 
@@ -101,11 +96,7 @@ fn each_made(alloc: Global, others: u32) -> Result<(u64, u64), Fail> {
 fn copy_tells_none(alloc: Global) -> Result<bool, Fail> {
     let mut client = showing(alloc, 0)?;
     client.receive(&set(alloc)?)?;
-    let Message::Copy(copy) = copy(alloc, 0)? else {
-        return Ok(false);
-    };
-    let later = Message::Copy(DocCopy { version: 3, ..copy });
-    client.receive(&later)?;
+    client.receive(&copy(alloc, 3, 0)?)?;
     Ok(client.last_changes() == 0)
 }
 

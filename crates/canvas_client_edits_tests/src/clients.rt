@@ -1,8 +1,8 @@
 //! Clients to make edits at.
 use canvas_client::Client;
-use canvas_doc::{Doc, Kind, Name, ObjId, Place};
+use canvas_doc::{Doc, Kind, Name, ObjId};
 use canvas_judge::{DocCopy, Message};
-use canvas_pos::Pos;
+use canvas_samples::put;
 use std::alloc::{Allocator, Global};
 use std::test::Fail;
 
@@ -87,12 +87,12 @@ fn copy(alloc: Global) -> Result<Message, Fail> {
 // The page, what is on it, and the two frames that aren't in the tree.
 fn document(alloc: Global) -> Result<Doc, Fail> {
     let mut doc = Doc::new(alloc)?;
-    add(alloc, &mut doc, PAGE, Kind::Page, ObjId::ROOT, b"O")?;
-    add(alloc, &mut doc, OUTER, Kind::Frame, PAGE, b"O")?;
-    add(alloc, &mut doc, INNER, Kind::Frame, OUTER, b"O")?;
-    add(alloc, &mut doc, ROUND, Kind::Frame, ABOUT, b"O")?;
-    add(alloc, &mut doc, ABOUT, Kind::Frame, ROUND, b"O")?;
-    add(
+    put(alloc, &mut doc, PAGE, Kind::Page, ObjId::ROOT, b"O")?;
+    put(alloc, &mut doc, OUTER, Kind::Frame, PAGE, b"O")?;
+    put(alloc, &mut doc, INNER, Kind::Frame, OUTER, b"O")?;
+    put(alloc, &mut doc, ROUND, Kind::Frame, ABOUT, b"O")?;
+    put(alloc, &mut doc, ABOUT, Kind::Frame, ROUND, b"O")?;
+    put(
         alloc,
         &mut doc,
         LEFT,
@@ -100,7 +100,7 @@ fn document(alloc: Global) -> Result<Doc, Fail> {
         INNER,
         &longest(alloc, b'O')?,
     )?;
-    add(
+    put(
         alloc,
         &mut doc,
         RIGHT,
@@ -109,23 +109,6 @@ fn document(alloc: Global) -> Result<Doc, Fail> {
         &longest(alloc, b'P')?,
     )?;
     Ok(doc)
-}
-
-// Adds an object that isn't there yet.
-fn add(
-    alloc: Global,
-    doc: &mut Doc,
-    id: ObjId,
-    kind: Kind,
-    parent: ObjId,
-    pos: &[u8],
-) -> Result<(), Fail> {
-    if doc.has(id) {
-        return Err(Fail::from("it is there already"));
-    }
-    let pos = Pos::read(alloc, pos)?;
-    doc.put_object(id, kind, Place { parent, pos })?;
-    Ok(())
 }
 
 // The longest position in which each digit but the last is `O`.

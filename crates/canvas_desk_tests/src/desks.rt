@@ -7,10 +7,9 @@ ghost use Rattle.canvas_shelf.specs.Shelved.{disk_of};
 
 use canvas_board::{Blank, Opening, Receipt, RoomName, open_board};
 use canvas_desk::{Desk, SubmitError};
-use canvas_doc::{Change, Kind, ObjId, Place};
 use canvas_journal::{Journal, Keeper, open};
 use canvas_judge::State;
-use canvas_pos::Pos;
+use canvas_samples::{new_page, object};
 use canvas_server::{Request, Server};
 use canvas_shelf::{Call, MemShelf};
 use std::alloc::Global;
@@ -74,18 +73,11 @@ pub fn new_desk<'a, N: RoomName, W: Wait>(
 
 /// The request of a client's edit that makes a page with the edit's number as its counter.
 pub fn page(alloc: Global, client: u32, seq: u64) -> Result<Request, Fail> {
-    let place = Place {
-        parent: ObjId::ROOT,
-        pos: Pos::read(alloc, b"O")?,
-    };
-    let id = ObjId {
-        client,
-        counter: (seq % 1000) as u32,
-    };
+    let id = object(client, (seq % 1000) as u32);
     Ok(Request::Edit {
         client,
         seq,
-        change: Change::create(id, Kind::Page, place),
+        change: new_page(alloc, id)?,
     })
 }
 

@@ -1,7 +1,8 @@
 //! What stands in a document, and where.
-use crate::samples::{FRAME, PAGE, SHAPE, drawing, place, put};
+use crate::samples::{FRAME, PAGE, SHAPE, drawing};
 use canvas_doc::{Doc, Kind, ObjId, Place};
 use canvas_pos::Pos;
+use canvas_samples::{place, put};
 use std::alloc::{AllocError, Global};
 use std::test::Fail;
 

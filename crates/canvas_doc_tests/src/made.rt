@@ -1,6 +1,7 @@
 //! Documents and objects made at once from lists in order.
-use crate::samples::{FRAME, PAGE, SHAPE, place, put};
+use crate::samples::{FRAME, PAGE, SHAPE};
 use canvas_doc::{Doc, Kind, Name, ObjId, Object, Value};
+use canvas_samples::{place, put};
 use std::alloc::Global;
 use std::test::Fail;
 

@@ -1,7 +1,7 @@
 //! Sample documents, objects and changes.
-use canvas_doc::{Change, Doc, Kind, Name, ObjId, Object, Place, Value};
-use canvas_pos::Pos;
-use std::alloc::{Allocator, Global};
+use canvas_doc::{Change, Doc, Kind, Name, ObjId, Object, Value};
+use canvas_samples::{place, put};
+use std::alloc::Global;
 use std::test::Fail;
 
 pub const PAGE: ObjId = ObjId {
@@ -18,29 +18,6 @@ pub const FRAME: ObjId = ObjId {
     client: 2,
     counter: 1,
 };
-
-/// The place under this parent.
-pub fn place<A: Allocator>(alloc: A, parent: ObjId, pos: &[u8]) -> Result<Place<A>, Fail> {
-    let pos = Pos::read(alloc, pos)?;
-    Ok(Place { parent, pos })
-}
-
-/// Adds an object to the document.
-pub fn put(
-    alloc: Global,
-    doc: &mut Doc,
-    id: ObjId,
-    kind: Kind,
-    parent: ObjId,
-    pos: &[u8],
-) -> Result<(), Fail> {
-    let place = place(alloc, parent, pos)?;
-    if doc.has(id) {
-        return Err(Fail::from("the id is live already"));
-    }
-    doc.put_object(id, kind, place)?;
-    Ok(())
-}
 
 /// Gives a property of the object this number, or takes the property away.
 pub fn put_number(

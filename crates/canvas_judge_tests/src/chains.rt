@@ -1,22 +1,17 @@
 //! Chains of parents, in circles too.
-use crate::states::{GONE, INNER, OUTER, PAGE, place};
+use crate::states::{GONE, INNER, OUTER, PAGE};
 use canvas_doc::{Doc, Kind, ObjId};
 use canvas_judge::{below, is_above};
+use canvas_samples::put;
 use std::alloc::Global;
 use std::test::Fail;
 
 // A page, and two frames that stand in each other.
 fn with_cycle(alloc: Global) -> Result<Doc, Fail> {
     let mut doc = Doc::new(alloc)?;
-    for (id, kind, parent) in [
-        (PAGE, Kind::Page, ObjId::ROOT),
-        (OUTER, Kind::Frame, INNER),
-        (INNER, Kind::Frame, OUTER),
-    ] {
-        if !doc.has(id) {
-            doc.put_object(id, kind, place(alloc, parent, b"O")?)?;
-        }
-    }
+    put(alloc, &mut doc, PAGE, Kind::Page, ObjId::ROOT, b"O")?;
+    put(alloc, &mut doc, OUTER, Kind::Frame, INNER, b"O")?;
+    put(alloc, &mut doc, INNER, Kind::Frame, OUTER, b"O")?;
     Ok(doc)
 }
 

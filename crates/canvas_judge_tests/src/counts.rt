@@ -1,7 +1,8 @@
 //! What a state lends of its clients.
-use crate::states::{create, join, object};
+use crate::states::{create, join};
 use canvas_doc::{Kind, ObjId};
 use canvas_judge::{Counts, State};
+use canvas_samples::object;
 use std::alloc::Global;
 use std::test::Fail;
 

@@ -1,7 +1,8 @@
 //! Whether entries may come next, whoever judged them.
-use crate::states::{INNER, OUTER, PAGE, next_edit, next_join, object, place, with_frames};
+use crate::states::{INNER, OUTER, PAGE, next_edit, next_join, with_frames};
 use canvas_doc::{Change, Kind, ObjId};
 use canvas_judge::{Entry, Outcome, Reason, State, What};
+use canvas_samples::{object, place};
 use std::alloc::Global;
 use std::test::Fail;
 

@@ -1,18 +1,10 @@
 // States made from a document and counts.
-use crate::states::{GONE, INNER, OUTER, PAGE, object, place};
-use canvas_doc::{Doc, Kind, ObjId, Place};
+use crate::states::{GONE, INNER, OUTER, PAGE};
+use canvas_doc::{Doc, Kind, ObjId};
 use canvas_judge::{Counts, State};
+use canvas_samples::{object, put};
 use std::alloc::Global;
 use std::test::Fail;
-
-// Adds an object, whether it may stand there or not.
-fn put(doc: &mut Doc, id: ObjId, kind: Kind, place: Place) -> Result<(), Fail> {
-    if doc.has(id) {
-        return Err(Fail::from("the object is there"));
-    }
-    doc.put_object(id, kind, place)?;
-    Ok(())
-}
 
 // Whether the document, with one client that has used so many counters, makes a state.
 fn is_sound(alloc: Global, doc: Doc, used: u32) -> Result<bool, Fail> {
@@ -25,27 +17,17 @@ fn is_sound(alloc: Global, doc: Doc, used: u32) -> Result<bool, Fail> {
 // A page, and one object more.
 fn with_one(alloc: Global, id: ObjId, kind: Kind, parent: ObjId, pos: &[u8]) -> Result<bool, Fail> {
     let mut doc = Doc::new(alloc)?;
-    put(&mut doc, PAGE, Kind::Page, place(alloc, ObjId::ROOT, b"O")?)?;
-    put(&mut doc, id, kind, place(alloc, parent, pos)?)?;
+    put(alloc, &mut doc, PAGE, Kind::Page, ObjId::ROOT, b"O")?;
+    put(alloc, &mut doc, id, kind, parent, pos)?;
     is_sound(alloc, doc, 3)
 }
 
 // A page, and two frames that stand under these parents.
 fn with_frames(alloc: Global, over_outer: ObjId, over_inner: ObjId) -> Result<bool, Fail> {
     let mut doc = Doc::new(alloc)?;
-    put(&mut doc, PAGE, Kind::Page, place(alloc, ObjId::ROOT, b"O")?)?;
-    put(
-        &mut doc,
-        OUTER,
-        Kind::Frame,
-        place(alloc, over_outer, b"O")?,
-    )?;
-    put(
-        &mut doc,
-        INNER,
-        Kind::Frame,
-        place(alloc, over_inner, b"O")?,
-    )?;
+    put(alloc, &mut doc, PAGE, Kind::Page, ObjId::ROOT, b"O")?;
+    put(alloc, &mut doc, OUTER, Kind::Frame, over_outer, b"O")?;
+    put(alloc, &mut doc, INNER, Kind::Frame, over_inner, b"O")?;
     is_sound(alloc, doc, 3)
 }
 

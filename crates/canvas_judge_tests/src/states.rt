@@ -2,9 +2,9 @@
 ghost use Rattle.std.specs.Prelude.{IfOk};
 ghost use Rattle.canvas_model.specs.Log.{Fits};
 
-use canvas_doc::{Change, Kind, Name, ObjId, Place, Value};
+use canvas_doc::{Change, Kind, Name, ObjId, Value};
 use canvas_judge::{Entry, Outcome, State, What};
-use canvas_pos::Pos;
+use canvas_samples::{object, place};
 use std::alloc::{AllocError, Global};
 use std::test::Fail;
 
@@ -27,17 +27,6 @@ pub const GONE: ObjId = ObjId {
     client: 9,
     counter: 9,
 };
-
-pub fn object(client: u32, counter: u32) -> ObjId {
-    ObjId { client, counter }
-}
-
-pub fn place(alloc: Global, parent: ObjId, pos: &[u8]) -> Result<Place, Fail> {
-    Ok(Place {
-        parent,
-        pos: Pos::read(alloc, pos)?,
-    })
-}
 
 // The change of the property `name` of an object.
 fn naming(alloc: Global, id: ObjId, value: Option<Value>) -> Result<Change, Fail> {

@@ -1,11 +1,10 @@
 //! What one seat does.
 use canvas_board::{Receipt, RoomName, SeatError};
 use canvas_desk::SubmitError;
-use canvas_doc::{Change, Kind, ObjId, Place};
 use canvas_journal::Keeper;
 use canvas_judge::{Entry, Outcome};
-use canvas_pos::Pos;
 use canvas_room::{Lock, Seat};
+use canvas_samples::{new_page, object};
 use canvas_server::Request;
 use std::alloc::Global;
 use std::sync::Wait;
@@ -16,18 +15,11 @@ pub type SeatOf<K, N, Q> = Seat<N, Lock<K, N, Q>>;
 
 /// The request of a client's edit that makes a page with the edit's number as its counter.
 pub fn page(alloc: Global, client: u32, seq: u64) -> Result<Request, Fail> {
-    let place = Place {
-        parent: ObjId::ROOT,
-        pos: Pos::read(alloc, b"O")?,
-    };
-    let id = ObjId {
-        client,
-        counter: (seq % 1000) as u32,
-    };
+    let id = object(client, (seq % 1000) as u32);
     Ok(Request::Edit {
         client,
         seq,
-        change: Change::create(id, Kind::Page, place),
+        change: new_page(alloc, id)?,
     })
 }
 

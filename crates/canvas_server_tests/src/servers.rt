@@ -1,25 +1,17 @@
 //! Servers to ask, and what they are asked.
-use canvas_doc::{Change, Kind, ObjId, Place};
 use canvas_judge::Entry;
-use canvas_pos::Pos;
+use canvas_samples::{new_page, object};
 use canvas_server::{Request, Server, TakeError, Took};
 use std::alloc::Global;
 use std::test::Fail;
 
 /// The request of a client's edit that makes a page with the edit's number as its counter.
 pub fn page(alloc: Global, client: u32, seq: u64) -> Result<Request, Fail> {
-    let place = Place {
-        parent: ObjId::ROOT,
-        pos: Pos::read(alloc, b"O")?,
-    };
-    let id = ObjId {
-        client,
-        counter: (seq % 1000) as u32,
-    };
+    let id = object(client, (seq % 1000) as u32);
     Ok(Request::Edit {
         client,
         seq,
-        change: Change::create(id, Kind::Page, place),
+        change: new_page(alloc, id)?,
     })
 }
 

@@ -1,6 +1,7 @@
 //! Each growth refused in turn: what was written is looked at afterwards, and the call made again.
-use crate::drawings::{coloured_page, id};
+use crate::drawings::coloured_page;
 use canvas_doc::{Doc, ObjId};
+use canvas_samples::object;
 use canvas_tree::{Tree, grow, write_props};
 use refusing::Refusing;
 use std::alloc::{AllocError, Allocator, Global};
@@ -28,8 +29,8 @@ enum Question {
 }
 
 fn has_path<A: Allocator + Copy>(alloc: A, tree: &Tree) -> Result<bool, AllocError> {
-    let path = tree.path_to(alloc, id(1, 1))?;
-    Ok(path.is_some_and(|path| path.as_slice() == [ObjId::ROOT, id(1, 1)].as_slice()))
+    let path = tree.path_to(alloc, object(1, 1))?;
+    Ok(path.is_some_and(|path| path.as_slice() == [ObjId::ROOT, object(1, 1)].as_slice()))
 }
 
 // Whether the answer is as it should be.

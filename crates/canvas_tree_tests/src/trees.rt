@@ -1,6 +1,7 @@
 //! What stands in a tree, in which order, and how it is written.
-use crate::drawings::{coloured_page, cyclic_frames, id, siblings};
+use crate::drawings::{coloured_page, cyclic_frames, siblings};
 use canvas_doc::{Doc, ObjId};
+use canvas_samples::object;
 use canvas_tree::{Tree, grow};
 use std::alloc::{AllocError, Global};
 use std::test::Fail;
@@ -40,16 +41,16 @@ fn is_without_path(alloc: Global, id: ObjId) -> Result<bool, Fail> {
 fn cycles_stay_out(rt: HostRuntime) -> Result<(), Fail> {
     assert!(rt; cyclic_has_text(rt.alloc(), b"head\n0:0 document\n  1:1 page O\n")?);
     for (id, want) in [
-        (id(1, 1), true),
-        (id(1, 2), false),
-        (id(1, 3), false),
-        (id(1, 4), false),
-        (id(1, 5), false),
-        (id(9, 9), false),
+        (object(1, 1), true),
+        (object(1, 2), false),
+        (object(1, 3), false),
+        (object(1, 4), false),
+        (object(1, 5), false),
+        (object(9, 9), false),
     ] {
         assert_eq!(rt; is_found(rt.alloc(), id)?, (want, true), "of {id}");
     }
-    assert!(rt; is_without_path(rt.alloc(), id(1, 3))?);
+    assert!(rt; is_without_path(rt.alloc(), object(1, 3))?);
     Ok(())
 }
 
@@ -76,18 +77,18 @@ fn siblings_stand_in_order(rt: HostRuntime) -> Result<(), Fail> {
 
 fn page_has_path(alloc: Global, path: &[ObjId]) -> Result<bool, Fail> {
     let tree = grow(alloc, &coloured_page(alloc)?)?;
-    Ok(has_path(alloc, &tree, id(1, 1), path)?)
+    Ok(has_path(alloc, &tree, object(1, 1), path)?)
 }
 
 fn text_has_path(alloc: Global, path: &[ObjId]) -> Result<bool, Fail> {
     let tree = grow(alloc, &siblings(alloc)?)?;
-    Ok(has_path(alloc, &tree, id(1, 1), path)?)
+    Ok(has_path(alloc, &tree, object(1, 1), path)?)
 }
 
 #[test]
 fn paths_begin_at_the_root(rt: HostRuntime) -> Result<(), Fail> {
-    let short = [ObjId::ROOT, id(1, 1)];
-    let long = [ObjId::ROOT, id(2, 1), id(3, 1), id(1, 1)];
+    let short = [ObjId::ROOT, object(1, 1)];
+    let long = [ObjId::ROOT, object(2, 1), object(3, 1), object(1, 1)];
     assert!(rt; page_has_path(rt.alloc(), &short)?);
     assert!(rt; text_has_path(rt.alloc(), &long)?);
     Ok(())
