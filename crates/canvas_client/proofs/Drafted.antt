@@ -9,7 +9,7 @@ use Rattle.canvas_model.specs.Change.{Change}
 use Rattle.canvas_model.specs.Change as change
 use Rattle.canvas_model.specs.Client.{Client, last_number}
 use Rattle.canvas_model.specs.Local.{EditRequest, Create, Move, EditError, NotOpen, IsRoot, NotShown, ParentNotShown, BadParent, OwnDescendant, Crowded, IdsSpent, Full}
-use Rattle.canvas_model.specs.Local.{Spot, rank, Blocks, Refuses, Becomes, Makes, Lands}
+use Rattle.canvas_model.specs.Local.{Target, rank, Blocks, Refuses, Becomes, Makes, Lands}
 use Rattle.canvas_client.specs.Asked.{NoneBefore, IsRefusal, IsCrowded}
 use Rattle.canvas_client.proofs.Landing.{lands_once}
 
@@ -63,9 +63,9 @@ module _ (client : Client) where
     makes c made id before not_full becomes = (λ e blocks. none_more Full before not_full e (rank_few e) blocks, c, id, becomes)
 
     -- want of room, where nothing else stands against the request
-    pub crowded : (except : ObjId) (spot : Spot) (e : Option EditError) → (Lands client.view except spot None → Blocks client r Crowded) → NoneBefore client r 6 → IsCrowded client.view except spot e → IsRefusal client r e
-    crowded except spot None blocks before is = tt
-    crowded except spot (Some e) blocks before is = subst (Refuses client r) (sym is.0) (blocks is.1, before)
+    pub crowded : (except : ObjId) (target : Target) (e : Option EditError) → (Lands client.view except target None → Blocks client r Crowded) → NoneBefore client r 6 → IsCrowded client.view except target e → IsRefusal client r e
+    crowded except target None blocks before is = tt
+    crowded except target (Some e) blocks before is = subst (Refuses client r) (sym is.0) (blocks is.1, before)
 
     -- a request that creates nothing, and lacks no room
     module _ (before : NoneBefore client r 6) (room : Blocks client r Crowded → ⊥) (ids : Blocks client r IdsSpent → ⊥) where
@@ -82,27 +82,27 @@ module _ (client : Client) where
           go None is = absurd (before NotOpen (omega arith) is)
           go (Some c) is = makes c made is before_last not_full (becomes c)
 
-  module _ (kind : Kind) (spot : Spot) (pos : Pos) (before : NoneBefore client (Create kind spot) 6) (lands : Lands client.view root spot (Some pos)) where
-    before_ids : NoneBefore client (Create kind spot) 7
-    before_ids = none_more (Create kind spot) Crowded before (lands_once client.view root spot pos lands)
+  module _ (kind : Kind) (target : Target) (pos : Pos) (before : NoneBefore client (Create kind target) 6) (lands : Lands client.view root target (Some pos)) where
+    before_ids : NoneBefore client (Create kind target) 7
+    before_ids = none_more (Create kind target) Crowded before (lands_once client.view root target pos lands)
 
-    pub create_spent : client.counter ≡ 4294967295 → Refuses client (Create kind spot) IdsSpent
+    pub create_spent : client.counter ≡ 4294967295 → Refuses client (Create kind target) IdsSpent
     create_spent spent = ((tt, spent), before_ids)
 
     module _ (left : client.counter ≢ 4294967295) where
-      before_full : NoneBefore client (Create kind spot) 8
-      before_full = none_more (Create kind spot) IdsSpent before_ids (λ b. left b.1)
+      before_full : NoneBefore client (Create kind target) 8
+      before_full = none_more (Create kind target) IdsSpent before_ids (λ b. left b.1)
 
-      pub create_full : last_number client ≡ 2 ^ 62 → Refuses client (Create kind spot) Full
+      pub create_full : last_number client ≡ 2 ^ 62 → Refuses client (Create kind target) Full
       create_full full = (full, before_full)
 
       pub create_makes : (c : ℕ) (made : Change) → client.id ≡ Some c → (last_number client ≡ 2 ^ 62 → ⊥)
-          → made ≡ change.Create (record { client = c; counter = client.counter + 1 }) kind (record { parent = spot.parent; pos = pos }) → Makes client (Create kind spot) made
-      create_makes c made id not_full is = makes (Create kind spot) c made id before_full not_full (pos, lands, is)
+          → made ≡ change.Create (record { client = c; counter = client.counter + 1 }) kind (record { parent = target.parent; pos = pos }) → Makes client (Create kind target) made
+      create_makes c made id not_full is = makes (Create kind target) c made id before_full not_full (pos, lands, is)
 
-  module _ (id : ObjId) (spot : Spot) (pos : Pos) (before : NoneBefore client (Move id spot) 6) (lands : Lands client.view id spot (Some pos)) where
-    pub move_full : last_number client ≡ 2 ^ 62 → Refuses client (Move id spot) Full
-    move_full full = plain_full (Move id spot) before (lands_once client.view id spot pos lands) (λ b. b.0) full
+  module _ (id : ObjId) (target : Target) (pos : Pos) (before : NoneBefore client (Move id target) 6) (lands : Lands client.view id target (Some pos)) where
+    pub move_full : last_number client ≡ 2 ^ 62 → Refuses client (Move id target) Full
+    move_full full = plain_full (Move id target) before (lands_once client.view id target pos lands) (λ b. b.0) full
 
-    pub move_makes : (made : Change) → (last_number client ≡ 2 ^ 62 → ⊥) → made ≡ change.Move id (record { parent = spot.parent; pos = pos }) → Makes client (Move id spot) made
-    move_makes made not_full is = plain_makes (Move id spot) before (lands_once client.view id spot pos lands) (λ b. b.0) made not_full (λ c. (pos, lands, is))
+    pub move_makes : (made : Change) → (last_number client ≡ 2 ^ 62 → ⊥) → made ≡ change.Move id (record { parent = target.parent; pos = pos }) → Makes client (Move id target) made
+    move_makes made not_full is = plain_makes (Move id target) before (lands_once client.view id target pos lands) (λ b. b.0) made not_full (λ c. (pos, lands, is))

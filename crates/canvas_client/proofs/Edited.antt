@@ -10,7 +10,7 @@ use Rattle.canvas_model.specs.Change as change
 use Rattle.canvas_model.specs.Overlay.{lay}
 use Rattle.canvas_model.specs.View.{creates_it}
 use Rattle.canvas_model.specs.Client.{Client}
-use Rattle.canvas_model.specs.Local.{EditRequest, Create, Set, Clear, Move, Delete, Full, Spot, Becomes, Makes, counter_after, edited}
+use Rattle.canvas_model.specs.Local.{EditRequest, Create, Set, Clear, Move, Delete, Full, Target, Becomes, Makes, counter_after, edited}
 use Rattle.canvas_model.specs.Laws.{EachEditStands}
 use Rattle.canvas_model.proofs.Ids.{same_id_true}
 use Rattle.canvas_model.proofs.Owned.{any-append, own-append}
@@ -19,13 +19,13 @@ use Rattle.canvas_client.specs.Kept.{IsKept}
 
 -- a creation gets the next counter
 created : (client : Client) (c : ℕ) (r : EditRequest) (made : Change) (q : ObjId) (kind : Kind) (place : Place) → Becomes client c r made → made ≡ change.Create q kind place → (q.client ≡ c) × (q.counter ≡ client.counter + 1)
-created client c (Create kind spot) made q k place (pos, lands, is) e =
-    let both : change.Create (record { client = c; counter = client.counter + 1 }) kind (record { parent = spot.parent; pos = pos }) ≡ change.Create q k place = sym is ∙ e in
+created client c (Create kind target) made q k place (pos, lands, is) e =
+    let both : change.Create (record { client = c; counter = client.counter + 1 }) kind (record { parent = target.parent; pos = pos }) ≡ change.Create q k place = sym is ∙ e in
     let same : q ≡ record { client = c; counter = client.counter + 1 } = cc in
     (ap (λ (i : ObjId). i.client) same, ap (λ (i : ObjId). i.counter) same)
 created client c (Set id name value) made q k place is e = absurd (cc)
 created client c (Clear id name) made q k place is e = absurd (cc)
-created client c (Move id spot) made q k place (pos, lands, is) e = absurd (cc)
+created client c (Move id target) made q k place (pos, lands, is) e = absurd (cc)
 created client c (Delete id) made q k place is e = absurd (cc)
 
 module _ (client : Client) (c : ℕ) (r : EditRequest) where
@@ -78,8 +78,8 @@ pub parts_edited : (client : Client) (made : Change) (counter : ℕ) (waiting : 
 parts_edited client made counter waiting view p q v i = record { id = client.id; counter = p i; version = client.version; acknowledged = client.acknowledged; waiting = q i; view = v i }
 
 -- a creation that was made
-pub has_created : (old new : Client) (kind : Kind) (spot : Spot) (made : Change) (id : ObjId) → Makes old (Create kind spot) made → id ≡ object_of made → new ≡ edited old made → HasCreated old (Create kind spot) id new
-has_created old new kind spot made id makes is now =
-    let place : Place = record { parent = spot.parent; pos = makes.3.0 } in
+pub has_created : (old new : Client) (kind : Kind) (target : Target) (made : Change) (id : ObjId) → Makes old (Create kind target) made → id ≡ object_of made → new ≡ edited old made → HasCreated old (Create kind target) id new
+has_created old new kind target made id makes is now =
+    let place : Place = record { parent = target.parent; pos = makes.3.0 } in
     let same : made ≡ change.Create id kind place = makes.3.2 ∙ ap (λ i. change.Create i kind place) (sym (is ∙ ap object_of makes.3.2)) in
-    (kind, place, subst (Makes old (Create kind spot)) same makes, now ∙ ap (edited old) same)
+    (kind, place, subst (Makes old (Create kind target)) same makes, now ∙ ap (edited old) same)

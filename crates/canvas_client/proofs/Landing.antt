@@ -1,4 +1,4 @@
--- Where an object lands at a spot.
+-- Where an object lands at a target.
 use Rattle.std.proofs.Common.{◌≡◌, List, ℕ, length, Option, Some, None, IfSome, IfNone, refl, sym, ap, subst, ◌∙◌}
 use Rattle.std.specs.Ordering.{nat_cmp, ordering_reverse}
 use Rattle.std.specs.Cmp.Lexicographic.{slice_cmp, nat_list_cmp_total}
@@ -11,7 +11,7 @@ use Rattle.canvas_model.specs.Document.{Doc, Place, Pos}
 use Rattle.canvas_model.specs.Order.{IsBefore}
 use Rattle.canvas_model.specs.Middle.{LiesBetween}
 use Rattle.canvas_model.specs.Sibling.{IsSibling, IsNext}
-use Rattle.canvas_model.specs.Local.{Spot, Has, IsPosAfter, Lands}
+use Rattle.canvas_model.specs.Local.{Target, Has, IsPosAfter, Lands}
 
 -- the position of the child that is named, which is one
 pub comes_after : (view : Doc) (parent except q : ObjId) (after : Option ObjId) (r : Option (Bor Pos)) → after ≡ Some q → (Has after (λ a. (pos : List ℕ) → IsSibling view parent except a pos → ⊥) → ⊥)
@@ -47,10 +47,10 @@ module _ (view : Doc) (parent except : ObjId) where
   same_next low (Some a) (Some b) p q = ap Some (neither a b (q.2 (p.0).0 a (p.0).1 p.1) (p.2 (q.0).0 b (q.0).1 q.1))
 
 -- where there is a position there is room
-pub lands_once : (view : Doc) (except : ObjId) (spot : Spot) (pos : Pos) → Lands view except spot (Some pos) → Lands view except spot None → ⊥
-lands_once view except spot pos (low, high, after, next, middle) (low2, high2, after2, next2, shut) =
-    let l : low2 ≡ low = same_low view spot.parent except spot.after low2 low after2 after in
-    let next_there : IsNext view spot.parent except low high2 = subst (λ x. IsNext view spot.parent except x high2) l next2 in
-    let h : high2 ≡ high = same_next view spot.parent except low high2 high next_there next in
+pub lands_once : (view : Doc) (except : ObjId) (target : Target) (pos : Pos) → Lands view except target (Some pos) → Lands view except target None → ⊥
+lands_once view except target pos (low, high, after, next, middle) (low2, high2, after2, next2, shut) =
+    let l : low2 ≡ low = same_low view target.parent except target.after low2 low after2 after in
+    let next_there : IsNext view target.parent except low high2 = subst (λ x. IsNext view target.parent except x high2) l next2 in
+    let h : high2 ≡ high = same_next view target.parent except low high2 high next_there next in
     shut (length pos) middle.short middle.least
     (subst (λ x. LiesBetween x high2 (length pos) middle.least) (sym l) (subst (λ y. LiesBetween low y (length pos) middle.least) (sym h) middle.is_least.holds))

@@ -15,19 +15,19 @@ use Rattle.canvas_client.specs.declared.error.EditError.{EditError}
 use Rattle.canvas_client.specs.declared.error.EditError.TheVariants as error
 use Rattle.canvas_client.specs.declared.request.EditRequestVariant.{EditRequestVariant}
 use Rattle.canvas_client.specs.declared.request.EditRequestVariant.TheVariants as variant
-use Rattle.canvas_client.specs.declared.request.Spot.{Spot}
+use Rattle.canvas_client.specs.declared.request.Target.{Target}
 
--- the spot that is stored here
-abbrev pub seen_spot : Spot → local.Spot
-seen_spot spot = record { parent = spot.parent; after = spot.after }
+-- the target that is stored here
+abbrev pub seen_target : Target → local.Target
+seen_target target = record { parent = target.parent; after = target.after }
 
 -- the request that is stored here
-abbrev pub seen_request : {A : Type 0} → EditRequestVariant A → EditRequest
-seen_request (variant.Create kind parent after) = Create kind (record { parent = parent; after = after })
-seen_request (variant.Set id name value) = Set id name value
-seen_request (variant.Clear id name) = Clear id name
-seen_request (variant.Move id parent after) = Move id (record { parent = parent; after = after })
-seen_request (variant.Delete id) = Delete id
+abbrev pub seen_edit_request : {A : Type 0} → EditRequestVariant A → EditRequest
+seen_edit_request (variant.Create kind parent after) = Create kind (record { parent = parent; after = after })
+seen_edit_request (variant.Set id name value) = Set id name value
+seen_edit_request (variant.Clear id name) = Clear id name
+seen_edit_request (variant.Move id parent after) = Move id (record { parent = parent; after = after })
+seen_edit_request (variant.Delete id) = Delete id
 
 -- the request holds no value that is too deep
 abbrev pub HoldsShallow : EditRequest → Type 0
@@ -62,13 +62,13 @@ IsRefusal client r None = Unit {0}
 IsRefusal client r (Some e) = Refuses client r e
 
 -- the child to come after isn't denied to be another child of that parent
-abbrev pub HasAfter : Doc → ObjId → local.Spot → Type 0
-HasAfter view except spot = Has spot.after (λ after. (pos : Pos) → IsSibling view spot.parent except after pos → ⊥) → ⊥
+abbrev pub HasAfter : Doc → ObjId → local.Target → Type 0
+HasAfter view except target = Has target.after (λ after. (pos : Pos) → IsSibling view target.parent except after pos → ⊥) → ⊥
 
--- there is no room at the spot; want of memory can be met at any
-abbrev pub IsCrowded : Doc → ObjId → local.Spot → Option local.EditError → Type 0
-IsCrowded view except spot None = Unit {0}
-IsCrowded view except spot (Some e) = (e ≡ local.Crowded) × Lands view except spot None
+-- there is no room at the target; want of memory can be met at any
+abbrev pub IsCrowded : Doc → ObjId → local.Target → Option local.EditError → Type 0
+IsCrowded view except target None = Unit {0}
+IsCrowded view except target (Some e) = (e ≡ local.Crowded) × Lands view except target None
 
 -- no refusal of the request holds, and the client has made its change
 abbrev pub HasMade : Client → EditRequest → Client → Type 0

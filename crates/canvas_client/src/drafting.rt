@@ -4,12 +4,12 @@ ghost use Rattle.std.specs.Option.{option_copied};
 ghost use Rattle.canvas_model.specs.Chain.{InTree};
 ghost use Rattle.canvas_model.specs.Document as document;
 ghost use Rattle.canvas_model.specs.Local.{ComesAfterNone, GoesBelowItself, Has, IsHidden, IsPosAfter};
-ghost use Rattle.canvas_model.specs.Local.{Lands, MovesRoot, kind_asked, spot_asked};
+ghost use Rattle.canvas_model.specs.Local.{Lands, MovesRoot, kind_asked, target_asked};
 ghost use Rattle.canvas_model.specs.Sibling.{IsSibling};
 ghost use Rattle.canvas_model.specs.Verdict.{MayNotStand};
-ghost use Rattle.canvas_client.specs.Asked.{HasAfter, IsCrowded, refusal, seen_spot};
+ghost use Rattle.canvas_client.specs.Asked.{HasAfter, IsCrowded, refusal, seen_target};
 
-use crate::request::Spot;
+use crate::request::Target;
 use crate::{EditError, EditRequest, EditRequestVariant};
 use canvas_doc::{Doc, Kind, ObjId};
 use canvas_judge::is_above;
@@ -44,13 +44,13 @@ pub(crate) fn comes_after_none<A: Allocator, C: Allocator>(
 ) -> bool
     ensures { IsTrue result ↔ ComesAfterNone view.now request.now }
 {
-    let Some(spot) = request.spot() else {
+    let Some(target) = request.target() else {
         return false;
     };
-    let Some(after) = spot.after else {
+    let Some(after) = target.after else {
         return false;
     };
-    sibling_position(view, spot.parent, request.moved(), after).is_none()
+    sibling_position(view, target.parent, request.moved(), after).is_none()
 }
 
 // Whether the parent isn't in the view's tree.
@@ -58,10 +58,10 @@ pub(crate) fn has_hidden_parent<A: Allocator, C: Allocator>(
     view: &Doc<A>,
     request: &EditRequest<C>,
 ) -> bool
-    ensures { IsTrue result ↔ Has (spot_asked request.now) (λ spot. InTree view.now spot.parent → ⊥) }
+    ensures { IsTrue result ↔ Has (target_asked request.now) (λ target. InTree view.now target.parent → ⊥) }
 {
-    match request.spot() {
-        Some(spot) => !is_above(view, ObjId::ROOT, spot.parent),
+    match request.target() {
+        Some(target) => !is_above(view, ObjId::ROOT, target.parent),
         None => false,
     }
 }
@@ -71,16 +71,16 @@ pub(crate) fn has_bad_parent<A: Allocator, C: Allocator>(
     view: &Doc<A>,
     request: &EditRequest<C>,
 ) -> bool
-    ensures { IsTrue result ↔ Has (spot_asked request.now)
-        (λ spot. MayNotStand (kind_asked view.now request.now) (document.kind_of view.now spot.parent)) }
+    ensures { IsTrue result ↔ Has (target_asked request.now)
+        (λ target. MayNotStand (kind_asked view.now request.now) (document.kind_of view.now target.parent)) }
 {
-    match request.spot() {
-        Some(spot) => may_not_stand(kind_asked(view, request), view.kind_of(spot.parent)),
+    match request.target() {
+        Some(target) => may_not_stand(kind_asked(view, request), view.kind_of(target.parent)),
         None => false,
     }
 }
 
-// The kind of what is to stand at the spot that is asked for.
+// The kind of what is to stand at the target that is asked for.
 fn kind_asked<A: Allocator, C: Allocator>(view: &Doc<A>, request: &EditRequest<C>) -> Option<Kind>
     ensures { result ≡ kind_asked view.now request.now }
 {
@@ -136,28 +136,28 @@ fn sibling_position<A: Allocator>(
 }
 
 // The position of the child to come after, or none to come first.
-fn position_before<A: Allocator>(view: &Doc<A>, except: ObjId, spot: Spot) -> Option<&Pos<A>>
-    requires { HasAfter view.now except (seen_spot spot) }
-    ensures { IsPosAfter view.now spot.parent except spot.after (option_copied result) }
+fn position_before<A: Allocator>(view: &Doc<A>, except: ObjId, target: Target) -> Option<&Pos<A>>
+    requires { HasAfter view.now except (seen_target target) }
+    ensures { IsPosAfter view.now target.parent except target.after (option_copied result) }
 {
-    match spot.after {
-        Some(after) => sibling_position(view, spot.parent, except, after),
+    match target.after {
+        Some(after) => sibling_position(view, target.parent, except, after),
         None => None,
     }
 }
 
-// The position at a spot, half way between the child to come after and the next. `Crowded` comes where there is no room.
+// The position at a target, half way between the child to come after and the next. `Crowded` comes where there is no room.
 pub(crate) fn position_at<A: Allocator, B: Allocator + Copy>(
     alloc: B,
     view: &Doc<A>,
     except: ObjId,
-    spot: Spot,
+    target: Target,
 ) -> Result<Pos<B>, EditError>
-    requires { HasAfter view.now except (seen_spot spot) }
-    ensures ok { IfOk result (λ pos. Lands view.now except (seen_spot spot) (Some pos)) }
-    ensures err { IfErr result (λ error. IsCrowded view.now except (seen_spot spot) (refusal error)) }
+    requires { HasAfter view.now except (seen_target target) }
+    ensures ok { IfOk result (λ pos. Lands view.now except (seen_target target) (Some pos)) }
+    ensures err { IfErr result (λ error. IsCrowded view.now except (seen_target target) (refusal error)) }
 {
-    let low = position_before(view, except, spot);
-    let high = view.next_position(spot.parent, low, except);
+    let low = position_before(view, except, target);
+    let high = view.next_position(target.parent, low, except);
     between(alloc, low, high)?.ok_or(EditError::Crowded)
 }

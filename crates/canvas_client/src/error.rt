@@ -27,8 +27,8 @@ pub enum EditError {
     /// The new parent is the object or lies below it.
     #[error("the parent is the object or lies below it")]
     OwnDescendant = 5,
-    /// No position is left at the spot.
-    #[error("there is no room at this spot")]
+    /// No position is left at the target.
+    #[error("there is no room there")]
     Crowded = 6,
     /// The client has used all its counters, of which 4294967295 is the last.
     #[error("the client can create no more objects")]

@@ -5,13 +5,13 @@ mod changes;
 mod client;
 mod drafting;
 mod error;
+mod fields;
 mod laws;
 mod local;
 mod merged;
 mod overlay;
 mod received;
 mod request;
-mod rows;
 mod shown;
 
 pub use changes::Changes;

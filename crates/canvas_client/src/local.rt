@@ -6,13 +6,13 @@ ghost use Rattle.canvas_model.specs.Local.{Clear, Create, Delete, EditRequest as
 ghost use Rattle.canvas_model.specs.Local.{counter_after, edited};
 ghost use Rattle.canvas_model.specs.Value.{IsShallow};
 ghost use Rattle.canvas_client.specs.Asked.{HasCreated, HasMade, IsRefusal, NoneBefore, StandsStill};
-ghost use Rattle.canvas_client.specs.Asked.{refusal, seen_spot};
+ghost use Rattle.canvas_client.specs.Asked.{refusal, seen_target};
 
 use crate::drafting::{
     comes_after_none, goes_below_itself, has_bad_parent, has_hidden_parent, is_hidden, moves_root,
     position_at,
 };
-use crate::request::Spot;
+use crate::request::Target;
 use crate::{Client, EditError, EditRequest, EditRequestVariant};
 use canvas_doc::{Change, ChangeVariant, Kind, Name, ObjId, Place, Value};
 use canvas_model::{LAST_VERSION, every_view};
@@ -84,39 +84,39 @@ impl<A: Allocator> Client<A> {
                 parent,
                 after,
             } => {
-                let spot = Spot {
+                let target = Target {
                     parent: *parent,
                     after: *after,
                 };
-                self.draft_create(alloc, client, *kind, spot)
+                self.draft_create(alloc, client, *kind, target)
             }
             EditRequestVariant::Set { id, name, value } => self.draft_set(alloc, *id, name, value),
             EditRequestVariant::Clear { id, name } => self.draft_clear(alloc, *id, name),
             EditRequestVariant::Move { id, parent, after } => {
-                let spot = Spot {
+                let target = Target {
                     parent: *parent,
                     after: *after,
                 };
-                self.draft_move(alloc, *id, spot)
+                self.draft_move(alloc, *id, target)
             }
             EditRequestVariant::Delete { id } => self.draft_delete(*id),
         }
     }
 
-    // The creation of an object at the spot.
+    // The creation of an object at the target.
     fn draft_create<B: Allocator + Copy>(
         &self,
         alloc: B,
         client: u32,
         kind: Kind,
-        spot: Spot,
+        target: Target,
     ) -> Result<Change<B>, EditError>
         requires id { self.now.id ≡ Some client }
-        requires none { NoneBefore self.now (Create kind (seen_spot spot)) 6 }
-        ensures ok { IfOk result (Makes self.now (Create kind (seen_spot spot))) }
-        ensures err { IfErr result (λ error. IsRefusal self.now (Create kind (seen_spot spot)) (refusal error)) }
+        requires none { NoneBefore self.now (Create kind (seen_target target)) 6 }
+        ensures ok { IfOk result (Makes self.now (Create kind (seen_target target))) }
+        ensures err { IfErr result (λ error. IsRefusal self.now (Create kind (seen_target target)) (refusal error)) }
     {
-        let pos = position_at(alloc, self.view(), ObjId::ROOT, spot)?;
+        let pos = position_at(alloc, self.view(), ObjId::ROOT, target)?;
         let Some(counter) = self.next_counter() else {
             return Err(EditError::IdsSpent);
         };
@@ -124,7 +124,7 @@ impl<A: Allocator> Client<A> {
             return Err(EditError::Full);
         }
         let place = Place {
-            parent: spot.parent,
+            parent: target.parent,
             pos,
         };
         Ok(Change::create(ObjId { client, counter }, kind, place))
@@ -175,23 +175,23 @@ impl<A: Allocator> Client<A> {
         }
     }
 
-    // The move of an object to the spot.
+    // The move of an object to the target.
     fn draft_move<B: Allocator + Copy>(
         &self,
         alloc: B,
         id: ObjId,
-        spot: Spot,
+        target: Target,
     ) -> Result<Change<B>, EditError>
-        requires { NoneBefore self.now (Move id (seen_spot spot)) 6 }
-        ensures ok { IfOk result (Makes self.now (Move id (seen_spot spot))) }
-        ensures err { IfErr result (λ error. IsRefusal self.now (Move id (seen_spot spot)) (refusal error)) }
+        requires { NoneBefore self.now (Move id (seen_target target)) 6 }
+        ensures ok { IfOk result (Makes self.now (Move id (seen_target target))) }
+        ensures err { IfErr result (λ error. IsRefusal self.now (Move id (seen_target target)) (refusal error)) }
     {
-        let pos = position_at(alloc, self.view(), id, spot)?;
+        let pos = position_at(alloc, self.view(), id, target)?;
         if self.is_full() {
             return Err(EditError::Full);
         }
         let place = Place {
-            parent: spot.parent,
+            parent: target.parent,
             pos,
         };
         Ok(Change::move_to(id, place))

@@ -13,8 +13,8 @@ ghost use Rattle.canvas_client.specs.Follow.{LeavesRoot};
 ghost use Rattle.canvas_client.specs.Rise.{IsRise, removed};
 
 use crate::Changes;
+use crate::fields::follow;
 use crate::overlay::overlaid;
-use crate::rows::follow;
 use crate::shown::Shown;
 use canvas_doc::{Change, Doc};
 use canvas_judge::{Entry, Outcome};

@@ -1,8 +1,8 @@
 // What a user asks of a client.
 ghost use Rattle.std.specs.Prelude.{◌≡◌, ◌↔◌, IsTrue, IsOk, IfOk};
 ghost use Rattle.std.specs.Option.{option_map};
-ghost use Rattle.canvas_model.specs.Local.{Clear, Create, Delete, Move, Set, moved, spot_asked, subject};
-ghost use Rattle.canvas_client.specs.Asked.{HoldsShallow, seen_request, seen_spot};
+ghost use Rattle.canvas_model.specs.Local.{Clear, Create, Delete, Move, Set, moved, target_asked, subject};
+ghost use Rattle.canvas_client.specs.Asked.{HoldsShallow, seen_edit_request, seen_target};
 
 use canvas_doc::{Kind, Name, ObjId, TooDeep, Value};
 use std::alloc::{AllocError, Allocator, Global};
@@ -50,20 +50,20 @@ impl<A: Allocator> Model for EditRequest<A> {
     ghost use Rattle.std.specs.Coded.{codes};
     ghost use Rattle.canvas_model.specs.Local as local;
     ghost use Rattle.canvas_model.specs.Codes.{value_code};
-    ghost use Rattle.canvas_client.specs.Asked.{HoldsShallow, seen_request};
+    ghost use Rattle.canvas_client.specs.Asked.{HoldsShallow, seen_edit_request};
 
     ghost Value = { local.EditRequest };
 
     ghost coded = { Prim.hlevel (codes, value_code) };
 
-    ghost view = { λ r. seen_request r.variant };
+    ghost view = { λ r. seen_edit_request r.variant };
 
-    ghost invariant = { λ r. HoldsShallow (seen_request r.variant) };
+    ghost invariant = { λ r. HoldsShallow (seen_edit_request r.variant) };
 }
 
 // Where an object is to stand: its parent, and the child that it comes after, or none to come first.
 #[derive(Clone, Copy)]
-pub(crate) struct Spot {
+pub(crate) struct Target {
     pub(crate) parent: ObjId,
     pub(crate) after: Option<ObjId>,
 }
@@ -122,7 +122,7 @@ impl<A: Allocator> EditRequest<A> {
 
     /// What the request asks for.
     pub fn variant(&self) -> &EditRequestVariant<A>
-        ensures variant { seen_request result.now ≡ self.now }
+        ensures variant { seen_edit_request result.now ≡ self.now }
         ensures shallow { HoldsShallow self.now }
     {
         &self.variant
@@ -219,16 +219,16 @@ impl<A: Allocator> EditRequest<A> {
         }
     }
 
-    // The spot that it asks for.
-    pub(crate) fn spot(&self) -> Option<Spot>
-        ensures { option_map seen_spot result ≡ spot_asked self.now }
+    // The target that it asks for.
+    pub(crate) fn target(&self) -> Option<Target>
+        ensures { option_map seen_target result ≡ target_asked self.now }
     {
         match &self.variant {
-            EditRequestVariant::Create { parent, after, .. } => Some(Spot {
+            EditRequestVariant::Create { parent, after, .. } => Some(Target {
                 parent: *parent,
                 after: *after,
             }),
-            EditRequestVariant::Move { parent, after, .. } => Some(Spot {
+            EditRequestVariant::Move { parent, after, .. } => Some(Target {
                 parent: *parent,
                 after: *after,
             }),

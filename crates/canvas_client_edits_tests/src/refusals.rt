@@ -98,7 +98,7 @@ fn growths(alloc: Global, asked: Asked) -> Result<Option<u64>, Fail> {
     Ok(None)
 }
 
-// Beside the change, its place among those that wait, and the view: a move and a deletion grow the counts by object once, a set
+// Beside the change, its item in the list of those that wait, and the view: a move and a deletion grow the counts by object once, a set
 // and a clear the counts by property three times.
 #[test]
 fn edits_with_growths_refused(rt: HostRuntime) -> Result<(), Fail> {

@@ -1,4 +1,4 @@
--- What stands where a search through entries in order ends.
+-- What stands where a search through items in order ends.
 use Rattle.std.proofs.Common.{◌≡◌, ◌≢◌, ℕ, suc, zero, ◌+◌, ◌-◌, ◌<◌, ◌≤◌, Bool, true, false, cond, List, [], ◌∷◌, length, get_or, Option, Some, None, Ok, Err, T, refl, sym, ap, subst, ◌∙◌, arith}
 use Rattle.std.specs.List.{AllWithin, slice_get}
 use Rattle.std.specs.Cmp.{IsTotalOrder}

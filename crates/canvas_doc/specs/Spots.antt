@@ -11,7 +11,7 @@ use Rattle.canvas_model.specs.declared.ObjId.{ObjId}
 use Rattle.canvas_model.specs.Ids.{id_cmp, root}
 use Rattle.canvas_model.specs.Document.{Doc, Place, Pos, place_of}
 
--- q is below id
+-- q is less than id
 abbrev pub is_lesser : ObjId → ObjId → Bool
 is_lesser id q = is_lt (id_cmp q id)
 

@@ -1,4 +1,4 @@
--- Documents as rows: their texts are of their kinds, and how deep their trees nest.
+-- Documents as rows: their texts are of their kinds, and how deep their JSON trees nest.
 use Rattle.std.specs.Prelude.{map as list_map}
 use Rattle.std.proofs.Common.{◌≡◌, ◌++◌, ℕ, ◌≤◌, nat_le, max, List, [], ◌∷◌, get_or, All, T, Bool, true, false, Option, Some, None, refl, ap, sym, subst, ◌∙◌, arith}
 use Rattle.std.specs.List.{list_all}

@@ -14,7 +14,7 @@ use Rattle.canvas_model.specs.Text.{kind_word}
 use Rattle.canvas_model.specs.Change.{Change, Create, Set, Move, Delete}
 use Rattle.canvas_model.specs.Verdict.{Outcome, Joined, Created, WasSet, Moved, Removed, Refused, number_of}
 use Rattle.canvas_value.specs.Shape.{shape}
-use Rattle.canvas_value.specs.Codec.{Codec, IsCodec, IsRow, IsWorded}
+use Rattle.canvas_value.specs.Codec.{Codec, IsCodec, AreMembers, IsWorded}
 use Rattle.canvas_value.specs.Parts.{is_within, whole_in, with_fit, choice, after, array_of, each, end, headed}
 use Rattle.canvas_value.specs.Json.{name_form}
 use Rattle.canvas_value.proofs.Forms.{first, second, whole_is, text_is, via_is, maybe_is, end_is, member_is, each_is, array_is, headed_is, after_is, choice_is, some_mapped}
@@ -197,7 +197,7 @@ outcome_only (inr (inr (inr (inr (inl p))))) = refl
 outcome_only (inr (inr (inr (inr (inr p))))) = refl
 
 module _ (v : Version) (h : v.last_reason ≤ 7) where
-  refused_is : IsRow (refused v)
+  refused_is : AreMembers (refused v)
   refused_is = member_is _ _ (reason_is v h) (member_is _ _ (maybe_is place_form place_is (λ place e. cc)) end_is)
 
   removed_is : IsWorded (choice (codes "removed") (alone (array_of (each id_form))) (after (codes "refused") (refused v)))

@@ -1,4 +1,4 @@
--- Rows in order, by their trees.
+-- Rows in order, by their JSON trees.
 use Rattle.std.proofs.Common.{◌≡◌, ◌≢◌, ℕ, zero, suc, ◌+◌, ◌<◌, pos, Bool, true, false, true≢false, ◌&&◌, List, [], ◌∷◌, length, get_or, Option, Some, None, T, codes, bytes_eq, refl, ap, sym, ◌∙◌, arith, add-one}
 use Rattle.std.specs.Prelude.{is_some, not}
 use Rattle.std.specs.List.{list_all, IsAllAdjacentAnswer}
@@ -20,7 +20,7 @@ use Rattle.canvas_doc.proofs.Searched.{second, head_below, below_at, rising_answ
 use Rattle.canvas_doc.proofs.Whole.{rooted_is_document}
 use Rattle.canvas_value.specs.Parts.{each_written, maybe_written}
 use Rattle.canvas_value.proofs.Forms.{both_hold, both_true}
-use Rattle.canvas_forms.specs.Tree.{count}
+use Rattle.canvas_forms.specs.JsonTree.{count}
 use Rattle.canvas_forms.specs.Places.{place_form}
 use Rattle.canvas_forms.specs.Rows.{row_form, rows_form}
 use Rattle.canvas_forms.specs.RowOrder.{wide_cmp, wide_root, two_in, four_in, head_in, is_given, is_root, is_after, are_after, are_each_after, are_in_order}

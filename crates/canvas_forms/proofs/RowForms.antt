@@ -44,7 +44,7 @@ module _ {D X : Type 0} (form : D → D) (test : X → Bool) (f : Form D X) (h :
     shaped = λ d x s e. let k = both_hold (f.sound x) (test x) s in kept_some (f.read d) (h.shaped d x k.0 e) (λ y b r. same_test y x (h.same d y b r ∙ sym e) ∙ k.1);
   }
 
--- ---- properties: the order of their names is told from the shape of their tree
+-- ---- properties: the order of their names is told from the shape of their JSON tree
 
 name_at : Data → Name
 name_at (array (item (string s) ds)) = s

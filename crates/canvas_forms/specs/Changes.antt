@@ -7,7 +7,7 @@ use Rattle.canvas_model.specs.declared.Kind.{Kind}
 use Rattle.canvas_model.specs.Value.{Value}
 use Rattle.canvas_model.specs.Document.{Place, Name}
 use Rattle.canvas_model.specs.Change.{Change, Create, Set, Move, Delete}
-use Rattle.canvas_value.specs.Codec.{Codec, Row, Worded}
+use Rattle.canvas_value.specs.Codec.{Codec, Members, Worded}
 use Rattle.canvas_value.specs.Parts.{via, array_of, headed, choice, after, member, end}
 use Rattle.canvas_value.specs.Json.{value_form, name_form}
 use Rattle.canvas_forms.specs.Ids.{id_form}
@@ -15,23 +15,23 @@ use Rattle.canvas_forms.specs.Kinds.{kind_form}
 use Rattle.canvas_forms.specs.Places.{place_form}
 
 -- `id,kind,place`
-abbrev pub created : Row (ObjId × (Kind × (Place × Unit {0})))
+abbrev pub created : Members (ObjId × (Kind × (Place × Unit {0})))
 created = member id_form (member kind_form (member place_form end))
 
 -- `id,name,value`
-abbrev pub set_to : Row (ObjId × (Name × (Value × Unit {0})))
+abbrev pub set_to : Members (ObjId × (Name × (Value × Unit {0})))
 set_to = member id_form (member name_form (member value_form end))
 
 -- `id,name`
-abbrev pub cleared : Row (ObjId × (Name × Unit {0}))
+abbrev pub cleared : Members (ObjId × (Name × Unit {0}))
 cleared = member id_form (member name_form end)
 
 -- `id,place`
-abbrev pub moved : Row (ObjId × (Place × Unit {0}))
+abbrev pub moved : Members (ObjId × (Place × Unit {0}))
 moved = member id_form (member place_form end)
 
 -- `id`
-abbrev pub deleted : Row (ObjId × Unit {0})
+abbrev pub deleted : Members (ObjId × Unit {0})
 deleted = member id_form end
 
 -- what stands in a change

@@ -1,7 +1,7 @@
 pub mod Version
 pub mod Numbered
 pub mod Only
-pub mod Tree
+pub mod JsonTree
 pub mod Ids
 pub mod Kinds
 pub mod Places

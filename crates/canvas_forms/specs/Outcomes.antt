@@ -7,7 +7,7 @@ use Rattle.canvas_model.specs.declared.Reason.{Reason}
 use Rattle.canvas_model.specs.declared.Reason.TheVariants.{IsRoot, BadId, Gone, ParentGone, BadParent, Cycle, Crowded}
 use Rattle.canvas_model.specs.Document.{Place}
 use Rattle.canvas_model.specs.Verdict.{Outcome, Joined, Created, WasSet, Moved, Removed, Refused, number_of}
-use Rattle.canvas_value.specs.Codec.{Codec, Row, Worded}
+use Rattle.canvas_value.specs.Codec.{Codec, Members, Worded}
 use Rattle.canvas_value.specs.Parts.{via, array_of, each, maybe, headed, choice, after, member, end}
 use Rattle.canvas_forms.specs.Version.{Version}
 use Rattle.canvas_forms.specs.Numbered.{numbered}
@@ -23,11 +23,11 @@ abbrev pub reason_form : Version → Codec Reason
 reason_form v = numbered 1 v.last_reason reason_of number_of
 
 -- one member alone
-abbrev pub alone : {X : Type 0} → Codec X → Row (X × Unit {0})
+abbrev pub alone : {X : Type 0} → Codec X → Members (X × Unit {0})
 alone c = member c end
 
 -- `reason,place` or `reason,null`
-abbrev pub refused : Version → Row (Reason × (Option Place × Unit {0}))
+abbrev pub refused : Version → Members (Reason × (Option Place × Unit {0}))
 refused v = member (reason_form v) (member (maybe place_form) end)
 
 -- what stands in an outcome

@@ -1,4 +1,4 @@
--- Which rows stand in order: told from the tree, since an id is compared with the next whatever the range of its numbers.
+-- Which rows stand in order: told from the JSON tree, since an id is compared with the next whatever the range of its numbers.
 use Rattle.std.specs.Prelude.{◌&&◌, ℤ, pos, List, Bool, true, false, not, is_some, Option, Some, None, codes, bytes_eq, if◌then◌else◌}
 use Rattle.std.specs.Option.{option_map, option_and_then}
 use Rattle.std.specs.Ordering.{int_cmp, on, then_cmp, is_lt, is_eq}
@@ -8,7 +8,7 @@ use Rattle.serde_json.specs.Data.{Data, null, boolean, string, array, object, It
 use Rattle.serde_json.specs.Find.{as_integer, as_null}
 use Rattle.canvas_model.specs.declared.ObjId.{ObjId}
 use Rattle.canvas_model.specs.Document.{Object}
-use Rattle.canvas_forms.specs.Tree.{members}
+use Rattle.canvas_forms.specs.JsonTree.{members}
 use Rattle.canvas_forms.specs.Rows.{rows_form}
 use Rattle.canvas_forms.specs.declared.order.WideId.{WideId}
 use Rattle.canvas_forms.specs.declared.order.RowHead.{RowHead}
@@ -21,7 +21,7 @@ wide_cmp = then_cmp (on (λ w. w.client) int_cmp) (on (λ w. w.counter) int_cmp)
 abbrev pub wide_root : WideId
 wide_root = record { client = pos 0; counter = pos 0 }
 
--- the whole number that a tree is
+-- the whole number that a JSON tree is
 abbrev pub integer_in : Data → Option ℤ
 integer_in null = None
 integer_in (boolean b) = None
@@ -37,11 +37,11 @@ two_in (item a no_items) = None
 two_in (item a (item b no_items)) = option_and_then (λ client. option_map (λ counter. record { client = client; counter = counter }) (integer_in b)) (integer_in a)
 two_in (item a (item b (item c ds))) = None
 
--- the id that a tree is, whatever the range of its numbers
+-- the id that a JSON tree is, whatever the range of its numbers
 abbrev pub wide_in : Data → Option WideId
 wide_in d = option_and_then two_in (members d)
 
--- the tree is the word of a document
+-- the JSON tree is the word of a document
 abbrev pub is_document : Data → Bool
 is_document null = false
 is_document (boolean b) = false
@@ -50,7 +50,7 @@ is_document (string s) = bytes_eq s (codes "document")
 is_document (array ds) = false
 is_document (object ms) = false
 
--- the tree isn't null
+-- the JSON tree isn't null
 abbrev pub is_given : Data → Bool
 is_given d = not (is_some (as_null d))
 
@@ -102,6 +102,6 @@ are_in_order (string s) = false
 are_in_order (array ds) = are_rows ds
 are_in_order (object ms) = false
 
--- the rows that a tree in order is read as
+-- the rows that a JSON tree in order is read as
 abbrev pub rows_in : Data → Option (List (ObjId × Object) × Bool)
 rows_in d = if are_in_order d then rows_form.read d else None

@@ -2,7 +2,7 @@
 use Rattle.std.specs.Prelude.{ℕ}
 
 pub record Version : Type 0 where
-  -- the number that a node names as it joins, and a checkpoint at its head
+  -- the number that a client names as it joins, and a checkpoint at its head
   pub number : ℕ
   -- the greatest number of a reason for which a change is refused
   pub last_reason : ℕ

@@ -20,7 +20,7 @@ pub(crate) fn kind_word(kind: Kind) -> &'static str
     }
 }
 
-// The kind of which a tree is the word.
+// The kind of which a JSON tree is the word.
 pub(crate) fn read_kind(json: &Json) -> Option<(Kind, bool)>
     ensures { result ≡ kind_form.read (view json.now) }
 {

@@ -1,9 +1,9 @@
-// Whether rows stand in order. It is told from their trees: ids are compared whatever the range of their numbers.
+// Whether rows stand in order. It is told from their JSON trees: ids are compared whatever the range of their numbers.
 ghost use Rattle.std.specs.Prelude.{◌≡◌};
 ghost use Rattle.serde_json.specs.View.{view, items_view};
 ghost use Rattle.canvas_forms.specs.RowOrder.{wide_cmp, integer_in, wide_in, is_document, head_in, is_root, is_after, are_each_after, are_rows};
 
-use crate::tree::{four, members, two};
+use crate::json_tree::{four, members, two};
 use serde_json::Value as Json;
 use std::cmp::Ordering;
 
@@ -91,7 +91,7 @@ fn head(row: &Json) -> Option<RowHead>
     })
 }
 
-// The id that a tree is, whatever the range of its numbers.
+// The id that a JSON tree is, whatever the range of its numbers.
 #[tactic(auto, using(crate::proofs::Orders::not_two))]
 fn wide_id(json: &Json) -> Option<WideId>
     ensures { result ≡ wide_in (view json.now) }
@@ -103,7 +103,7 @@ fn wide_id(json: &Json) -> Option<WideId>
     })
 }
 
-// The whole number that a tree is.
+// The whole number that a JSON tree is.
 fn integer(json: &Json) -> Option<i128>
     ensures { result ≡ integer_in (view json.now) }
 {
@@ -113,7 +113,7 @@ fn integer(json: &Json) -> Option<i128>
     }
 }
 
-// Whether a tree is the word of a document.
+// Whether a JSON tree is the word of a document.
 fn is_document(json: &Json) -> bool
     ensures { result ≡ is_document (view json.now) }
 {

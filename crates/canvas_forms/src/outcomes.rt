@@ -11,8 +11,8 @@ ghost use Rattle.canvas_forms.specs.Ids.{id_form};
 ghost use Rattle.canvas_forms.specs.Outcomes.{outcome_form, outcome_after, reason_form, reason_of};
 
 use crate::ids::{read_id, write_id};
+use crate::json_tree::{array, members, one, two, whole32, worded};
 use crate::places::{read_maybe_place, read_place, write_maybe_place, write_place};
-use crate::tree::{array, members, one, two, whole32, worded};
 use canvas_doc::{ObjId, Place};
 use canvas_judge::{Outcome, Reason};
 use canvas_value::JsonFault;
@@ -76,9 +76,9 @@ fn write_ids(alloc: Global, ids: &[ObjId]) -> Result<Json, AllocError>
     Ok(Json::from(items))
 }
 
-/// The outcome that a tree is read as, and whether each whole number in it was in range.
+/// The outcome that a JSON tree is read as, and whether each whole number in it was in range.
 ///
-/// `NotAValue` for a tree that is that of no outcome, whatever its whole numbers; `OutOfRange` is never answered.
+/// `NotAValue` for a JSON tree that is that of no outcome, whatever its whole numbers; `OutOfRange` is never answered.
 #[tactic(auto, using(crate::proofs::Members::no_word, crate::proofs::Members::word_first))]
 pub fn read_outcome<A: Allocator + Copy>(
     alloc: A,
@@ -212,7 +212,7 @@ fn read_refused<A: Allocator>(alloc: A, rest: &[Json]) -> Result<(Outcome<A>, bo
     }
 }
 
-// The reason whose number a tree is, and whether it is one.
+// The reason whose number a JSON tree is, and whether it is one.
 fn read_reason(json: &Json) -> Option<(Reason, bool)>
     ensures { result ≡ (reason_form version_one).read (view json.now) }
 {

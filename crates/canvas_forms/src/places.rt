@@ -7,7 +7,7 @@ ghost use Rattle.canvas_value.specs.Faults.{RefusesShape};
 ghost use Rattle.canvas_forms.specs.Places.{pos_form, pos_fault, place_form};
 
 use crate::ids::{read_id, write_id};
-use crate::tree::{array, members, two};
+use crate::json_tree::{array, members, two};
 use canvas_doc::Place;
 use canvas_pos::{Pos, PosError};
 use canvas_value::JsonFault;
@@ -36,7 +36,7 @@ pub(crate) fn write_maybe_place<A: Allocator>(
     }
 }
 
-// The position of which a tree is the text.
+// The position of which a JSON tree is the text.
 #[tactic(auto, using(crate::proofs::Positions::is_position_from, crate::proofs::Positions::pos_refused))]
 fn read_pos<A: Allocator>(alloc: A, json: &Json) -> Result<Pos<A>, JsonFault>
     ensures ok { IfOk result (λ p. pos_form.read (view json.now) ≡ Some (p, true)) }
@@ -61,7 +61,7 @@ fn fault_of(e: PosError) -> JsonFault
     }
 }
 
-// The place that a tree is read as, and whether its numbers were in range.
+// The place that a JSON tree is read as, and whether its numbers were in range.
 #[tactic(auto, using(crate::proofs::Members::not_two, crate::proofs::Members::no_array, crate::proofs::Members::is_array, crate::proofs::Members::and_true))]
 pub(crate) fn read_place<A: Allocator>(alloc: A, json: &Json) -> Result<(Place<A>, bool), JsonFault>
     ensures ok { IfOk result (λ r. place_form.read (view json.now) ≡ Some r) }
@@ -82,7 +82,7 @@ pub(crate) fn read_place<A: Allocator>(alloc: A, json: &Json) -> Result<(Place<A
     }
 }
 
-// The place that a tree is read as, or none for `null`, and whether its numbers were in range.
+// The place that a JSON tree is read as, or none for `null`, and whether its numbers were in range.
 pub(crate) fn read_maybe_place<A: Allocator>(
     alloc: A,
     json: &Json,

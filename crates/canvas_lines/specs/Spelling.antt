@@ -50,9 +50,9 @@ SpellsPlace text place = IsPlace place × (text ≡ place_text place)
 abbrev pub SpellsName : List ℕ → Name → Type 0
 SpellsName word name = IsName name × (word ≡ name)
 
--- the text is UTF-8, and JSON of this tree
-abbrev pub SpellsTree : List ℕ → Data → Type 0
-SpellsTree text json = IsUtf8 text × (read text ≡ Some json)
+-- the text is UTF-8, and that of this JSON tree
+abbrev pub SpellsJson : List ℕ → Data → Type 0
+SpellsJson text json = IsUtf8 text × (read text ≡ Some json)
 
 -- the text is UTF-8, and JSON of this value
 abbrev pub SpellsValue : List ℕ → Value → Type 0

@@ -3,7 +3,7 @@ ghost use Rattle.std.specs.Prelude.{IfErr, IfOk};
 ghost use Rattle.canvas_model.specs.Words.{IsCut};
 ghost use Rattle.serde_json.specs.View.{view};
 ghost use Rattle.canvas_lines.specs.Errors.{IsLineError, IsUncut, IsUnspelled};
-ghost use Rattle.canvas_lines.specs.Spelling.{SpellsName, SpellsPlace, SpellsPosition, SpellsTree, SpellsValue, SpellsVerb};
+ghost use Rattle.canvas_lines.specs.Spelling.{SpellsName, SpellsPlace, SpellsPosition, SpellsJson, SpellsValue, SpellsVerb};
 
 use crate::error::LineError;
 use canvas_doc::{Name, ObjId, Place, Value};
@@ -102,10 +102,10 @@ pub fn read_value(alloc: Global, text: &[u8]) -> Result<Value, LineError>
     }
 }
 
-// The tree whose JSON the text is.
+// The JSON tree whose text it is.
 fn read_json(alloc: Global, text: &[u8]) -> Result<Json, LineError>
-    ensures ok { IfOk result (λ json. SpellsTree text.now (view json)) }
-    ensures err { IfErr result (IsLineError (SpellsTree text.now)) }
+    ensures ok { IfOk result (λ json. SpellsJson text.now (view json)) }
+    ensures err { IfErr result (IsLineError (SpellsJson text.now)) }
 {
     match Json::from_slice(alloc, text) {
         Ok(json) => Ok(json),

@@ -1,4 +1,4 @@
--- Bytes are cut at the first mark in one way.
+-- Bytes are cut at the first separator in one way.
 use Rattle.std.proofs.Common.{◌≡◌, ◌≢◌, ◌==◌, ◌||◌, Bool, false, ℕ, zero, suc, List, [], ◌∷◌, ◌++◌, refl, sym, ap, subst, ◌∙◌, arith}
 use Rattle.std.proofs.lemmas.Bool.Decides.{nat_tests}
 use Rattle.canvas_model.specs.Words.{Lacks, IsCut}
@@ -13,17 +13,17 @@ one_cut m (a ∷ x) (b ∷ y) r s hx hy e =
     let both = one_cut m x y r s (λ k lt. hx (suc k) (omega arith)) (λ k lt. hy (suc k) (omega arith)) rest in
     (ap (λ h. h ∷ x) head ∙ ap (λ t. b ∷ t) both.0, both.1)
 
-mark_there : (m : ℕ) (x r : List ℕ) → Lacks m (x ++ m ∷ r) → ⊥
-mark_there m [] r h = h 0 (omega arith) refl
-mark_there m (a ∷ x) r h = mark_there m x r (λ k lt. h (suc k) (omega arith))
+separator_there : (m : ℕ) (x r : List ℕ) → Lacks m (x ++ m ∷ r) → ⊥
+separator_there m [] r h = h 0 (omega arith) refl
+separator_there m (a ∷ x) r h = separator_there m x r (λ k lt. h (suc k) (omega arith))
 
 -- the cut of what is so spelled
 pub cut_is : (m : ℕ) (s before after x r : List ℕ) → IsCut m s before after → Lacks m x → s ≡ x ++ m ∷ r → (before ≡ x) × (after ≡ r)
 cut_is m s before after x r cut lacks is = one_cut m before x after r cut.first lacks (sym cut.parts ∙ is)
 
--- what is so spelled has the mark
+-- what is so spelled has the separator
 pub uncut : (m : ℕ) (s x r : List ℕ) → Lacks m s → s ≡ x ++ m ∷ r → ⊥
-uncut m s x r lacks is = mark_there m x r (subst (Lacks m) is lacks)
+uncut m s x r lacks is = separator_there m x r (subst (Lacks m) is lacks)
 
 abbrev has : ℕ → List ℕ → Bool
 has m [] = false

@@ -52,7 +52,7 @@ opening_sound = record {
 
 pub empty_good : IsGood empty
 empty_good = record {
-  counts = record { told = omega arith; shown = omega arith; kept = omega arith };
+  bounds = record { told = omega arith; shown = omega arith; kept = omega arith };
   askers = refl;
   legal = record { fits = tt; short = omega arith };
   sound = opening_sound;

@@ -1,4 +1,4 @@
--- How proofs store the model's data: as trees of numbers that give them back.
+-- How proofs store the model's data: as codes that give them back.
 use Rattle.std.specs.Prelude.{◌≡◌, ℕ, zero, suc, ℤ, pos, negsuc, Bool, true, false, List, [], ◌∷◌, Option, refl}
 use Rattle.std.specs.Coded.{Coded, code_by, coded×, coded_ℕ, coded_list, coded_option}
 use Rattle.std.specs.FinMap.{FinMap}
@@ -13,7 +13,7 @@ use Rattle.canvas_model.specs.Value.{Value, number, truth, colour, text, list, V
 use Rattle.canvas_model.specs.Document.{Place, Object, Doc, name_cmp}
 use Rattle.canvas_model.specs.State.{State}
 
--- an integer as a tree, and back
+-- an integer as a code, and back
 abbrev of_integer : ℤ → Gv
 of_integer (pos n) = gnum n
 of_integer (negsuc n) = gcons gnil (gnum n)
@@ -29,7 +29,7 @@ integer_back : (n : ℤ) → integer (of_integer n) ≡ n
 integer_back (pos n) = refl
 integer_back (negsuc n) = refl
 
--- a truth value as a tree, and back
+-- a truth value as a code, and back
 abbrev of_truth : Bool → Gv
 of_truth false = gnil
 of_truth true = gnum 0
@@ -43,7 +43,7 @@ truth_back : (b : Bool) → is_true (of_truth b) ≡ b
 truth_back true = refl
 truth_back false = refl
 
--- bytes as a tree, and back
+-- bytes as a code, and back
 abbrev of_bytes : List ℕ → Gv
 of_bytes [] = gnil
 of_bytes (b ∷ bs) = gcons (gnum b) (of_bytes bs)
@@ -62,7 +62,7 @@ bytes_back : (bs : List ℕ) → bytes_in (of_bytes bs) ≡ bs
 bytes_back [] = refl
 bytes_back (b ∷ bs) = ap (λ r. b ∷ r) (bytes_back bs)
 
--- a value as a tree, and back
+-- a value as a code, and back
 abbrev mutual
   of_value : Value → Gv
   of_value (number n) = gcons (gnum 0) (of_integer n)
@@ -107,7 +107,7 @@ mutual
   values_back no_more = refl
   values_back (more v vs) = λ i. more (value_back v i) (values_back vs i)
 
--- two values with one tree are one
+-- two values with one code are one
 pub value_one : (v w : Value) → of_value v ≡ of_value w → v ≡ w
 value_one v w e = sym (value_back v) ∙ ap value_in e ∙ value_back w
 

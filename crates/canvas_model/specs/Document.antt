@@ -1,4 +1,4 @@
--- Documents: the live objects by their ids. The rows of an object are its kind, its place and each of its properties.
+-- Documents: the live objects by their ids. The fields of an object are its kind, its place and each of its properties.
 use Rattle.std.specs.Prelude.{◌≡◌, ◌≢◌, ℕ, Bool, true, false, not, List, Option, Some, None, IsTrue, is_some}
 use Rattle.std.specs.Option.{option_map, option_and_then}
 use Rattle.std.specs.List.{list_any}
@@ -81,7 +81,7 @@ pub record IsDocument (d : Doc) : Type 0 where
   pub root_place : place_of d root ≡ None
   pub others : (q : ObjId) → q ≢ root → IsTrue (live d q) → (place : Place) × (place_of d q ≡ Some place)
 
--- the object's rows are now these, or none
+-- the object is now this one, or gone
 abbrev pub revise : Doc → ObjId → Option Object → Doc
 revise d id None = map.remove d id
 revise d id (Some o) = map.insert d id o
@@ -95,6 +95,6 @@ with_prop name (Some v) o = record o { props = map.insert o.props name v }
 abbrev pub with_place : Place → Object → Object
 with_place place o = record o { place = Some place }
 
--- the document without the rows of these objects
+-- the document without these objects
 abbrev pub without : Doc → List ObjId → Doc
 without d ids = map.retain_keys d (λ q. not (list_any (same_id q) ids))

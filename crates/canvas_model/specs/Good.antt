@@ -122,9 +122,9 @@ pub record InOrder (floor published synced length : ℕ) : Type 0 where
   pub shown : published ≤ synced
   pub kept : synced ≤ length
 
--- the server's counts are in order
-abbrev pub HasCountsInOrder : World → Type 0
-HasCountsInOrder w = InOrder w.floor w.published w.synced (length w.log)
+-- the server's bounds are in order
+abbrev pub HasBoundsInOrder : World → Type 0
+HasBoundsInOrder w = InOrder w.floor w.published w.synced (length w.log)
 
 -- all that is claimed of a world
 pub record HasClaims (w : World) : Type 0 where
@@ -137,7 +137,7 @@ pub record HasClaims (w : World) : Type 0 where
   pub views : ShowsOverlays w
   pub objects : TracksObjects w
   pub waiting : WaitsForRest w
-  pub counts : HasCountsInOrder w
+  pub bounds : HasBoundsInOrder w
 
 -- what holds of a node with the id c
 pub record IsMember (log : List Entry) (askers : List ℕ) (published k c : ℕ) (n : Node) : Type 0 where
@@ -172,7 +172,7 @@ pub record IsGoodNode (log : List Entry) (askers : List ℕ) (published k : ℕ)
 
 -- the good world: every event keeps it good
 pub record IsGood (w : World) : Type 0 where
-  pub counts : HasCountsInOrder w
+  pub bounds : HasBoundsInOrder w
   pub askers : length w.askers ≡ length w.log
   pub legal : IsLegal opening w.log
   pub sound : IsSound (state w)

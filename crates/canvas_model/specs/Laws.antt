@@ -88,7 +88,7 @@ abbrev pub NodesStandOnCopies : World → Type 0
 NodesStandOnCopies w = (k c : ℕ) (n : Node) → HoldsId w.nodes k c n → (v : ℕ) → n.client.version ≤ v → v ≤ length w.log
     → Stands (after_copy n.client v (done (at_version w.log v) c) (at_version w.log v).doc) (at_version w.log v).doc
 
--- the next entry, taken row by row from the view, leads to the document after it, with what stays unacknowledged laid over it
+-- the next entry, taken field by field from the view, leads to the document after it, with what stays unacknowledged laid over it
 abbrev pub NodesFollow : World → Type 0
 NodesFollow w = (k c : ℕ) (n : Node) → HoldsId w.nodes k c n → (e : Entry) → nth w.log (n.client.version + 1) ≡ Some e
     → (after_entry (is_own c e) n.client (n.client.version + 1) e).view ≡ over (at_version w.log (n.client.version + 1)).doc (after_entry (is_own c e) n.client (n.client.version + 1) e).waiting

@@ -14,16 +14,16 @@ use Rattle.canvas_model.specs.Verdict.{MayNotStand}
 use Rattle.canvas_model.specs.Client.{Client, last_number}
 
 -- where an object is to stand: its parent, and the child that it comes after, or none to come first
-pub record Spot : Type 0 where
+pub record Target : Type 0 where
   pub parent : ObjId
   pub after : Option ObjId
 
 -- what a user asks of a client
 pub data EditRequest : Type 0 where
-  Create : Kind → Spot → EditRequest
+  Create : Kind → Target → EditRequest
   Set : ObjId → Name → Value → EditRequest
   Clear : ObjId → Name → EditRequest
-  Move : ObjId → Spot → EditRequest
+  Move : ObjId → Target → EditRequest
   Delete : ObjId → EditRequest
 
 -- why a client refuses an edit
@@ -64,27 +64,27 @@ error_number Full = 9
 
 -- the object that the request names; one to be created has no id yet
 abbrev pub subject : EditRequest → Option ObjId
-subject (Create kind spot) = None
+subject (Create kind target) = None
 subject (Set id name value) = Some id
 subject (Clear id name) = Some id
-subject (Move id spot) = Some id
+subject (Move id target) = Some id
 subject (Delete id) = Some id
 
--- the spot that it asks for
-abbrev pub spot_asked : EditRequest → Option Spot
-spot_asked (Create kind spot) = Some spot
-spot_asked (Move id spot) = Some spot
-spot_asked _ = None
+-- the target that it asks for
+abbrev pub target_asked : EditRequest → Option Target
+target_asked (Create kind target) = Some target
+target_asked (Move id target) = Some target
+target_asked _ = None
 
 -- the kind of what is to stand there
 abbrev pub kind_asked : Doc → EditRequest → Option Kind
-kind_asked view (Create kind spot) = Some kind
-kind_asked view (Move id spot) = kind_of view id
+kind_asked view (Create kind target) = Some kind
+kind_asked view (Move id target) = kind_of view id
 kind_asked view _ = None
 
 -- the object that is no sibling of itself: the moved one, and for a new one the root, which is nobody's child
 abbrev pub moved : EditRequest → ObjId
-moved (Move id spot) = id
+moved (Move id target) = id
 moved _ = root
 
 -- there is one, and P is true of it
@@ -94,7 +94,7 @@ Has (Some x) P = P x
 
 -- the request moves or deletes the root
 abbrev pub MovesRoot : EditRequest → Type 0
-MovesRoot (Move id spot) = id ≡ root
+MovesRoot (Move id target) = id ≡ root
 MovesRoot (Delete id) = id ≡ root
 MovesRoot _ = ⊥
 
@@ -104,11 +104,11 @@ IsHidden view r = Has (subject r) (λ id. InTree view id → ⊥)
 
 -- the child to come after is no other child of that parent
 abbrev pub ComesAfterNone : Doc → EditRequest → Type 0
-ComesAfterNone view r = Has (spot_asked r) (λ spot. Has spot.after (λ after. (pos : Pos) → IsSibling view spot.parent (moved r) after pos → ⊥))
+ComesAfterNone view r = Has (target_asked r) (λ target. Has target.after (λ after. (pos : Pos) → IsSibling view target.parent (moved r) after pos → ⊥))
 
 -- the new parent is the moved object or lies below it
 abbrev pub GoesBelowItself : Doc → EditRequest → Type 0
-GoesBelowItself view (Move id spot) = Below view spot.parent id
+GoesBelowItself view (Move id target) = Below view target.parent id
 GoesBelowItself view _ = ⊥
 
 -- the position of the child to come after, or none to come first
@@ -116,13 +116,13 @@ abbrev pub IsPosAfter : Doc → ObjId → ObjId → Option ObjId → Option Pos 
 IsPosAfter view parent except None low = low ≡ None
 IsPosAfter view parent except (Some after) low = (pos : Pos) × (low ≡ Some pos) × IsSibling view parent except after pos
 
--- the position at a spot: the middle between that child and the next, or none where there is no room
-abbrev pub Lands : Doc → ObjId → Spot → Option Pos → Type 0
-Lands view except spot got = (low : Option Pos) × (high : Option Pos) × IsPosAfter view spot.parent except spot.after low × IsNext view spot.parent except low high × Middle low high got
+-- the position at a target: the middle between that child and the next, or none where there is no room
+abbrev pub Lands : Doc → ObjId → Target → Option Pos → Type 0
+Lands view except target got = (low : Option Pos) × (high : Option Pos) × IsPosAfter view target.parent except target.after low × IsNext view target.parent except low high × Middle low high got
 
 -- the request creates an object
 abbrev pub IsCreate : EditRequest → Type 0
-IsCreate (Create kind spot) = Unit {0}
+IsCreate (Create kind target) = Unit {0}
 IsCreate _ = ⊥
 
 -- the refusal holds, whether or not an earlier one does
@@ -130,10 +130,10 @@ abbrev pub Blocks : Client → EditRequest → EditError → Type 0
 Blocks client r NotOpen = client.id ≡ None
 Blocks client r IsRoot = MovesRoot r
 Blocks client r NotShown = IsHidden client.view r ⊎ ComesAfterNone client.view r
-Blocks client r ParentNotShown = Has (spot_asked r) (λ spot. InTree client.view spot.parent → ⊥)
-Blocks client r BadParent = Has (spot_asked r) (λ spot. MayNotStand (kind_asked client.view r) (kind_of client.view spot.parent))
+Blocks client r ParentNotShown = Has (target_asked r) (λ target. InTree client.view target.parent → ⊥)
+Blocks client r BadParent = Has (target_asked r) (λ target. MayNotStand (kind_asked client.view r) (kind_of client.view target.parent))
 Blocks client r OwnDescendant = GoesBelowItself client.view r
-Blocks client r Crowded = Has (spot_asked r) (λ spot. Lands client.view (moved r) spot None)
+Blocks client r Crowded = Has (target_asked r) (λ target. Lands client.view (moved r) target None)
 Blocks client r IdsSpent = IsCreate r × (client.counter ≡ 4294967295)
 Blocks client r Full = last_number client ≡ 2 ^ 62
 
@@ -143,11 +143,11 @@ Refuses client r error = Blocks client r error × ((earlier : EditError) → ran
 
 -- the change that a request makes at a client of id c: a new object gets the next counter
 abbrev pub Becomes : Client → ℕ → EditRequest → Change → Type 0
-Becomes client c (Create kind spot) change =
-    (pos : Pos) × Lands client.view root spot (Some pos) × (change ≡ Change.Create (record { client = c; counter = client.counter + 1 }) kind (record { parent = spot.parent; pos = pos }))
+Becomes client c (Create kind target) change =
+    (pos : Pos) × Lands client.view root target (Some pos) × (change ≡ Change.Create (record { client = c; counter = client.counter + 1 }) kind (record { parent = target.parent; pos = pos }))
 Becomes client c (Set id name value) change = change ≡ Change.Set id name (Some value)
 Becomes client c (Clear id name) change = change ≡ Change.Set id name None
-Becomes client c (Move id spot) change = (pos : Pos) × Lands client.view id spot (Some pos) × (change ≡ Change.Move id (record { parent = spot.parent; pos = pos }))
+Becomes client c (Move id target) change = (pos : Pos) × Lands client.view id target (Some pos) × (change ≡ Change.Move id (record { parent = target.parent; pos = pos }))
 Becomes client c (Delete id) change = change ≡ Change.Delete id
 
 -- no refusal holds, and this is the change

@@ -31,8 +31,8 @@ AreInOrder lo hi = MatchOption lo (Unit {0}) (λ s. MatchOption hi (Unit {0}) (�
 
 -- m / 95^n lies strictly between the ends
 pub record LiesBetween (lo hi : Option (List ℕ)) (n m : ℕ) : Type 0 where
-  pub above : IsLess (lower lo) (record { top = m; bottom = 95 ^ n })
-  pub below : IsLess (record { top = m; bottom = 95 ^ n }) (upper hi)
+  pub after : IsLess (lower lo) (record { top = m; bottom = 95 ^ n })
+  pub before : IsLess (record { top = m; bottom = 95 ^ n }) (upper hi)
 
 -- m is the least number of which P is true
 pub record IsLeast (P : ℕ → Type 0) (m : ℕ) : Type 0 where
@@ -66,5 +66,5 @@ Middle lo hi r = MatchOption r ((n : ℕ) → n ≤ 128 → IsShut lo hi n) (IsM
 -- a position strictly between the ends
 pub record IsInside (lo hi : Option (List ℕ)) (p : List ℕ) : Type 0 where
   pub position : IsPosition p
-  pub above : AreInOrder lo (Some p)
-  pub below : AreInOrder (Some p) hi
+  pub after : AreInOrder lo (Some p)
+  pub before : AreInOrder (Some p) hi

@@ -9,12 +9,12 @@ use Rattle.canvas_model.specs.Position.{IsPosition}
 abbrev pub IsBefore : List ℕ → List ℕ → Type 0
 IsBefore p q = slice_cmp nat_cmp p q ≡ Less
 
--- the position is above this one, if there is one
+-- the position is greater than this one, if there is one
 abbrev pub IsAfter : Option (List ℕ) → List ℕ → Type 0
 IsAfter None p = Unit {0}
 IsAfter (Some low) p = IsBefore low p
 
--- the position is below this one, if there is one
+-- the position is smaller than this one, if there is one
 abbrev pub IsUnder : Option (List ℕ) → List ℕ → Type 0
 IsUnder None p = Unit {0}
 IsUnder (Some high) p = IsBefore p high

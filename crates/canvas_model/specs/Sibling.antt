@@ -13,7 +13,7 @@ IsSibling d parent except q pos = (q ≢ except) × (place_of d q ≡ Some (reco
 abbrev pub IsTaken : Doc → ObjId → ObjId → Pos → Type 0
 IsTaken d parent except pos = (q : ObjId) × IsSibling d parent except q pos
 
--- a position above the asked one and below each greater one of another child
+-- a position greater than the asked one and smaller than each greater one of another child
 abbrev pub IsFree : Doc → ObjId → ObjId → Pos → Pos → Type 0
 IsFree d parent except asked pos = IsPosition pos × IsBefore asked pos × ((q : ObjId) (other : Pos) → IsSibling d parent except q other → IsBefore asked other → IsBefore pos other)
 
@@ -25,7 +25,7 @@ Gets d id ask got = (got.parent ≡ ask.parent) × ((got.pos ≡ ask.pos) × (Is
 abbrev pub HasNoRoom : Doc → ObjId → Place → Type 0
 HasNoRoom d id ask = IsTaken d ask.parent id ask.pos × ((pos : Pos) → IsFree d ask.parent id ask.pos pos → ⊥)
 
--- the least position of another child above this one (or of all, at none), if there is one
+-- the least position of another child that is greater than this one (or of all, at none), if there is one
 abbrev pub IsNext : Doc → ObjId → ObjId → Option Pos → Option Pos → Type 0
 IsNext d parent except low None = (q : ObjId) (other : Pos) → IsSibling d parent except q other → IsAfter low other → ⊥
 IsNext d parent except low (Some pos) = IsTaken d parent except pos × IsAfter low pos × ((q : ObjId) (other : Pos) → IsSibling d parent except q other → IsAfter low other → IsBefore other pos → ⊥)

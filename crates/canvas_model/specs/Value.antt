@@ -1,4 +1,4 @@
--- Values of properties: finite trees of numbers, truth values, colours, texts and lists.
+-- Values of properties: numbers, truth values, colours, texts and lists, nested to a finite depth.
 use Rattle.std.specs.Prelude.{ℕ, ℤ, suc, max, Bool, List, [], ◌∷◌, ◌≤◌}
 
 mutual

@@ -1,4 +1,4 @@
--- A client's view, brought up to the next entry row by row: from the old view, the edits that stay and the entry alone.
+-- A client's view, brought up to the next entry field by field: from the old view, the edits that stay and the entry alone.
 use Rattle.std.specs.Prelude.{◌&&◌, Bool, false, not, cond, List, Option, Some, None}
 use Rattle.std.specs.Option.{option_map}
 use Rattle.std.specs.Ordering.{eq_by_cmp}

@@ -1,4 +1,4 @@
-//! How bytes are cut at a mark, and how a number is read.
+//! How bytes are cut at a separator, and how a number is read.
 
 ghost use Rattle.std.specs.Prelude.{◌≡◌, ℕ, ◌<◌, ◌^◌, ◌↔◌, length, slice_index, IfSome, IfNone};
 ghost use Rattle.std.specs.Prelude.{IsTrue};
@@ -10,14 +10,14 @@ ghost use Rattle.canvas_model.specs.Words.{IsCut, Lacks};
 
 use crate::ObjId;
 
-/// What stands before the first byte that is the mark, and what follows it. `None` where no byte
+/// What stands before the first byte that is the separator, and what follows it. `None` where no byte
 /// is.
-pub fn cut(bytes: &[u8], mark: u8) -> Option<(&[u8], &[u8])>
-    ensures parts { IfSome result (λ r. IsCut mark bytes.now r.0.now r.1.now) }
-    ensures none { IfNone result (Lacks mark bytes.now) }
+pub fn cut(bytes: &[u8], separator: u8) -> Option<(&[u8], &[u8])>
+    ensures parts { IfSome result (λ r. IsCut separator bytes.now r.0.now r.1.now) }
+    ensures none { IfNone result (Lacks separator bytes.now) }
 {
     for (at, byte) in bytes.iter().enumerate() {
-        if *byte == mark {
+        if *byte == separator {
             return Some((&bytes[..at], &bytes[at + 1..]));
         }
     }

@@ -1,4 +1,4 @@
--- What stands where a search through rows in order ends.
+-- What stands where a search through tallies in order ends.
 use Rattle.std.proofs.Common.{◌≡◌, ℕ, ◌-◌, ◌<◌, ◌≤◌, List, length, get_or, Some, None, Ok, Err, T, refl, sym, ap, subst, ◌∙◌, arith}
 use Rattle.std.specs.List.{AllWithin, slice_get}
 use Rattle.std.specs.Cmp.{IsTotalOrder}
@@ -28,14 +28,14 @@ module _ {K X : Type 0} {R : K → K → Ordering} (o : IsTotalOrder R) (es : Li
   gap_here : ((d : K × X) → i < length es → R (get_or es i d).0 k ≡ Equal → ⊥) → IsGapAt R es k i
   gap_here apart = (searched o es sorted k (Err i) edge.within (λ _. (less_below, more_above apart))).1
 
-  -- no row is there, or that of another key
+  -- no tally is there, or that of another key
   pub gap_at_end : None ≡ slice_get es i → IsGapAt R es k i
   gap_at_end none = let past = got_none es i none in gap_here (λ d lt. absurd (omega arith))
 
   pub gap_before : (e : K × X) → slice_get es i ≡ Some e → (R e.0 k ≡ Equal → ⊥) → IsGapAt R es k i
   gap_before e got other = gap_here (λ d lt tied. other (subst (λ (x : K × X). R x.0 k ≡ Equal) (get_or_from_slice_get es i e d got) tied))
 
-  -- the row of the key is there
+  -- the tally of the key is there
   pub pair_here : (e : K × X) → slice_get es i ≡ Some e → R e.0 k ≡ Equal → IsPairAt R es k i
   pair_here e got tied =
       (searched o es sorted k (Ok i) (slice_get_within es i e got) (λ d. subst (λ (x : K × X). R x.0 k ≡ Equal) (sym (get_or_from_slice_get es i e d got)) tied)).0

@@ -1,5 +1,5 @@
 mod Counts
 mod Edges
-mod Rows
+mod PropTallies
 mod Tests
 mod Waiting

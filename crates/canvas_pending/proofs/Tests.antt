@@ -11,7 +11,7 @@ use Rattle.canvas_model.specs.Document.{Name}
 use Rattle.canvas_model.specs.Change.{Change, Set}
 use Rattle.canvas_model.specs.View.{same_name, sets_it}
 use Rattle.canvas_model.proofs.Ids.{id_itself}
-use Rattle.canvas_model.proofs.Rows.{same_name_true, name_itself}
+use Rattle.canvas_model.proofs.Fields.{same_name_true, name_itself}
 
 -- an answer that is exact is the test's
 same_bytes : (b : Bool) (x y : Name) → IsTrue b ↔ (x ≡ y) → b ≡ same_name x y

@@ -9,7 +9,7 @@ use Rattle.canvas_model.specs.Change.{Change}
 use Rattle.canvas_model.specs.Receive.{staying}
 use Rattle.canvas_model.specs.View.{deletes_it, moves_it, sets_it}
 use Rattle.canvas_pending.specs.Tallied.{of_objects, of_props}
-use Rattle.canvas_pending.specs.Tallies.{AreCounts, AreTallies, CountsSame, CountsToo, IsCounted}
+use Rattle.canvas_pending.specs.Tallies.{AreTalliesOf, AreTallies, CountsSame, CountsToo, IsCounted}
 use Rattle.canvas_pending.specs.declared.tallies.Tallies.{Tallies}
 
 module _ (f : Change → Bool) where
@@ -67,7 +67,7 @@ adds_first x xs ys is f = ap (count_by f) is ∙ first_counted f x xs
 
 module _ {A : Type 0} (x : Change) (xs ys : List Change) (adds : Adds x xs ys) where
   -- each of them is counted
-  pub is_counted : (t : Tallies A) → AreCounts ys t → IsCounted x t
+  pub is_counted : (t : Tallies A) → AreTalliesOf ys t → IsCounted x t
   is_counted t are = record {
     moves = λ q hit. above (moves_it q) (count_at (of_objects t.moves) q) (are.moves q) hit;
     deletes = λ q hit. above (deletes_it q) (count_at (of_objects t.deletes) q) (are.deletes q) hit;
@@ -79,7 +79,7 @@ module _ {A : Type 0} (x : Change) (xs ys : List Change) (adds : Adds x xs ys) w
 
   module _ (old new : Tallies A) (tallies : AreTallies new) where
     -- one more
-    pub one_more : AreCounts xs old → CountsToo x old new → AreCounts ys new
+    pub one_more : AreTalliesOf xs old → CountsToo x old new → AreTalliesOf ys new
     one_more are too = record {
       tallies = tallies;
       moves = λ q. raised (moves_it q) _ _ (are.moves q) (too.moves q);
@@ -91,7 +91,7 @@ module _ {A : Type 0} (x : Change) (xs ys : List Change) (adds : Adds x xs ys) w
         raised f m n is up = up ∙ ap (λ m. m + cond (f x) 1 0) is ∙ sym (adds f)
 
     -- one less
-    pub one_less : AreCounts ys old → CountsToo x new old → AreCounts xs new
+    pub one_less : AreTalliesOf ys old → CountsToo x new old → AreTalliesOf xs new
     one_less are too = record {
       tallies = tallies;
       moves = λ q. lowered (moves_it q) _ _ (are.moves q) (too.moves q);
@@ -103,7 +103,7 @@ module _ {A : Type 0} (x : Change) (xs ys : List Change) (adds : Adds x xs ys) w
         lowered f m n is down = let more = adds f in omega (arith, is, down, more)
 
 -- the same counts
-pub same_counts : {A : Type 0} (xs ys : List Change) (old new : Tallies A) → ys ≡ xs → AreTallies new → AreCounts xs old → CountsSame old new → AreCounts ys new
+pub same_counts : {A : Type 0} (xs ys : List Change) (old new : Tallies A) → ys ≡ xs → AreTallies new → AreTalliesOf xs old → CountsSame old new → AreTalliesOf ys new
 same_counts xs ys old new is tallies are same = record {
   tallies = tallies;
   moves = λ q. ap (λ o. unwrap_or o 0) (same.moves q) ∙ are.moves q ∙ ap (count_by (moves_it q)) (sym is);

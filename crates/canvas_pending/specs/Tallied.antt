@@ -2,7 +2,7 @@
 use Rattle.std.specs.Prelude.{◌≡◌, ℕ, ◌+◌, ◌&&◌, not, Bool, cond, List, Option, Some}
 use Rattle.std.specs.FinMap as map
 use Rattle.std.specs.BTreeMap.{BTreeMap}
-use Rattle.std.specs.BTreeMap as tree
+use Rattle.std.specs.BTreeMap as ordered_map
 use Rattle.std.specs.Map.{count_at}
 use Rattle.std.specs.Ordering.{on, then_cmp}
 use Rattle.std.specs.declared.cmp.Ordering.{Ordering}
@@ -38,7 +38,7 @@ is_prop id name k = same_id k.0 id && same_name k.1 name
 
 -- counts by object
 abbrev pub of_objects : BTreeMap ObjId ℕ → Tally ObjId
-of_objects m = tree.get id_cmp m
+of_objects m = ordered_map.get id_cmp m
 
 -- properties are ordered by object, then by name
 abbrev pub prop_cmp : ObjId × Name → ObjId × Name → Ordering
@@ -46,8 +46,8 @@ prop_cmp = then_cmp (on (λ k. k.0) id_cmp) (on (λ k. k.1) name_cmp)
 
 -- counts by property
 abbrev pub of_props : List ((ObjId × Name) × ℕ) → Tally (ObjId × Name)
-of_props rows k = map.find prop_cmp k rows
+of_props tallies k = map.find prop_cmp k tallies
 
--- the property's row is the one at this index, and has this count
+-- the property's tally is the one at this index, and has this count
 abbrev pub IsCountAt : List ((ObjId × Name) × ℕ) → ObjId × Name → ℕ → ℕ → Type 0
-IsCountAt rows k i n = IsPairAt prop_cmp rows k i × (of_props rows k ≡ Some n)
+IsCountAt tallies k i n = IsPairAt prop_cmp tallies k i × (of_props tallies k ≡ Some n)

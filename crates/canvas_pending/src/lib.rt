@@ -1,4 +1,4 @@
-//! The edits of a client that wait to be judged, and how many of them write each row.
+//! The edits of a client that wait to be judged, and how many of them write each field.
 #![tactic(auto)]
 
 mod objects;

@@ -13,7 +13,7 @@ use std::alloc::{AllocError, Allocator, Global};
 use std::collections::VecDeque;
 use std::marker::Model;
 
-/// The edits of a client that wait to be judged, the oldest first. Beside them stands for each row how many of them write it, so
+/// The edits of a client that wait to be judged, the oldest first. Beside them stands for each field how many of them write it, so
 /// that whether one of them does is asked in one look-up. A contract sees them as their list.
 #[derive(Drop)]
 pub struct Pending<A: Allocator = Global> {
@@ -31,11 +31,11 @@ impl<A: Allocator> Model for Pending<A> {
 
     ghost coded = { Prim.hlevel (codes, value_code) };
 
-    ghost use Rattle.canvas_pending.specs.Tallies.{AreCounts};
+    ghost use Rattle.canvas_pending.specs.Tallies.{AreTalliesOf};
 
     ghost view = { λ p. p.changes.items };
 
-    ghost invariant = { λ p. AreCounts p.changes.items p.tallies };
+    ghost invariant = { λ p. AreTalliesOf p.changes.items p.tallies };
 }
 
 impl<A: Allocator> Pending<A> {
@@ -164,7 +164,7 @@ impl<A: Allocator + Copy> Pending<A> {
     }
 }
 
-// Whether a row was counted, not counting the first edit where that writes it.
+// Whether a field was counted, not counting the first edit where that writes it.
 fn is_more(count: u64, first: bool) -> bool
     ensures { result ≡ cond first (nat_lt 1 count) (nat_lt 0 count) }
 {

@@ -41,14 +41,14 @@ fn find<A: Allocator, B: Allocator>(
     ensures absent { IfErr result (λ i. IsGapAt prop_cmp props.now (id, name.now) i) }
 {
     let at = props.edge(
-        |row: &((ObjId, Name<A>), u64)| -> bool
-            ensures { result ≡ is_lt (prop_cmp row.now.0 (id, name.entry.now)) }
-        { compare(&row.0, id, name).is_lt() },
+        |tally: &((ObjId, Name<A>), u64)| -> bool
+            ensures { result ≡ is_lt (prop_cmp tally.now.0 (id, name.entry.now)) }
+        { compare(&tally.0, id, name).is_lt() },
     );
     match props.get(at) {
-        Some(row) => {
-            if compare(&row.0, id, name).is_eq() {
-                Ok((at, row.1))
+        Some(tally) => {
+            if compare(&tally.0, id, name).is_eq() {
+                Ok((at, tally.1))
             } else {
                 Err(at)
             }

@@ -1,7 +1,7 @@
-// How many changes write each row: counts of moves and deletions by object, and of sets by property. Moves and deletions of the
+// How many changes write each field: counts of moves and deletions by object, and of sets by property. Moves and deletions of the
 // root write nothing, and aren't counted.
 ghost use Rattle.std.specs.Prelude.{[], OnOk, OnErr};
-ghost use Rattle.canvas_pending.specs.Tallies.{AreCounts, AreTallies, CountsSame, CountsToo, IsCounted};
+ghost use Rattle.canvas_pending.specs.Tallies.{AreTalliesOf, AreTallies, CountsSame, CountsToo, IsCounted};
 
 use crate::objects::Objects;
 use crate::props::Props;
@@ -21,7 +21,7 @@ pub struct Tallies<A: Allocator = Global> {
 
 /// No counts. Takes no memory.
 pub fn new<A: Allocator + Copy>(alloc: A) -> Tallies<A>
-    ensures { AreCounts [] result }
+    ensures { AreTalliesOf [] result }
 {
     Tallies {
         moves: BTreeMap::new(alloc),

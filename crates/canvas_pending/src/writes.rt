@@ -1,4 +1,4 @@
-// What an edit does to one row.
+// What an edit does to one field.
 ghost use Rattle.std.specs.Prelude.{◌≡◌};
 ghost use Rattle.canvas_model.specs.View.{deletes_it, moves_it, sets_it};
 

@@ -13,7 +13,7 @@ mod reading;
 mod rows;
 mod steps;
 
-use play::{Tally, play_script};
+use play::{Totals, play_script};
 use std::alloc::{AllocError, Global};
 use std::io;
 
@@ -23,28 +23,28 @@ const SCRIPTS: u64 = 300;
 const EVENTS: u64 = 134;
 
 // Plays all scripts.
-fn play_all(alloc: Global) -> Result<Tally, AllocError> {
-    let mut tally = Tally::new();
+fn play_all(alloc: Global) -> Result<Totals, AllocError> {
+    let mut totals = Totals::new();
     for seed in 1..=SCRIPTS {
-        play_script(alloc, seed, EVENTS, &mut tally)?;
+        play_script(alloc, seed, EVENTS, &mut totals)?;
     }
-    Ok(tally)
+    Ok(totals)
 }
 
 fn main(rt: HostRuntime) -> io::Result<()> {
-    let tally = play_all(rt.alloc())?;
+    let totals = play_all(rt.alloc())?;
     println!(rt;
         "{SCRIPTS} scripts, {} events, {} differences",
-        tally.events, tally.differences
+        totals.events, totals.differences
     )?;
-    println!(rt; "edits refused by a node: {}", tally.refused_by_node)?;
-    println!(rt; "edits granted by the server: {}", tally.granted)?;
-    println!(rt; "edits refused by the server: {}", tally.refused_by_server)?;
-    println!(rt; "messages taken by a node: {}", tally.taken)?;
-    println!(rt; "restarts: {}", tally.restarts)?;
+    println!(rt; "edits refused by a node: {}", totals.refused_by_node)?;
+    println!(rt; "edits granted by the server: {}", totals.granted)?;
+    println!(rt; "edits refused by the server: {}", totals.refused_by_server)?;
+    println!(rt; "messages taken by a node: {}", totals.taken)?;
+    println!(rt; "restarts: {}", totals.restarts)?;
     println!(rt;
         "two nodes at one version with nothing unacknowledged, and equal: {}",
-        tally.equal
+        totals.equal
     )?;
     Ok(())
 }

@@ -11,7 +11,7 @@ use std::alloc::{AllocError, Global};
 
 /// How often what happened.
 #[derive(Clone, Copy)]
-pub struct Tally {
+pub struct Totals {
     pub events: u64,
     pub differences: u64,
     pub refused_by_node: u64,
@@ -22,10 +22,10 @@ pub struct Tally {
     pub restarts: u64,
 }
 
-impl Tally {
+impl Totals {
     /// Nothing happened.
-    pub fn new() -> Tally {
-        Tally {
+    pub fn new() -> Totals {
+        Totals {
             events: 0,
             differences: 0,
             refused_by_node: 0,
@@ -112,26 +112,26 @@ impl Script {
     }
 
     // Plays the step in the world and in the model; whether the answer is right.
-    fn play(&mut self, alloc: Global, step: Step, tally: &mut Tally) -> Result<bool, AllocError> {
+    fn play(&mut self, alloc: Global, step: Step, totals: &mut Totals) -> Result<bool, AllocError> {
         let can_happen = can_happen(&self.world, &self.model, step);
         let event = event_of(alloc, step)?;
         let answer = self.world.step(&event)?;
         self.next = None;
         if !can_happen {
-            tally.count_answer(&self.model, answer);
+            totals.count_answer(&self.model, answer);
             return Ok(answer == Answer::Nothing);
         }
         let is_right = follow(alloc, &self.world, &mut self.model, step, answer)?;
-        tally.count_answer(&self.model, answer);
+        totals.count_answer(&self.model, answer);
         self.next = next_step(&self.world, &self.model, step, answer);
         Ok(is_right)
     }
 
     // Compares the first three nodes with each other.
-    fn compare_pairs(&self, alloc: Global, tally: &mut Tally) -> Result<(), AllocError> {
-        tally.count_pair(in_common(alloc, &self.world, 1, 2)?);
-        tally.count_pair(in_common(alloc, &self.world, 1, 3)?);
-        tally.count_pair(in_common(alloc, &self.world, 2, 3)?);
+    fn compare_pairs(&self, alloc: Global, totals: &mut Totals) -> Result<(), AllocError> {
+        totals.count_pair(in_common(alloc, &self.world, 1, 2)?);
+        totals.count_pair(in_common(alloc, &self.world, 1, 3)?);
+        totals.count_pair(in_common(alloc, &self.world, 2, 3)?);
         Ok(())
     }
 
@@ -141,13 +141,13 @@ impl Script {
         alloc: Global,
         turn: u64,
         opens: bool,
-        tally: &mut Tally,
+        totals: &mut Totals,
     ) -> Result<(), AllocError> {
         let step = self.draw(alloc, turn, opens)?;
-        let is_right = self.play(alloc, step, tally)?;
+        let is_right = self.play(alloc, step, totals)?;
         let agrees = agrees(alloc, &self.world, &self.model)?;
-        tally.count_right(is_right && agrees);
-        self.compare_pairs(alloc, tally)
+        totals.count_right(is_right && agrees);
+        self.compare_pairs(alloc, totals)
     }
 }
 
@@ -156,12 +156,12 @@ pub fn play_script(
     alloc: Global,
     seed: u64,
     events: u64,
-    tally: &mut Tally,
+    totals: &mut Totals,
 ) -> Result<(), AllocError> {
     let mut script = Script::new(alloc, seed)?;
     let opens = seed % 8 != 0;
     for turn in 0..events {
-        script.take_turn(alloc, turn, opens, tally)?;
+        script.take_turn(alloc, turn, opens, totals)?;
     }
     Ok(())
 }

@@ -137,7 +137,7 @@ pub fn put_size(rows: &mut [Row], id: ObjId, value: u64) {
     }
 }
 
-/// Whether no child of the parent, other than this object, has a position above the one and up to the other.
+/// Whether no child of the parent, other than this object, has a position greater than the one and up to the other.
 pub fn none_between(rows: &[Row], parent: ObjId, id: ObjId, low: u64, high: u64) -> bool {
     for row in rows {
         if row.parent == Some(parent) && row.id != id && row.pos > low && row.pos <= high {

@@ -47,7 +47,7 @@ rest-pos s n h d e =
     get_or-drop n s (length s - n - 1) 32 ∙ ap (λ j. get_or s j 32) (let e : n + (length s - n - 1) ≡ length s - 1 = omega arith in e) in
     num-pos (drop n s) (length s - n) (omega arith) (omega arith) (digits-drop n s d) (rw (len, at) e)
 
--- m / 95^n is above the fraction of digits exactly where m is above their first n
+-- m / 95^n is greater than the fraction of digits exactly where m is greater than their first n
 pub above-from : (s : List ℕ) (n m : ℕ) → All IsDigitByte s → num s n < m → num s (length s) * 95 ^ n < m * 95 ^ length s
 above-from s n m d h = elim (cases_lt n (length s)) [
   | inl lt ↦
@@ -70,7 +70,7 @@ above-to s n m d h = elim (cases_lt n (length s)) [
       rw (power-split (length s) n ge) (omega arith)
 ]
 
--- m / 95^n is below the fraction of a position exactly where m is at most its first n digits, and below them where it has no more
+-- m / 95^n is less than the fraction of a position exactly where m is at most its first n digits, and less than them where it has no more
 pub below-from : (s : List ℕ) (n m : ℕ) → All IsDigitByte s → get_or s (length s - 1) 32 ≢ 32 → m < num s n + min 1 (length s - n) → m * 95 ^ length s < num s (length s) * 95 ^ n
 below-from s n m d e h = elim (cases_lt n (length s)) [
   | inl lt ↦

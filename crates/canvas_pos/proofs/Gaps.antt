@@ -3,43 +3,43 @@ use Rattle.std.proofs.Common.{◌≡◌, ℕ, ◌+◌, ◌-◌, ◌*◌, ◌/◌
 use Rattle.std.proofs.lemmas.Bool.{cases_lt}
 use Rattle.canvas_model.specs.Position.{IsDigitByte, IsSmaller, num}
 use Rattle.canvas_model.specs.Middle.{IsLess, fraction, lower, upper, AreInOrder, LiesBetween, IsShut, IsMiddle}
-use Rattle.canvas_pos.specs.Ends.{IsEnd, floor, ceiling, IsNarrow, Opens}
+use Rattle.canvas_pos.specs.Ends.{IsEnd, greatest_before, least_after, IsNarrow, Opens}
 use Rattle.canvas_pos.proofs.Numbers.{num-zero, num-below}
 use Rattle.canvas_pos.proofs.Products.{le-trans-fraction, less-common, common-less}
 use Rattle.canvas_pos.proofs.EndsLemmas.{power-pos, power-split, num-pos, num-long, above-from, above-to, below-from, below-to}
 
--- m / 95^n is above the lower end exactly where m is above its floor
-pub lower-from : (lo : Option (List ℕ)) (n m : ℕ) → IsEnd lo → floor lo n < m → IsLess (lower lo) (record { top = m; bottom = 95 ^ n })
+-- m / 95^n is greater than the lower end exactly where m is greater than the greatest before it
+pub lower-from : (lo : Option (List ℕ)) (n m : ℕ) → IsEnd lo → greatest_before lo n < m → IsLess (lower lo) (record { top = m; bottom = 95 ^ n })
 lower-from None n m e h = omega arith
 lower-from (Some s) n m e h = above-from s n m e.digits h
 
-pub lower-to : (lo : Option (List ℕ)) (n m : ℕ) → IsEnd lo → m ≤ floor lo n → m * (lower lo).bottom ≤ (lower lo).top * 95 ^ n
+pub lower-to : (lo : Option (List ℕ)) (n m : ℕ) → IsEnd lo → m ≤ greatest_before lo n → m * (lower lo).bottom ≤ (lower lo).top * 95 ^ n
 lower-to None n m e h = omega arith
 lower-to (Some s) n m e h = above-to s n m e.digits h
 
--- m / 95^n is below the upper end exactly where m is below its ceiling
-pub upper-from : (hi : Option (List ℕ)) (n m : ℕ) → IsEnd hi → m < ceiling hi n → IsLess (record { top = m; bottom = 95 ^ n }) (upper hi)
+-- m / 95^n is less than the upper end exactly where m is less than the least after it
+pub upper-from : (hi : Option (List ℕ)) (n m : ℕ) → IsEnd hi → m < least_after hi n → IsLess (record { top = m; bottom = 95 ^ n }) (upper hi)
 upper-from None n m e h = omega arith
 upper-from (Some t) n m e h = below-from t n m e.digits e.last h
 
-pub upper-to : (hi : Option (List ℕ)) (n m : ℕ) → IsEnd hi → ceiling hi n ≤ m → (upper hi).top * 95 ^ n ≤ m * (upper hi).bottom
+pub upper-to : (hi : Option (List ℕ)) (n m : ℕ) → IsEnd hi → least_after hi n ≤ m → (upper hi).top * 95 ^ n ≤ m * (upper hi).bottom
 upper-to None n m e h = omega arith
 upper-to (Some t) n m e h = below-to t n m e.digits h
 
--- what lies between the ends is what is above the floor and below the ceiling
-pub lies-from : (lo hi : Option (List ℕ)) (n m : ℕ) → IsEnd lo → IsEnd hi → floor lo n < m → m < ceiling hi n → LiesBetween lo hi n m
-lies-from lo hi n m e f h k = record { above = lower-from lo n m e h; below = upper-from hi n m f k }
+-- what lies between the ends is what is greater than the greatest before and less than the least after
+pub lies-from : (lo hi : Option (List ℕ)) (n m : ℕ) → IsEnd lo → IsEnd hi → greatest_before lo n < m → m < least_after hi n → LiesBetween lo hi n m
+lies-from lo hi n m e f h k = record { after = lower-from lo n m e h; before = upper-from hi n m f k }
 
-pub lies-above : (lo hi : Option (List ℕ)) (n m : ℕ) → IsEnd lo → LiesBetween lo hi n m → floor lo n < m
-lies-above lo hi n m e h = elim (cases_lt (floor lo n) m) [
+pub lies-after : (lo hi : Option (List ℕ)) (n m : ℕ) → IsEnd lo → LiesBetween lo hi n m → greatest_before lo n < m
+lies-after lo hi n m e h = elim (cases_lt (greatest_before lo n) m) [
   | inl lt ↦ lt
-  | inr ge ↦ let no : m * (lower lo).bottom ≤ (lower lo).top * 95 ^ n = lower-to lo n m e ge in absurd (omega (arith, h.above))
+  | inr ge ↦ let no : m * (lower lo).bottom ≤ (lower lo).top * 95 ^ n = lower-to lo n m e ge in absurd (omega (arith, h.after))
 ]
 
-pub lies-below : (lo hi : Option (List ℕ)) (n m : ℕ) → IsEnd hi → LiesBetween lo hi n m → m < ceiling hi n
-lies-below lo hi n m e h = elim (cases_lt m (ceiling hi n)) [
+pub lies-before : (lo hi : Option (List ℕ)) (n m : ℕ) → IsEnd hi → LiesBetween lo hi n m → m < least_after hi n
+lies-before lo hi n m e h = elim (cases_lt m (least_after hi n)) [
   | inl lt ↦ lt
-  | inr ge ↦ let no : (upper hi).top * 95 ^ n ≤ m * (upper hi).bottom = upper-to hi n m e ge in absurd (omega (arith, h.below))
+  | inr ge ↦ let no : (upper hi).top * 95 ^ n ≤ m * (upper hi).bottom = upper-to hi n m e ge in absurd (omega (arith, h.before))
 ]
 
 -- the order of positions is that of their fractions
@@ -73,39 +73,39 @@ ends-less (Some s) None e f h = omega (arith, num-below s (length s) e.digits)
 ends-less (Some s) (Some t) e f h = smaller-less s t h
 
 -- at each length the ends are apart
-pub apart : (lo hi : Option (List ℕ)) (n : ℕ) → IsEnd lo → IsEnd hi → AreInOrder lo hi → floor lo n < ceiling hi n
-apart lo hi n e f h = elim (cases_lt (floor lo n) (ceiling hi n)) [
+pub apart : (lo hi : Option (List ℕ)) (n : ℕ) → IsEnd lo → IsEnd hi → AreInOrder lo hi → greatest_before lo n < least_after hi n
+apart lo hi n e f h = elim (cases_lt (greatest_before lo n) (least_after hi n)) [
   | inl lt ↦ lt
   | inr ge ↦
       let no : (upper hi).top * (lower lo).bottom ≤ (lower lo).top * (upper hi).bottom =
-      le-trans-fraction (upper hi).top (upper hi).bottom (floor lo n) (95 ^ n) (lower lo).top (lower lo).bottom
-      (power-pos n) (upper-to hi n (floor lo n) f ge) (lower-to lo n (floor lo n) e (omega arith)) in
+      le-trans-fraction (upper hi).top (upper hi).bottom (greatest_before lo n) (95 ^ n) (lower lo).top (lower lo).bottom
+      (power-pos n) (upper-to hi n (greatest_before lo n) f ge) (lower-to lo n (greatest_before lo n) e (omega arith)) in
       absurd (omega (arith, ends-less lo hi e f h))
 ]
 
 -- with no digits, the ends are 0 and 1
-pub floor-zero : (lo : Option (List ℕ)) → floor lo 0 ≡ 0
-floor-zero None = refl
-floor-zero (Some s) = num-zero s
+pub greatest_before-zero : (lo : Option (List ℕ)) → greatest_before lo 0 ≡ 0
+greatest_before-zero None = refl
+greatest_before-zero (Some s) = num-zero s
 
-pub ceiling-zero : (hi : Option (List ℕ)) → IsEnd hi → ceiling hi 0 ≡ 1
-ceiling-zero None f = refl
-ceiling-zero (Some t) f = omega (arith, num-zero t, f.not_empty)
+pub least_after-zero : (hi : Option (List ℕ)) → IsEnd hi → least_after hi 0 ≡ 1
+least_after-zero None f = refl
+least_after-zero (Some t) f = omega (arith, num-zero t, f.not_empty)
 
 -- so they are next to each other
 pub narrow-zero : (lo hi : Option (List ℕ)) → IsEnd lo → IsEnd hi → IsNarrow lo hi 0
 narrow-zero lo hi e f = record {
   shut = λ k h. absurd (omega arith);
-  next = omega (arith, floor-zero lo, ceiling-zero hi f);
+  next = omega (arith, greatest_before-zero lo, least_after-zero hi f);
 }
 
 -- where the ends are next to each other, nothing lies between them
 pub shut-narrow : (lo hi : Option (List ℕ)) (n : ℕ) → IsEnd lo → IsEnd hi → IsNarrow lo hi n → IsShut lo hi n
-shut-narrow lo hi n e f h m l = omega (arith, lies-above lo hi n m e l, lies-below lo hi n m f l, h.next)
+shut-narrow lo hi n e f h m l = omega (arith, lies-after lo hi n m e l, lies-before lo hi n m f l, h.next)
 
 -- one more digit of each end, between which there is no other
 pub narrow-suc : (lo hi : Option (List ℕ)) (n d c : ℕ) → IsEnd lo → IsEnd hi → AreInOrder lo hi → IsNarrow lo hi n
-    → floor lo (n + 1) ≡ 95 * floor lo n + d → ceiling hi (n + 1) + 95 ≡ 95 * ceiling hi n + c → c ≤ d + 1 → IsNarrow lo hi (n + 1)
+    → greatest_before lo (n + 1) ≡ 95 * greatest_before lo n + d → least_after hi (n + 1) + 95 ≡ 95 * least_after hi n + c → c ≤ d + 1 → IsNarrow lo hi (n + 1)
 narrow-suc lo hi n d c e f o h p q tight = record {
   shut = below_more _ n h.shut (shut-narrow lo hi n e f h);
   next = omega (arith, apart lo hi (n + 1) e f o, h.next, p, q);
@@ -113,27 +113,27 @@ narrow-suc lo hi n d c e f o h p q tight = record {
 
 -- one more digit of each end, between which there is another
 pub opens-suc : (lo hi : Option (List ℕ)) (n d c : ℕ) → IsEnd lo → IsEnd hi → IsNarrow lo hi n
-    → floor lo (n + 1) ≡ 95 * floor lo n + d → ceiling hi (n + 1) + 95 ≡ 95 * ceiling hi n + c → d + 1 < c → Opens lo hi n ((d + c) / 2)
+    → greatest_before lo (n + 1) ≡ 95 * greatest_before lo n + d → least_after hi (n + 1) + 95 ≡ 95 * least_after hi n + c → d + 1 < c → Opens lo hi n ((d + c) / 2)
 opens-suc lo hi n d c e f h p q wide =
-    let next : ceiling hi n ≡ floor lo n + 1 = h.next in
+    let next : least_after hi n ≡ greatest_before lo n + 1 = h.next in
     record {
       shut = below_more _ n h.shut (shut-narrow lo hi n e f h);
-      least = 95 * floor lo n + d + 1;
-      greatest = 95 * floor lo n + c - 1;
+      least = 95 * greatest_before lo n + d + 1;
+      greatest = 95 * greatest_before lo n + c - 1;
       is_least = record {
-        holds = lies-from lo hi (n + 1) (95 * floor lo n + d + 1) e f (omega arith) (omega arith);
-        least = λ k l. omega (arith, lies-above lo hi (n + 1) k e l);
+        holds = lies-from lo hi (n + 1) (95 * greatest_before lo n + d + 1) e f (omega arith) (omega arith);
+        least = λ k l. omega (arith, lies-after lo hi (n + 1) k e l);
       };
       is_greatest = record {
-        holds = lies-from lo hi (n + 1) (95 * floor lo n + c - 1) e f (omega arith) (omega arith);
-        greatest = λ k l. omega (arith, lies-below lo hi (n + 1) k f l);
+        holds = lies-from lo hi (n + 1) (95 * greatest_before lo n + c - 1) e f (omega arith) (omega arith);
+        greatest = λ k l. omega (arith, lies-before lo hi (n + 1) k f l);
       };
       half_way = omega arith;
     }
 
 -- the middle, where the ends open
 pub middle-opens : (lo hi : Option (List ℕ)) (n last : ℕ) (p : List ℕ) → Opens lo hi n last → n < 128
-    → length p ≡ n + 1 → All IsDigitByte p → num p (n + 1) ≡ 95 * floor lo n + last → IsMiddle lo hi p
+    → length p ≡ n + 1 → All IsDigitByte p → num p (n + 1) ≡ 95 * greatest_before lo n + last → IsMiddle lo hi p
 middle-opens lo hi n last p o h len digits value = record {
   short = omega arith;
   digits = digits;

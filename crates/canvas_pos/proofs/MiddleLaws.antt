@@ -10,8 +10,8 @@ use Rattle.canvas_model.specs.Position.{IsDigitByte, IsPosition, IsSmaller, digi
 use Rattle.canvas_model.specs.Middle.{IsLess, fraction, lower, upper, AreInOrder, LiesBetween, IsShut, IsMiddle, IsInside}
 use Rattle.canvas_pos.proofs.Numbers.{num-suc, num-next, num-below}
 use Rattle.canvas_pos.proofs.EndsLemmas.{num-pos}
-use Rattle.canvas_pos.specs.Ends.{IsEnd, end_length, floor, ceiling, Opens}
-use Rattle.canvas_pos.proofs.Gaps.{apart, narrow-zero, opens-suc, middle-opens, lies-from, lies-above, lies-below, floor-zero, ceiling-zero, less-smaller, smaller-less}
+use Rattle.canvas_pos.specs.Ends.{IsEnd, end_length, greatest_before, least_after, Opens}
+use Rattle.canvas_pos.proofs.Gaps.{apart, narrow-zero, opens-suc, middle-opens, lies-from, lies-after, lies-before, greatest_before-zero, least_after-zero, less-smaller, smaller-less}
 use Rattle.canvas_pos.proofs.Order.{order-positions}
 
 -- what lies between two numbers that lie between the ends lies there too
@@ -19,7 +19,7 @@ lies-convex : (lo hi : Option (List ℕ)) (n a m b : ℕ) → LiesBetween lo hi 
 lies-convex lo hi n a m b h k l r =
     let up : a * (lower lo).bottom ≤ m * (lower lo).bottom = mul-le-mul_right (lower lo).bottom l in
     let down : m * (upper hi).bottom ≤ b * (upper hi).bottom = mul-le-mul_right (upper hi).bottom r in
-    record { above = omega (arith, h.above); below = omega (arith, k.below) }
+    record { after = omega (arith, h.after); before = omega (arith, k.before) }
 
 -- the middle's own number lies between the ends
 pub lies-middle : (lo hi : Option (List ℕ)) (p : List ℕ) → IsMiddle lo hi p → LiesBetween lo hi (length p) (num p (length p))
@@ -30,8 +30,8 @@ lies-middle lo hi p h =
 -- a number with a 0 at its end lies there at a smaller length
 lies-shorter : (lo hi : Option (List ℕ)) (n m : ℕ) → LiesBetween lo hi (suc n) (95 * m) → LiesBetween lo hi n m
 lies-shorter lo hi n m h = record {
-  above = lt_of_mul-lt-mul_right 95 (omega (arith, h.above, ap (λ e. (lower lo).top * e) (pow-suc 95 n)));
-  below = lt_of_mul-lt-mul_right 95 (omega (arith, h.below, ap (λ e. (upper hi).top * e) (pow-suc 95 n)));
+  after = lt_of_mul-lt-mul_right 95 (omega (arith, h.after, ap (λ e. (lower lo).top * e) (pow-suc 95 n)));
+  before = lt_of_mul-lt-mul_right 95 (omega (arith, h.before, ap (λ e. (upper hi).top * e) (pow-suc 95 n)));
 }
 
 -- the middle is a position
@@ -43,7 +43,7 @@ middle-position lo hi p e f h =
       | inr ge ↦
           let none : length p ≡ 0 = omega arith in
           let zero-lies : LiesBetween lo hi 0 (num p (length p)) = subst (λ n. LiesBetween lo hi n (num p (length p))) none lies in
-          absurd (omega (arith, lies-above lo hi 0 (num p (length p)) e zero-lies, lies-below lo hi 0 (num p (length p)) f zero-lies, floor-zero lo, ceiling-zero hi f))
+          absurd (omega (arith, lies-after lo hi 0 (num p (length p)) e zero-lies, lies-before lo hi 0 (num p (length p)) f zero-lies, greatest_before-zero lo, least_after-zero hi f))
     ] in
     record {
       not_empty = some;
@@ -57,22 +57,22 @@ middle-position lo hi p e f h =
           h.least_length (length p - 1) (omega arith) (num p (length p - 1)) (lies-shorter lo hi (length p - 1) (num p (length p - 1)) longer);
     }
 
--- it is above the lower end
+-- it is greater than the lower end
 above-middle : (lo hi : Option (List ℕ)) (p : List ℕ) → LiesBetween lo hi (length p) (num p (length p)) → AreInOrder lo (Some p)
 above-middle None hi p l = tt
-above-middle (Some s) hi p l = less-smaller s p l.above
+above-middle (Some s) hi p l = less-smaller s p l.after
 
--- and below the upper one
+-- and less than the upper one
 below-middle : (lo hi : Option (List ℕ)) (p : List ℕ) → LiesBetween lo hi (length p) (num p (length p)) → AreInOrder (Some p) hi
 below-middle lo None p l = tt
-below-middle lo (Some t) p l = less-smaller p t l.below
+below-middle lo (Some t) p l = less-smaller p t l.before
 
 -- the middle is a position strictly between the ends
 pub middle-inside : (lo hi : Option (List ℕ)) (p : List ℕ) → IsEnd lo → IsEnd hi → IsMiddle lo hi p → IsInside lo hi p
 middle-inside lo hi p e f h = record {
   position = middle-position lo hi p e f h;
-  above = above-middle lo hi p (lies-middle lo hi p h);
-  below = below-middle lo hi p (lies-middle lo hi p h);
+  after = above-middle lo hi p (lies-middle lo hi p h);
+  before = below-middle lo hi p (lies-middle lo hi p h);
 }
 
 -- a position strictly between the ends lies there as a fraction
@@ -88,20 +88,20 @@ below-inside (Some t) p h l = smaller-less p t l
 pub shut-outside : (lo hi : Option (List ℕ)) → ((n : ℕ) → n ≤ 128 → IsShut lo hi n) → (p : List ℕ) → ¬ IsInside lo hi p
 shut-outside lo hi h p i =
     h (length p) i.position.short (num p (length p)) (record {
-      above = above-inside lo p i.position i.above;
-      below = below-inside hi p i.position i.below;
+      after = above-inside lo p i.position i.after;
+      before = below-inside hi p i.position i.before;
     })
 
 -- past its end an end has zeros
-floor-past : (lo : Option (List ℕ)) (n : ℕ) → end_length lo ≤ n → floor lo (n + 1) ≡ 95 * floor lo n
-floor-past None n h = refl
-floor-past (Some s) n h =
+greatest_before-past : (lo : Option (List ℕ)) (n : ℕ) → end_length lo ≤ n → greatest_before lo (n + 1) ≡ 95 * greatest_before lo n
+greatest_before-past None n h = refl
+greatest_before-past (Some s) n h =
     let none : digit s n ≡ 0 = ap (λ b. b - 32) (get_or_past s n 32 h) in
     omega (arith, num-next s n, none)
 
-ceiling-past : (hi : Option (List ℕ)) (n : ℕ) → end_length hi ≤ n → ceiling hi (n + 1) ≡ 95 * ceiling hi n
-ceiling-past None n h = rw (add-one, pow-suc) (omega arith)
-ceiling-past (Some t) n h =
+least_after-past : (hi : Option (List ℕ)) (n : ℕ) → end_length hi ≤ n → least_after hi (n + 1) ≡ 95 * least_after hi n
+least_after-past None n h = rw (add-one, pow-suc) (omega arith)
+least_after-past (Some t) n h =
     let none : digit t n ≡ 0 = ap (λ b. b - 32) (get_or_past t n 32 h) in
     omega (arith, num-next t n, none)
 
@@ -109,11 +109,11 @@ ceiling-past (Some t) n h =
 pub middle-short : (lo hi : Option (List ℕ)) (p : List ℕ) → IsEnd lo → IsEnd hi → AreInOrder lo hi → IsMiddle lo hi p → length p ≤ max (end_length lo) (end_length hi) + 1
 middle-short lo hi p e f o h =
     let n = max (end_length lo) (end_length hi) in
-    let low : floor lo (n + 1) ≡ 95 * floor lo n = floor-past lo n (omega arith) in
-    let high : ceiling hi (n + 1) ≡ 95 * ceiling hi n = ceiling-past hi n (omega arith) in
-    let gap : floor lo n < ceiling hi n = apart lo hi n e f o in
+    let low : greatest_before lo (n + 1) ≡ 95 * greatest_before lo n = greatest_before-past lo n (omega arith) in
+    let high : least_after hi (n + 1) ≡ 95 * least_after hi n = least_after-past hi n (omega arith) in
+    let gap : greatest_before lo n < least_after hi n = apart lo hi n e f o in
     elim (cases_lt (n + 1) (length p)) [
-      | inl lt ↦ absurd (h.least_length (n + 1) lt (floor lo (n + 1) + 1) (lies-from lo hi (n + 1) (floor lo (n + 1) + 1) e f (omega arith) (omega arith)))
+      | inl lt ↦ absurd (h.least_length (n + 1) lt (greatest_before lo (n + 1) + 1) (lies-from lo hi (n + 1) (greatest_before lo (n + 1) + 1) e f (omega arith) (omega arith)))
       | inr ge ↦ ge
     ]
 

@@ -113,6 +113,6 @@ apart-in_order (Some s) hi e f = under-below s hi e f
 -- and for a position between two ends
 pub fits-inside : (lo hi : Option (List ℕ)) (p : List ℕ) → IsEnd lo → IsEnd hi → FitsBetween lo hi p ↔ IsInside lo hi p
 fits-inside lo hi p e f = (
-  λ h. record { position = h.0; above = (after-above lo p e h.0).0 h.1; below = (under-below p hi h.0 f).0 h.2 },
-  λ h. (h.position, (after-above lo p e h.position).1 h.above, (under-below p hi h.position f).1 h.below),
+  λ h. record { position = h.0; after = (after-above lo p e h.0).0 h.1; before = (under-below p hi h.0 f).0 h.2 },
+  λ h. (h.position, (after-above lo p e h.position).1 h.after, (under-below p hi h.position f).1 h.before),
 )

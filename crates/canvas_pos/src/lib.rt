@@ -22,7 +22,7 @@ ghost use Rattle.std.proofs.Common.{rules};
 ghost use Rattle.canvas_model.specs.Position.{digit, num, IsDigitByte, IsPosition};
 ghost use Rattle.canvas_model.specs.Middle.{AreInOrder, IsShut, Middle};
 ghost use Rattle.canvas_model.specs.Order.{AreApart, FitsBetween};
-ghost use Rattle.canvas_pos.specs.Ends.{IsEnd, floor, ceiling, Opens};
+ghost use Rattle.canvas_pos.specs.Ends.{IsEnd, greatest_before, least_after, Opens};
 ghost use Rattle.canvas_pos.specs.Fault.{IsFault};
 ghost use Rattle.canvas_pos.specs.Laws.{ComparesAsFractions, IsOnlyMiddle, NoneFits};
 ghost use Rattle.canvas_pos.specs.Laws.{BytesCompareAsFractions, BeforeIffSmaller, ApartIffInOrder};
@@ -40,7 +40,7 @@ use thiserror::Error;
 /// The most bytes that a position has.
 pub const MAX_LEN: usize = 128;
 
-/// Why [`Pos::read`] gives no position: the first reason that holds, in this order.
+/// Why [`Pos::read`] gives no position: the first case that holds, in this order.
 #[derive(Clone, Copy, Debug, PartialEq, Eq, Error)]
 pub enum PosError {
     /// There are no bytes.
@@ -60,7 +60,7 @@ pub enum PosError {
     Memory,
 }
 
-/// A place among the children of an object: a fraction strictly between 0 and 1.
+/// Where an object stands among its siblings: a fraction strictly between 0 and 1.
 ///
 /// A contract sees it as its bytes.
 #[derive(Drop)]
@@ -331,8 +331,8 @@ fn first_gap(lo: Option<&[u8]>, hi: Option<&[u8]>) -> Option<Gap>
 // The digit of the lower end at an index.
 fn low_digit(lo: Option<&[u8]>, i: usize) -> u8
     requires { IsEnd (option_copied lo) }
-    ensures value { floor (option_copied lo.entry) (i + 1)
-        ≡ 95 * floor (option_copied lo.entry) i + result }
+    ensures value { greatest_before (option_copied lo.entry) (i + 1)
+        ≡ 95 * greatest_before (option_copied lo.entry) i + result }
     ensures range { result < 95 }
 {
     match lo {
@@ -345,8 +345,8 @@ fn low_digit(lo: Option<&[u8]>, i: usize) -> u8
 fn high_digit(hi: Option<&[u8]>, i: usize) -> u8
     requires index { i < 128 }
     requires end { IsEnd (option_copied hi) }
-    ensures value { ceiling (option_copied hi.entry) (i + 1) + 95
-        ≡ 95 * ceiling (option_copied hi.entry) i + result }
+    ensures value { least_after (option_copied hi.entry) (i + 1) + 95
+        ≡ 95 * least_after (option_copied hi.entry) i + result }
     ensures range { result ≤ 95 }
 {
     match hi {
@@ -381,7 +381,7 @@ fn half_way<A: Allocator>(alloc: A, lo: Option<&[u8]>, gap: Gap) -> Result<Pos<A
     ensures len { IfOk result (λ p. length p ≡ gap.before + 1) }
     ensures digits { IfOk result (All IsDigitByte) }
     ensures value { IfOk result (λ p. num p (gap.before + 1)
-        ≡ 95 * floor (option_copied lo.entry) gap.before + gap.last) }
+        ≡ 95 * greatest_before (option_copied lo.entry) gap.before + gap.last) }
 {
     let mut bytes = Vec::with_capacity(alloc, gap.before + 1)?;
     for i in 0..gap.before {

@@ -47,13 +47,13 @@ use Rattle.canvas_desk.specs.contracts.desk.Desk as Desk
 use Rattle.canvas_journal.specs.declared.keeper.Keeper as keeper
 use Rattle.canvas_desk.specs.contracts.desk.Desk.TheInside as in_desk
 use Rattle.canvas_room.specs.contracts.asking.Told as Told
-use Rattle.canvas_room.specs.contracts.mailbox.Letter as Letter
+use Rattle.canvas_room.specs.contracts.mailbox.Ticket as Ticket
 use Rattle.canvas_room.specs.contracts.mailbox.Mailbox as Mailbox
 use Rattle.canvas_room.specs.contracts.mailbox.Reply as Reply
 use Rattle.canvas_room.specs.contracts.mailbox.Reply.TheInside as in_reply
 use Rattle.canvas_room.specs.contracts.mailbox.Slot as Slot
-use Rattle.canvas_room.specs.contracts.place.Place as Place
-use Rattle.canvas_room.specs.contracts.place.SharedMailbox as SharedMailbox
+use Rattle.canvas_room.specs.contracts.seat_slot.SeatSlot as SeatSlot
+use Rattle.canvas_room.specs.contracts.seat_slot.SharedMailbox as SharedMailbox
 use Rattle.canvas_room.specs.contracts.seat.Seat as Seat
 use Rattle.canvas_room.specs.contracts.seat.Seat.TheInside as in_seat
 use Rattle.crossbeam_utils.specs.declared.rule.Protocol as protocol
@@ -214,16 +214,16 @@ Told-send N g s =
     let r = Receipt-send N g s in
     declared_send (Told.the_type N g) (as_row_send (Result.the_field (Receipt.the_row N g) SubmitError.the_row) (search (r, submit_error.the_send, sendable)), (search (front.the_send, sendable), tt))
 
-pub Letter-send : (N : RattleType) (g : Ghosts N.Denot) → IsSend N → IsSend (Letter.the_row N g)
-Letter-send N g s = declared_send (Letter.the_type N g) (Request-send, (search (front.the_send, sendable), tt))
+pub Ticket-send : (N : RattleType) (g : Ghosts N.Denot) → IsSend N → IsSend (Ticket.the_row N g)
+Ticket-send N g s = declared_send (Ticket.the_type N g) (Request-send, (search (front.the_send, sendable), tt))
 
 pub Reply-send : (N : RattleType) (g : Ghosts N.Denot) → IsSend N → IsSend (Reply.the_row N g)
-Reply-send N g s = view_send (in_reply.the_row N g) _ _ _ _ (declared_send (in_reply.the_type N g) (Letter-send N g s, (Told-send N g s, tt)))
+Reply-send N g s = view_send (in_reply.the_row N g) _ _ _ _ (declared_send (in_reply.the_type N g) (Ticket-send N g s, (Told-send N g s, tt)))
 
 pub Slot-send : (N : RattleType) (g : Ghosts N.Denot) → IsSend N → IsSend (Slot.the_row N g)
 Slot-send N g s =
     let r = Reply-send N g s in
-    variants_send (Slot.enum N g) (tt, ((Letter-send N g s, tt), ((search (r, sendable), tt), tt)))
+    variants_send (Slot.enum N g) (tt, ((Ticket-send N g s, tt), ((search (r, sendable), tt), tt)))
 
 pub Mailbox-send : (N : RattleType) (g : Ghosts N.Denot) → IsSend N → IsSend (Mailbox.the_row N g)
 Mailbox-send N g s = let l = Slot-send N g s in declared_send (Mailbox.the_type N g) (search (l, sendable, crosses), (search sendable, tt))
@@ -234,14 +234,14 @@ Shared-mailbox-send N g s = let l = Mailbox-send N g s in declared_send (SharedM
 pub Shared-mailbox-sync : (N : RattleType) (g : Ghosts N.Denot) → IsSend N → IsSync (SharedMailbox.the_row N g)
 Shared-mailbox-sync N g s = let l = Mailbox-send N g s in declared_sync (SharedMailbox.the_type N g) (search (l, sendable, crosses) depth 40 fits 4000, (search (sendable, crosses) depth 40 fits 4000, tt))
 
--- a seat's place at it, as a field
-pub Place-field-send : (N : RattleType) (g : Ghosts N.Denot) → IsSend N → IsSend (Place.the_field N g).row
-Place-field-send N g s = struct_send (shape (Place.the_type N g)) (heap.the_field_send, (Arc-send _ (Shared-mailbox-send N g s) (Shared-mailbox-sync N g s), (search sendable, tt)))
+-- a seat's slot in it, as a field
+pub SeatSlot-field-send : (N : RattleType) (g : Ghosts N.Denot) → IsSend N → IsSend (SeatSlot.the_field N g).row
+SeatSlot-field-send N g s = struct_send (shape (SeatSlot.the_type N g)) (heap.the_field_send, (Arc-send _ (Shared-mailbox-send N g s) (Shared-mailbox-sync N g s), (search sendable, tt)))
 
 pub Seat-send : (N D : RattleType) (g : Ghosts N.Denot) → IsSend N → IsSync N → IsSend D → IsSync D → IsSend (Seat.the_row N D g)
 Seat-send N D g s y sd yd =
     let r = Reader-send N g s y in
-    let p = Place-field-send N g s in
+    let p = SeatSlot-field-send N g s in
     view_send (in_seat.the_row N D g) _ _ _ _ (recorded_send (in_seat.the_field N D g).row _ _ (in_seat.the_type N D g).to_one (struct_send (shape (in_seat.the_type N D g)) (Arc-send D sd yd, (p, (r, tt)))))
 
 module _ (K N R : RattleType) (k : keeper.Ghosts K.Denot) (g : Ghosts N.Denot) where

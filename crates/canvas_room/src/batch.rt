@@ -5,7 +5,7 @@ ghost use Rattle.canvas_board.specs.Marks.{IsLegal};
 ghost use Rattle.canvas_room.specs.Batches.{AreSaid, AreSeen, IsUnjudged, Says, seen_of};
 
 use crate::asking::{Told, is_refusal, learned};
-use crate::mailbox::{Letter, Mailbox, Reply, Slot};
+use crate::mailbox::{Mailbox, Reply, Slot, Ticket};
 use canvas_board::{Front, Receipt, RoomName};
 use canvas_desk::{Desk, SubmitError};
 use canvas_journal::Keeper;
@@ -30,7 +30,7 @@ pub struct Batch<N: RoomName> {
     senders: Vec<Sender<N>>,
 }
 
-// Takes the letters that wait, except those of seats that have seen more than this. Fails only where memory is refused, and then takes none.
+// Takes the tickets that wait, except those of seats that have seen more than this. Fails only where memory is refused, and then takes none.
 fn gather<N: RoomName>(
     alloc: Global,
     mailbox: &mut Mailbox<N>,
@@ -42,30 +42,30 @@ fn gather<N: RoomName>(
     let mut requests = Vec::with_capacity(alloc, MOST_SEATS)?;
     let mut senders = Vec::with_capacity(alloc, MOST_SEATS)?;
     for seat in 0..MOST_SEATS {
-        let Some(letter) = mailbox.take_letter(seat, shown) else {
+        let Some(ticket) = mailbox.take_ticket(seat, shown) else {
             continue;
         };
-        let Letter { request, seen } = letter;
+        let Ticket { request, seen } = ticket;
         requests.push_reserved(request);
         senders.push_reserved(Sender { seat, seen });
     }
     Ok(Batch { requests, senders })
 }
 
-// The reply to a letter that stood in a batch. None where the request was refused, and not all that is due is published.
+// The reply to a ticket that stood in a batch. None where the request was refused, and not all that is due is published.
 fn reply<N: RoomName>(
-    letter: Letter<N>,
+    ticket: Ticket<N>,
     answer: Result<Receipt<N>, SubmitError>,
     due: &Front<N>,
     is_shown: bool,
 ) -> Option<Reply<N>>
-    requires { Says N.opening letter.seen due.now (seen_request letter.request) answer }
+    requires { Says N.opening ticket.seen due.now (seen_request ticket.request) answer }
 {
     if !is_shown && is_refusal(&answer) {
         return None;
     }
-    let learns = learned(&answer, &letter.seen, due);
-    Some(Reply::new(letter, Told { answer, learns }))
+    let learns = learned(&answer, &ticket.seen, due);
+    Some(Reply::new(ticket, Told { answer, learns }))
 }
 
 // Leaves the answer to a request in the slot of its seat.
@@ -80,7 +80,7 @@ fn leave<N: RoomName>(
     requires { Says N.opening sender.seen due.now (seen_request request) answer }
 {
     let Sender { seat, seen } = sender;
-    if let Some(reply) = reply(Letter { request, seen }, answer, due, is_shown) {
+    if let Some(reply) = reply(Ticket { request, seen }, answer, due, is_shown) {
         mailbox.put(seat, Slot::Answered(reply));
     }
 }
@@ -109,7 +109,7 @@ fn leave_each<N: RoomName>(
     }
 }
 
-// Takes the letters that wait, where one of another seat is among them. None too where memory is refused.
+// Takes the tickets that wait, where one of another seat is among them. None too where memory is refused.
 fn waiting<N: RoomName, W: Wait>(
     alloc: Global,
     rt: &W,

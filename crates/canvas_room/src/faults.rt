@@ -8,8 +8,8 @@ pub enum RoomError {
     /// A room has 1 to 64 seats.
     #[error("a room has 1 to 64 seats")]
     SeatCount = 1,
-    /// There is no place for a seat's reader. It can't be told from want of memory, which is answered in its place.
-    #[error("no place for a seat")]
+    /// No reader is left for a seat. It can't be told from want of memory, which is answered instead.
+    #[error("no reader for a seat")]
     NoPlace = 2,
     /// Memory was refused.
     #[error("out of memory")]

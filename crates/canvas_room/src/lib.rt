@@ -5,9 +5,9 @@ mod asking;
 mod batch;
 mod faults;
 mod mailbox;
-mod place;
 mod room;
 mod seat;
+mod seat_slot;
 
 pub use faults::RoomError;
 pub use room::{BlankRoom, Lock, Room, blank_room};

@@ -13,7 +13,7 @@ use std::mem::replace;
 
 /// A request, with what its seat has seen.
 #[derive(Drop)]
-pub struct Letter<N: RoomName> {
+pub struct Ticket<N: RoomName> {
     /// The request.
     pub request: Request,
     /// What its seat has seen.
@@ -23,7 +23,7 @@ pub struct Letter<N: RoomName> {
 /// What was told of a request, beside it. Contracts see it as what the seat had seen.
 #[derive(Drop)]
 pub struct Reply<N: RoomName> {
-    letter: Letter<N>,
+    ticket: Ticket<N>,
     told: Told<N>,
 }
 
@@ -39,9 +39,9 @@ impl<N: RoomName> Model for Reply<N> {
 
     ghost coded = { Prim.hlevel (codes, value_code) };
 
-    ghost view = { λ r. r.letter.seen };
+    ghost view = { λ r. r.ticket.seen };
 
-    ghost invariant = { λ r. IsAnswerTo N.opening r.letter.seen (seen_request r.letter.request) r.told.answer r.told.learns };
+    ghost invariant = { λ r. IsAnswerTo N.opening r.ticket.seen (seen_request r.ticket.request) r.told.answer r.told.learns };
 }
 
 /// What is in a slot of the mailbox.
@@ -50,7 +50,7 @@ pub enum Slot<N: RoomName> {
     /// Nothing.
     Empty,
     /// A request that waits.
-    Waiting(Letter<N>),
+    Waiting(Ticket<N>),
     /// A request that was answered.
     Answered(Reply<N>),
 }
@@ -102,13 +102,13 @@ fn same(request: &Request, other: &Request) -> bool
     }
 }
 
-impl<N: RoomName> Letter<N> {
+impl<N: RoomName> Ticket<N> {
     /// A copy of a request, with what its seat has seen. Fails only where memory is refused.
-    pub fn new(alloc: Global, request: &Request, seen: &Front<N>) -> Result<Letter<N>, AllocError>
-        ensures { IfOk result (λ letter. (seen_request letter.request ≡ seen_request request.now) × (letter.seen ≡ seen.now)) }
+    pub fn new(alloc: Global, request: &Request, seen: &Front<N>) -> Result<Ticket<N>, AllocError>
+        ensures { IfOk result (λ ticket. (seen_request ticket.request ≡ seen_request request.now) × (ticket.seen ≡ seen.now)) }
     {
         let request = copy(alloc, request)?;
-        Ok(Letter {
+        Ok(Ticket {
             request,
             seen: seen.again(),
         })
@@ -116,12 +116,12 @@ impl<N: RoomName> Letter<N> {
 }
 
 impl<N: RoomName> Reply<N> {
-    /// What was told of the request of a letter.
-    pub fn new(letter: Letter<N>, told: Told<N>) -> Reply<N>
-        requires { IsAnswerTo N.opening letter.seen (seen_request letter.request) told.answer told.learns }
-        ensures { result ≡ letter.seen }
+    /// What was told of the request of a ticket.
+    pub fn new(ticket: Ticket<N>, told: Told<N>) -> Reply<N>
+        requires { IsAnswerTo N.opening ticket.seen (seen_request ticket.request) told.answer told.learns }
+        ensures { result ≡ ticket.seen }
     {
-        Reply { letter, told }
+        Reply { ticket, told }
     }
 
     /// What was told, if it was told of this request, to a seat that had seen just this.
@@ -129,8 +129,8 @@ impl<N: RoomName> Reply<N> {
     pub fn told_of(self, request: &Request, seen: &Front<N>) -> Option<Told<N>>
         ensures { IfSome result (λ told. IsAnswerTo N.opening seen.now (seen_request request.now) told.answer told.learns) }
     {
-        let Reply { letter, told } = self;
-        if !same(&letter.request, request) || !letter.seen.is_same(seen) {
+        let Reply { ticket, told } = self;
+        if !same(&ticket.request, request) || !ticket.seen.is_same(seen) {
             return None;
         }
         Some(told)
@@ -170,10 +170,10 @@ impl<N: RoomName> Mailbox<N> {
         }
     }
 
-    // Takes the letter that waits in the slot of a seat.
-    fn take_waiting(&mut self, seat: usize) -> Option<Letter<N>> {
+    // Takes the ticket that waits in the slot of a seat.
+    fn take_waiting(&mut self, seat: usize) -> Option<Ticket<N>> {
         match self.take(seat) {
-            Slot::Waiting(letter) => Some(letter),
+            Slot::Waiting(ticket) => Some(ticket),
             content => {
                 self.put(seat, content);
                 None
@@ -181,15 +181,15 @@ impl<N: RoomName> Mailbox<N> {
         }
     }
 
-    /// Takes the letter that waits in the slot of a seat, unless that has seen more than this.
-    pub fn take_letter(&mut self, seat: usize, shown: &Front<N>) -> Option<Letter<N>>
-        ensures { IfSome result (λ letter. IsPrefix letter.seen shown.now) }
+    /// Takes the ticket that waits in the slot of a seat, unless that has seen more than this.
+    pub fn take_ticket(&mut self, seat: usize, shown: &Front<N>) -> Option<Ticket<N>>
+        ensures { IfSome result (λ ticket. IsPrefix ticket.seen shown.now) }
     {
-        let letter = self.take_waiting(seat)?;
-        if letter.seen.begins(shown) {
-            return Some(letter);
+        let ticket = self.take_waiting(seat)?;
+        if ticket.seen.begins(shown) {
+            return Some(ticket);
         }
-        self.put(seat, Slot::Waiting(letter));
+        self.put(seat, Slot::Waiting(ticket));
         None
     }
 
@@ -216,19 +216,19 @@ impl<N: RoomName> Mailbox<N> {
         self.is_led = is_led;
     }
 
-    /// Whether a letter waits in the slot of a seat.
-    pub fn has_letter(&self, seat: usize) -> bool {
+    /// Whether a ticket waits in the slot of a seat.
+    pub fn has_ticket(&self, seat: usize) -> bool {
         matches!(self.slots.get(seat), Some(Slot::Waiting(_)))
     }
 
-    /// A seat whose letter waits, if there is one.
+    /// A seat whose ticket waits, if there is one.
     pub fn some_waiting(&self) -> Option<usize> {
         self.slots
             .iter()
             .position(|slot| matches!(slot, Slot::Waiting(_)))
     }
 
-    /// Whether a letter waits in the slot of another seat.
+    /// Whether a ticket waits in the slot of another seat.
     pub fn has_others(&self, seat: usize) -> bool {
         for (other, slot) in self.slots.iter().enumerate() {
             if other != seat && matches!(slot, Slot::Waiting(_)) {

@@ -3,7 +3,7 @@ ghost use Rattle.std.specs.Prelude.{◌≡◌, ◌≤◌, ◌<◌, ◌⊎◌, []
 ghost use Rattle.canvas_model.specs.Log.{last_version};
 ghost use Rattle.canvas_desk.specs.Desks.{IsKeptAt};
 
-use crate::place::{Place, SharedMailbox};
+use crate::seat_slot::{SeatSlot, SharedMailbox};
 use crate::{RoomError, Seat};
 use canvas_board::{Blank, Board, Mark, Opening, Published, Reader, RoomName, Step, open_board};
 use canvas_desk::Desk;
@@ -140,8 +140,8 @@ fn seats_of<N: RoomName, D: Drop>(
 {
     let mut seats = Vec::with_capacity(alloc, readers.len())?;
     for reader in readers {
-        let place = Place::new(alloc, Arc::try_clone(mailbox)?, seats.len());
-        let seat = Seat::new(Arc::try_clone(shared)?, place, reader);
+        let slot = SeatSlot::new(alloc, Arc::try_clone(mailbox)?, seats.len());
+        let seat = Seat::new(Arc::try_clone(shared)?, slot, reader);
         seats.push(seat)?;
     }
     Ok(seats)

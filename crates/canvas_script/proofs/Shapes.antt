@@ -8,19 +8,19 @@ use Rattle.canvas_lines.proofs.Spellings.{one_verb}
 use Rattle.canvas_script.specs.declared.said.Head.{Head}
 use Rattle.canvas_script.specs.declared.said.Head.TheVariants as head
 use Rattle.canvas_script.specs.Words.{SpellsAfter, SpellsCount, SpellsId, SpellsKind, SpellsNode}
-use Rattle.canvas_script.specs.Edits.{SpellsSpot, SpellsShallow, SpellsProperty, SpellsEditRest, SpellsEdit}
+use Rattle.canvas_script.specs.Edits.{SpellsTarget, SpellsShallow, SpellsProperty, SpellsEditRest, SpellsEdit}
 use Rattle.canvas_script.specs.Lines.{Said, SpellsHead, SpellsRest, SpellsLong}
 use Rattle.canvas_script.proofs.Blanks.{spelled_id_blank, spelled_kind_blank, spelled_name_blank, spelled_verb_blank, spelled_count_blank, spelled_node_blank, spelled_head_blank, one_head}
 use Rattle.canvas_script.proofs.Pairs.{Shape}
 
 module _ (text : List ℕ) where
-  pub spot_shape : Shape SpellsId (λ parent. SpellsAfter) (SpellsSpot text) text
-  spot_shape = record { blank = spelled_id_blank; parts = λ spot q. (spot.parent, spot.after, q) }
+  pub target_shape : Shape SpellsId (λ parent. SpellsAfter) (SpellsTarget text) text
+  target_shape = record { blank = spelled_id_blank; parts = λ target q. (target.parent, target.after, q) }
 
   pub property_shape : Shape SpellsName (λ name. SpellsShallow) (SpellsProperty text) text
   property_shape = record { blank = spelled_name_blank; parts = λ property q. (property.0, property.1, q) }
 
-  pub creation_shape : Shape SpellsKind (λ kind. SpellsSpot) (SpellsEditRest verb.Create text) text
+  pub creation_shape : Shape SpellsKind (λ kind. SpellsTarget) (SpellsEditRest verb.Create text) text
   creation_shape = record { blank = spelled_kind_blank; parts = λ request q. (q.0, q.1, q.3) }
 
   pub setting_shape : Shape SpellsId (λ id. SpellsProperty) (SpellsEditRest verb.Set text) text
@@ -29,7 +29,7 @@ module _ (text : List ℕ) where
   pub clearing_shape : Shape SpellsId (λ id. SpellsName) (SpellsEditRest verb.Clear text) text
   clearing_shape = record { blank = spelled_id_blank; parts = λ request q. (q.0, q.1, q.3) }
 
-  pub move_shape : Shape SpellsId (λ id. SpellsSpot) (SpellsEditRest verb.Move text) text
+  pub move_shape : Shape SpellsId (λ id. SpellsTarget) (SpellsEditRest verb.Move text) text
   move_shape = record { blank = spelled_id_blank; parts = λ request q. (q.0, q.1, q.3) }
 
   pub edit_shape : Shape SpellsVerb SpellsEditRest (SpellsEdit text) text

@@ -3,7 +3,7 @@ use Rattle.std.specs.Prelude.{◌≡◌, ◌≢◌, ℕ, ◌<◌, ◌≤◌, ◌
 use Rattle.std.specs.List.{list_all, list_any}
 use Rattle.canvas_model.specs.Client.{nth}
 
--- a letter of `a` to `z`, or a digit
+-- one of `a` to `z`, or a digit
 abbrev pub is_node_byte : ℕ → Bool
 is_node_byte b = (nat_le 97 b && nat_le b 122) || (nat_le 48 b && nat_le b 57)
 
@@ -19,7 +19,7 @@ is_used names name = list_any (bytes_eq name) names
 abbrev pub used : List (List ℕ) → List ℕ → List (List ℕ)
 used names name = if is_used names name then names else names ++ name ∷ []
 
--- the number is the name's place among the names, from 1
+-- the number is the name's rank among the names, from 1
 abbrev pub IsNumber : List (List ℕ) → List ℕ → ℕ → Type 0
 IsNumber names name k = nth names k ≡ Some name
 

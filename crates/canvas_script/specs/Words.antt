@@ -27,7 +27,7 @@ SpellsId word id = IsId id × (word ≡ id_text id)
 abbrev pub SpellsKind : List ℕ → Kind → Type 0
 SpellsKind word kind = word ≡ kind_word kind
 
--- the id of the child that comes before, or `-` for the first place
+-- the id of the child that comes before, or `-` to come first
 abbrev pub SpellsAfter : List ℕ → Option ObjId → Type 0
 SpellsAfter word None = word ≡ codes "-"
 SpellsAfter word (Some id) = SpellsId word id

@@ -1,7 +1,7 @@
 // How edits are read.
 ghost use Rattle.std.specs.Prelude.{IfErr, IfOk};
 ghost use Rattle.canvas_lines.specs.Errors.{IsLineError};
-ghost use Rattle.canvas_script.specs.Edits.{SpellsEdit, SpellsEditRest, SpellsProperty, SpellsShallow, SpellsSpot};
+ghost use Rattle.canvas_script.specs.Edits.{SpellsEdit, SpellsEditRest, SpellsProperty, SpellsShallow, SpellsTarget};
 
 use crate::words::{read_after, read_id, read_kind};
 use canvas_client::EditRequest;
@@ -36,14 +36,14 @@ fn read_edit_rest(alloc: Global, verb: Verb, rest: &[u8]) -> Result<EditRequest,
     }
 }
 
-// A creation: a kind and a spot.
+// A creation: a kind and a target.
 fn read_creation(rest: &[u8]) -> Result<EditRequest, LineError>
     ensures ok { IfOk result (SpellsEditRest Verb.Create rest.now) }
     ensures err { IfErr result (IsLineError (SpellsEditRest Verb.Create rest.now)) }
 {
-    let (kind, spot) = cut_word(rest)?;
+    let (kind, target) = cut_word(rest)?;
     let kind = read_kind(kind)?;
-    let (parent, after) = read_spot(spot)?;
+    let (parent, after) = read_target(target)?;
     Ok(EditRequest::create(kind, parent, after))
 }
 
@@ -69,14 +69,14 @@ fn read_clearing(alloc: Global, rest: &[u8]) -> Result<EditRequest, LineError>
     Ok(EditRequest::clear(id, name))
 }
 
-// A move: an id and a spot.
+// A move: an id and a target.
 fn read_move(rest: &[u8]) -> Result<EditRequest, LineError>
     ensures ok { IfOk result (SpellsEditRest Verb.Move rest.now) }
     ensures err { IfErr result (IsLineError (SpellsEditRest Verb.Move rest.now)) }
 {
-    let (id, spot) = cut_word(rest)?;
+    let (id, target) = cut_word(rest)?;
     let id = read_id(id)?;
-    let (parent, after) = read_spot(spot)?;
+    let (parent, after) = read_target(target)?;
     Ok(EditRequest::move_to(id, parent, after))
 }
 
@@ -89,11 +89,11 @@ fn read_deletion(rest: &[u8]) -> Result<EditRequest, LineError>
     Ok(EditRequest::delete(id))
 }
 
-// A spot: the parent's id, and what comes before in it.
-fn read_spot(text: &[u8]) -> Result<(ObjId, Option<ObjId>), LineError>
+// A target: the parent's id, and what comes before in it.
+fn read_target(text: &[u8]) -> Result<(ObjId, Option<ObjId>), LineError>
     ensures ok { IfOk result
-        (λ spot. SpellsSpot text.now (record { parent = spot.0; after = spot.1 })) }
-    ensures err { IfErr result (IsLineError (SpellsSpot text.now)) }
+        (λ target. SpellsTarget text.now (record { parent = target.0; after = target.1 })) }
+    ensures err { IfErr result (IsLineError (SpellsTarget text.now)) }
 {
     let (parent, after) = cut_word(text)?;
     let parent = read_id(parent)?;

@@ -76,7 +76,7 @@ impl Names {
         self.names.contains(name)
     }
 
-    /// The name's place, from 1, among the names in the order of their first uses. At its first use
+    /// The name's rank, from 1, among the names in the order of their first uses. At its first use
     /// the name is added. Fails only where memory is refused, and then nothing has changed.
     pub fn number(&mut self, name: &[u8]) -> Result<u64, AllocError>
         requires { IsNodeName name.now }

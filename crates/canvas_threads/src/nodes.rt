@@ -46,7 +46,7 @@ where
     read_all(alloc, rt, nodes, last)
 }
 
-// A node's place at a room. What is sent to threads is generic in it, since the type of a seat is large.
+// A node's seat in a room. What is sent to threads is generic in it, since the type of a seat is large.
 trait Site: Drop {
     // Has a client join and make these edits. The errors are those of `Node`.
     fn work<W: Wait, G: Gate>(
@@ -177,7 +177,7 @@ where
     map_vec(rt, jobs, &|job| run(alloc, rt, job, gate))
 }
 
-// Has a client join at a job's place, and make its edits.
+// Has a client join at a job's seat, and make its edits.
 fn run<S: Site + Drop, W: Wait, G: Gate>(
     alloc: Global,
     rt: &W,

@@ -11,13 +11,13 @@ use Rattle.canvas_model.specs.Value.{Value}
 use Rattle.canvas_model.specs.Document.{Doc, Object, Pos, Name}
 use Rattle.canvas_model.specs.Children.{AreChildren, parent_of}
 use Rattle.canvas_tree.specs.Shapes.{Forest, Branch, forest_of, tops}
-use Rattle.canvas_tree.specs.Trees.{label_of, label_in, AreNodes, IsTreeAt}
+use Rattle.canvas_tree.specs.Trees.{label_of, label_in, AreVertices, IsTreeAt}
 
 tops_push : (bs : List Branch) (b : Branch) → tops (forest_of (bs ++ b ∷ [])) ≡ tops (forest_of bs) ++ b.label.id ∷ []
 tops_push [] b = refl
 tops_push (a ∷ bs) b = ap (λ v. a.label.id ∷ v) (tops_push bs b)
 
-pub nodes_push : (d : Doc) (bs : List Branch) (id : ObjId) (b : Branch) → AreNodes d (forest_of bs) → IsTreeAt d id b → AreNodes d (forest_of (bs ++ b ∷ []))
+pub nodes_push : (d : Doc) (bs : List Branch) (id : ObjId) (b : Branch) → AreVertices d (forest_of bs) → IsTreeAt d id b → AreVertices d (forest_of (bs ++ b ∷ []))
 nodes_push d [] id b h g = (g.top, g.below, tt)
 nodes_push d (a ∷ bs) id b h g = (h.0, h.1, nodes_push d bs id b h.2 g)
 

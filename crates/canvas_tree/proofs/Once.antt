@@ -9,7 +9,7 @@ use Rattle.canvas_model.specs.Children.{parent_of}
 use Rattle.canvas_model.proofs.Children.{child_cmp_total}
 use Rattle.canvas_model.proofs.Ids.{same_id_true}
 use Rattle.canvas_tree.specs.Shapes.{Forest, none, tree, Branch, tops, forest_ids, branch_ids}
-use Rattle.canvas_tree.specs.Trees.{AreNodes, IsTreeOf}
+use Rattle.canvas_tree.specs.Trees.{AreVertices, IsTreeOf}
 use Rattle.canvas_tree.proofs.Members.{IsIn, Distinct, distinct_both, in_either}
 use Rattle.canvas_tree.proofs.Ordered.{sorted_distinct}
 use Rattle.canvas_tree.proofs.Climbs.{IsClimb, climb_one}
@@ -49,7 +49,7 @@ module _ (d : Doc) (is : IsDocument d) where
     climbs : IsClimb (parent_of d) root q above
     through : q ∷ above ≡ before ++ (child ∷ p ∷ ps)
 
-  placed : (p : ObjId) (ps : List ObjId) (f : Forest) → AreNodes d f → ((c : ObjId) → IsIn c (tops f) → parent_of d c ≡ Some p) → IsClimb (parent_of d) root p ps → (q : ObjId) → IsIn q (forest_ids f) → Placed p ps f q
+  placed : (p : ObjId) (ps : List ObjId) (f : Forest) → AreVertices d f → ((c : ObjId) → IsIn c (tops f) → parent_of d c ≡ Some p) → IsClimb (parent_of d) root p ps → (q : ObjId) → IsIn q (forest_ids f) → Placed p ps f q
   placed p ps none g h c q k = absurd k
   placed p ps (tree l k r) g h c q (inl e) = record { child = l.id; among = inl refl; before = []; above = p ∷ ps; climbs = (ap (parent_of d) e ∙ h l.id (inl refl), c); through = ap (λ v. v ∷ p ∷ ps) e }
   placed p ps (tree l k r) g h c q (inr w) =
@@ -62,7 +62,7 @@ module _ (d : Doc) (is : IsDocument d) where
             record { child = s.child; among = inr s.among; before = s.before; above = s.above; climbs = s.climbs; through = s.through }
       ]
 
-  distinct_in : (p : ObjId) (ps : List ObjId) (f : Forest) → AreNodes d f → ((c : ObjId) → IsIn c (tops f) → parent_of d c ≡ Some p) → IsClimb (parent_of d) root p ps → Distinct (tops f) → Distinct (forest_ids f)
+  distinct_in : (p : ObjId) (ps : List ObjId) (f : Forest) → AreVertices d f → ((c : ObjId) → IsIn c (tops f) → parent_of d c ≡ Some p) → IsClimb (parent_of d) root p ps → Distinct (tops f) → Distinct (forest_ids f)
   distinct_in p ps none g h c apart = tt
   distinct_in p ps (tree l k r) g h c apart =
       let up : IsClimb (parent_of d) root l.id (p ∷ ps) = (h l.id (inl refl), c) in

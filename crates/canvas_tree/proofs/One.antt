@@ -5,7 +5,7 @@ use Rattle.canvas_model.specs.Document.{Doc}
 use Rattle.canvas_model.specs.Children.{AreChildren, child_cmp}
 use Rattle.canvas_model.proofs.Children.{child_cmp_total}
 use Rattle.canvas_tree.specs.Shapes.{Forest, none, tree, Branch, tops}
-use Rattle.canvas_tree.specs.Trees.{AreNodes, IsTreeAt}
+use Rattle.canvas_tree.specs.Trees.{AreVertices, IsTreeAt}
 use Rattle.canvas_tree.proofs.Members.{in_from, in_to}
 use Rattle.canvas_tree.proofs.Ordered.{sorted_one}
 
@@ -15,7 +15,7 @@ children_one d p cs es a b =
     (λ z h. in_from es z ((b.each z).1 ((a.each z).0 (in_to cs z h))))
     (λ z h. in_from cs z ((a.each z).1 ((b.each z).0 (in_to es z h))))
 
-nodes_one : (d : Doc) (f g : Forest) → AreNodes d f → AreNodes d g → tops f ≡ tops g → f ≡ g
+nodes_one : (d : Doc) (f g : Forest) → AreVertices d f → AreVertices d g → tops f ≡ tops g → f ≡ g
 nodes_one d none none a b e = refl
 nodes_one d none (tree l k r) a b e = cc
 nodes_one d (tree l k r) none a b e = cc

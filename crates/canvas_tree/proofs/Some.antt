@@ -14,7 +14,7 @@ use Rattle.canvas_model.proofs.Ids.{id_apart, id_dec}
 use Rattle.canvas_model.proofs.Children.{child_cmp_total, second_ties}
 use Rattle.canvas_model.proofs.Trees.{below_live}
 use Rattle.canvas_tree.specs.Shapes.{Forest, none, tree, Branch, tops}
-use Rattle.canvas_tree.specs.Trees.{label_of, AreNodes, IsTreeAt, IsTreeOf}
+use Rattle.canvas_tree.specs.Trees.{label_of, AreVertices, IsTreeAt, IsTreeOf}
 use Rattle.canvas_tree.proofs.Members.{IsIn, in_from, in_to}
 use Rattle.canvas_tree.proofs.Ordered.{put, put_sorted, put_in, put_keeps, put_there, sorted_none}
 use Rattle.canvas_doc.proofs.Standing.{some_is}
@@ -67,7 +67,7 @@ module _ (d : Doc) (p : ObjId) where
 -- ---- the trees at them
 
 module _ (d : Doc) (is : IsDocument d) where
-  grow_all : (P : ObjId → Type 0) → ((c : ObjId) → P c → (t : Branch) × IsTreeAt d c t) → (cs : List ObjId) → ((c : ObjId) → IsIn c cs → P c) → (f : Forest) × (tops f ≡ cs) × AreNodes d f
+  grow_all : (P : ObjId → Type 0) → ((c : ObjId) → P c → (t : Branch) × IsTreeAt d c t) → (cs : List ObjId) → ((c : ObjId) → IsIn c cs → P c) → (f : Forest) × (tops f ≡ cs) × AreVertices d f
   grow_all P each [] h = (none, refl, tt)
   grow_all P each (c ∷ cs) h =
       let t = each c (h c (inl refl)) in

@@ -8,7 +8,7 @@ use Rattle.canvas_model.specs.Chain.{Below, itself, through}
 use Rattle.canvas_model.specs.Children.{AreChildren, parent_of}
 use Rattle.std.specs.FinMap as finmap
 use Rattle.canvas_tree.specs.Shapes.{Label, Forest, none, tree, Branch, tops, forest_ids, branch_ids, forest_size, branch_size}
-use Rattle.canvas_tree.specs.Trees.{label_of, label_in, IsNode, AreNodes, IsTreeAt}
+use Rattle.canvas_tree.specs.Trees.{label_of, label_in, IsVertex, AreVertices, IsTreeAt}
 use Rattle.canvas_tree.proofs.Members.{IsIn, in_from, in_to, in_left, in_right, in_either}
 use Rattle.canvas_tree.proofs.Rows.{some_or_none, child_below}
 
@@ -23,7 +23,7 @@ top_in q none h = h
 top_in q (tree l k r) (inl e) = inl e
 top_in q (tree l k r) (inr h) = inr (in_right q (forest_ids k) (forest_ids r) (top_in q r h))
 
-pub node_live : (d : Doc) (l : Label) (k : Forest) → IsNode d l k → live d l.id ≡ true
+pub node_live : (d : Doc) (l : Label) (k : Forest) → IsVertex d l k → live d l.id ≡ true
 node_live d l k h = elim (some_or_none (finmap.get d l.id)) [
   | inl s ↦ ap is_some s.1
   | inr n ↦ absurd (let e = h.object in let f : label_in d l.id ≡ None = ap (option_map (label_of l.id)) n in cc)
@@ -31,7 +31,7 @@ node_live d l k h = elim (some_or_none (finmap.get d l.id)) [
 
 -- ---- each object in the tree has a chain
 
-below_tops : (d : Doc) (o : ObjId) (f : Forest) → AreNodes d f → ((q : ObjId) → IsIn q (tops f) → Below d q o) → (q : ObjId) → IsIn q (forest_ids f) → Below d q o
+below_tops : (d : Doc) (o : ObjId) (f : Forest) → AreVertices d f → ((q : ObjId) → IsIn q (tops f) → Below d q o) → (q : ObjId) → IsIn q (forest_ids f) → Below d q o
 below_tops d o none g h q k = absurd k
 below_tops d o (tree l k r) g h q (inl e) = h q (inl e)
 below_tops d o (tree l k r) g h q (inr w) =
@@ -48,7 +48,7 @@ stands_below d id t h q k =
 
 -- ---- each object with a chain is in the tree
 
-child_in : (d : Doc) (f : Forest) → AreNodes d f → (p q : ObjId) → parent_of d q ≡ Some p → IsIn p (forest_ids f) → IsIn q (forest_ids f)
+child_in : (d : Doc) (f : Forest) → AreVertices d f → (p q : ObjId) → parent_of d q ≡ Some p → IsIn p (forest_ids f) → IsIn q (forest_ids f)
 child_in d none g p q e h = absurd h
 child_in d (tree l k r) g p q e (inl w) = inr (in_left q (forest_ids k) (forest_ids r) (top_in q k (child_among d l.id (tops k) g.0.children q (e ∙ ap (λ v. Some v) w))))
 child_in d (tree l k r) g p q e (inr w) =

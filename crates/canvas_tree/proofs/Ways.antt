@@ -10,7 +10,7 @@ use Rattle.canvas_model.specs.Children.{AreChildren, parent_of}
 use Rattle.canvas_model.proofs.Ids.{same_id_true, id_itself}
 use Rattle.canvas_model.proofs.Trees.{below_trans, below_end}
 use Rattle.canvas_tree.specs.Shapes.{Label, Forest, none, tree, Branch, tops, forest_ids, branch_ids}
-use Rattle.canvas_tree.specs.Trees.{AreNodes, IsTreeAt, IsTreeOf}
+use Rattle.canvas_tree.specs.Trees.{AreVertices, IsTreeAt, IsTreeOf}
 use Rattle.canvas_tree.specs.Chains.{LeadTo, IsPath}
 use Rattle.canvas_tree.specs.Reads.{found_in, found, path_in, path}
 use Rattle.canvas_tree.specs.Laws.{IsFound}
@@ -55,7 +55,7 @@ either : {X : Type 0} (P : X → Type 0) (a b : Option X) (x : X) → (a ≡ Som
 either P None b x h k e = k e
 either P (Some y) b x h k e = h e
 
-path_leads : (d : Doc) (q : ObjId) (f : Forest) (ps : List ObjId) → AreNodes d f → path_in q f ≡ Some ps → Down d q f ps
+path_leads : (d : Doc) (q : ObjId) (f : Forest) (ps : List ObjId) → AreVertices d f → path_in q f ≡ Some ps → Down d q f ps
 path_leads d q none ps g e = absurd (let f : None ≡ Some ps = e in cc f)
 path_leads d q (tree l k r) ps g e =
     (elim (same_id l.id q) as (λ b. same_id l.id q ≡ b → cond b (Some (l.id ∷ [])) (option_or (option_map (λ p. l.id ∷ p) (path_in q k)) (path_in q r)) ≡ Some ps → Down d q (tree l k r) ps) [
@@ -122,7 +122,7 @@ paths_are_chains d t h q = go (path q t) refl
 
 -- ---- the tree found at an object is the one at it
 
-found_at : (d : Doc) (q : ObjId) (f : Forest) (t : Branch) → AreNodes d f → found_in q f ≡ Some t → IsTreeAt d q t
+found_at : (d : Doc) (q : ObjId) (f : Forest) (t : Branch) → AreVertices d f → found_in q f ≡ Some t → IsTreeAt d q t
 found_at d q none t g e = absurd (let f : None ≡ Some t = e in cc f)
 found_at d q (tree l k r) t g e =
     let here : Branch = record { label = l; below = k } in

@@ -17,20 +17,20 @@ abbrev pub label_in : Doc → ObjId → Option Label
 label_in d q = option_map (label_of q) (map.get d q)
 
 -- a live object as it is, and at the tops of what is below it exactly the live objects whose place names it, by position and then by id
-pub record IsNode (d : Doc) (l : Label) (below : Forest) : Type 0 where
+pub record IsVertex (d : Doc) (l : Label) (below : Forest) : Type 0 where
   pub object : label_in d l.id ≡ Some l
   pub children : AreChildren d l.id (tops below)
 
 -- the same of each object in the trees
-abbrev pub AreNodes : Doc → Forest → Type 0
-AreNodes d none = Unit {0}
-AreNodes d (tree l k r) = IsNode d l k × AreNodes d k × AreNodes d r
+abbrev pub AreVertices : Doc → Forest → Type 0
+AreVertices d none = Unit {0}
+AreVertices d (tree l k r) = IsVertex d l k × AreVertices d k × AreVertices d r
 
 -- the tree at this object: the object, its children, their children, and so on
 pub record IsTreeAt (d : Doc) (id : ObjId) (t : Branch) : Type 0 where
   pub at : t.label.id ≡ id
-  pub top : IsNode d t.label t.below
-  pub below : AreNodes d t.below
+  pub top : IsVertex d t.label t.below
+  pub below : AreVertices d t.below
 
 -- the tree of the document: the one at the root
 abbrev pub IsTreeOf : Doc → Branch → Type 0

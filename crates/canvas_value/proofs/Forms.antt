@@ -1,10 +1,10 @@
--- The laws of the parts that forms are put together from, and what they say of a tree.
+-- The laws of the parts that forms are put together from, and what they say of a JSON tree.
 use Rattle.std.proofs.Common.{◌≡◌, ℕ, ◌&&◌, ◌⊎◌, inl, inr, pos, negsuc, List, [], ◌∷◌, Bool, true, false, true≢false, cond, bytes_eq, Option, Some, None, is_some, option_map, unwrap_or, refl, ap, sym, ◌∙◌}
 use Rattle.std.proofs.lemmas.Slice.Eq.{bytes_eq-Decides}
 use Rattle.serde_json.specs.Data as D
 use Rattle.serde_json.specs.Data.{Data, unsigned, negative, float, null, boolean, string, array, object, Items, no_items, item}
 use Rattle.canvas_value.specs.Shape.{shape, shapes}
-use Rattle.canvas_value.specs.Codec.{Form, Codec, Row, Worded, HasShape, StandsFor, IsOutOfRange, IsForm, IsCodec, IsRow, IsWorded, word_shape}
+use Rattle.canvas_value.specs.Codec.{Form, Codec, Members, Worded, HasShape, StandsFor, IsOutOfRange, IsForm, IsCodec, AreMembers, IsWorded, word_shape}
 use Rattle.canvas_value.specs.Parts.{is_within, whole, whole_in, text_of, text_in, word, maybe, maybe_in, maybe_written, end, end_in, join, member, member_in, each, each_in, each_written, each_test, array_of, array_in, headed, head_in, after, choice, with_fit, via}
 
 pub first : {A B : Type 0} {a b : A} {x y : B} → ◌≡◌ {A = Option (A × B)} (Some (a, x)) (Some (b, y)) → a ≡ b
@@ -21,7 +21,7 @@ pub both_true : (a b : Bool) → a ≡ true → b ≡ true → (a && b) ≡ true
 both_true true b e f = f
 both_true false b e f = absurd (true≢false (sym e))
 
--- ---- what a reading says of the tree
+-- ---- what a reading says of the JSON tree
 
 module _ {X : Type 0} (c : Codec X) (h : IsCodec c) where
   pub stands_for : (d : Data) (x : X) → c.read d ≡ Some (x, true) → StandsFor c d x
@@ -253,7 +253,7 @@ end_shaped : (ds : Items) (x : Unit {0}) → no_items ≡ shapes ds → is_some 
 end_shaped no_items x e = refl
 end_shaped (item d ds) x e = cc
 
-pub end_is : IsRow end
+pub end_is : AreMembers end
 end_is = record {
   back = λ x s e. refl;
   exact = λ ds x e. end_exact ds x true e;
@@ -276,7 +276,7 @@ module _ {X Y : Type 0} where
   join_some (Some p) None e f = absurd (true≢false (sym f))
   join_some (Some p) (Some q) e f = refl
 
-module _ {X Y : Type 0} (c : Codec X) (r : Row Y) (hc : IsCodec c) (hr : IsRow r) where
+module _ {X Y : Type 0} (c : Codec X) (r : Members Y) (hc : IsCodec c) (hr : AreMembers r) where
   -- both parts of a pair that was read in range
   pair_was : (d : Data) (ds : Items) (x : X × Y) → join (c.read d) (r.read ds) ≡ Some (x, true) → (c.read d ≡ Some (x.0, true)) × (r.read ds ≡ Some (x.1, true))
   pair_was d ds x e =
@@ -323,7 +323,7 @@ module _ {X Y : Type 0} (c : Codec X) (r : Row Y) (hc : IsCodec c) (hr : IsRow r
   member_shaped no_items x s e = cc
   member_shaped (item d ds) x s e = pair_shaped d ds x.0 x.1 s e
 
-  pub member_is : IsRow (member c r)
+  pub member_is : AreMembers (member c r)
   member_is = record {
     back = member_back;
     exact = λ ds x e. (member_exact ds x e).0;
@@ -376,7 +376,7 @@ module _ {X : Type 0} (c : Codec X) (h : IsCodec c) where
       some_mapped (with_fit (λ p. p.0 ∷ p.1)) (join (c.read d) (each_in c.read ds))
       ∙ join_some (c.read d) (each_in c.read ds) (h.shaped d x k.0 (cc)) (each_shaped ds xs k.1 (cc))
 
-  pub each_is : IsRow (each c)
+  pub each_is : AreMembers (each c)
   each_is = record {
     back = each_back;
     exact = λ ds xs e. (each_exact ds xs e).0;
@@ -388,7 +388,7 @@ module _ {X : Type 0} (c : Codec X) (h : IsCodec c) where
 
 -- ---- arrays
 
-module _ {X : Type 0} (r : Row X) (h : IsRow r) where
+module _ {X : Type 0} (r : Members X) (h : AreMembers r) where
   array_exact : (d : Data) (x : X) → array_in r.read d ≡ Some (x, true) → (array (r.write x) ≡ d) × (r.fits x ≡ true)
   array_exact null x e = cc
   array_exact (boolean b) x e = cc
@@ -465,7 +465,7 @@ module _ {X : Type 0} (w : Worded X) (h : IsWorded w) where
   head_shaped (item (array es) ds) x k e = cc
   head_shaped (item (object ms) ds) x k e = cc
 
-  pub headed_is : IsRow (headed w)
+  pub headed_is : AreMembers (headed w)
   headed_is = record {
     back = h.back;
     exact = λ ds x e. (head_exact ds x e).0;
@@ -479,7 +479,7 @@ if_read : {Z : Type 0} (b : Bool) (o : Option Z) (z : Z) → cond b o None ≡ S
 if_read true o z e = (refl, e)
 if_read false o z e = cc
 
-module _ {X : Type 0} (v : List ℕ) (r : Row X) (h : IsRow r) where
+module _ {X : Type 0} (v : List ℕ) (r : Members X) (h : AreMembers r) where
   after_was : (p : List ℕ × Items) (x : X) (b : Bool) → (after v r).read p ≡ Some (x, b) → (v ≡ p.0) × (r.read p.1 ≡ Some (x, b))
   after_was p x b e = let k = if_read (bytes_eq p.0 v) (r.read p.1) (x, b) e in (sym ((bytes_eq-Decides p.0 v).0 k.0), k.1)
 
@@ -519,7 +519,7 @@ module _ {X Y : Type 0} where
   right_some o (Some r) e = refl
 
 -- the others begin with no such word
-module _ {X Y : Type 0} (v : List ℕ) (r : Row X) (w : Worded Y) (hr : IsRow r) (hw : IsWorded w) (apart : (y : Y) → bytes_eq (w.write y).0 v ≡ false) where
+module _ {X Y : Type 0} (v : List ℕ) (r : Members X) (w : Worded Y) (hr : AreMembers r) (hw : IsWorded w) (apart : (y : Y) → bytes_eq (w.write y).0 v ≡ false) where
   left : (p : List ℕ × Items) (x : X) (f : Bool) → (choice v r w).read p ≡ Some (inl x, f) → (v ≡ p.0) × (r.read p.1 ≡ Some (x, f))
   left p x f e = let k = left_was (bytes_eq p.0 v) (r.read p.1) (w.read p) x f e in (sym ((bytes_eq-Decides p.0 v).0 k.0), k.1)
 

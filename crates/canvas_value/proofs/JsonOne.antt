@@ -9,7 +9,7 @@ abbrev colour_at : Items → ℕ
 colour_at (item (D.number (unsigned n)) ds) = n
 colour_at _ = 0
 
--- the value that a tree is of, whatever its numbers
+-- the value that a JSON tree is of, whatever its numbers
 abbrev mutual
   value_at : Data → Value
   value_at (boolean b) = truth b

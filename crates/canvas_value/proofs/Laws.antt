@@ -13,7 +13,7 @@ use Rattle.canvas_value.specs.declared.json_fault.JsonFault.{JsonFault}
 use Rattle.canvas_value.specs.declared.json_fault.JsonFault.TheVariants.{NotAValue, OutOfRange, Memory}
 use Rattle.canvas_value.proofs.Forms.{first, second, both_hold, both_true, some_mapped, out_of_range, no_shape}
 
--- ---- what was read in range is in range, and the tree is its own
+-- ---- what was read in range is in range, and the JSON tree is its own
 
 number_case : (b : Bool) (z : ℤ) (v : Value) → option_map (with_fit number) (cond b (Some (z, true)) (Some (pos 0, false))) ≡ Some (v, true) → (b ≡ true) × (number z ≡ v)
 number_case true z v e = (refl, first e)
@@ -88,7 +88,7 @@ mutual
   read_all_exact no_items vs e = (sym (ap jsons (first e)), sym (ap all_fit (first e)))
   read_all_exact (item d ds) vs e = more_exact (read d) (read_all ds) d ds vs (read_exact d) (read_all_exact ds) e
 
--- ---- the tree of a value is read as that value
+-- ---- the JSON tree of a value is read as that value
 
 number_back : (b : Bool) (z : ℤ) → b ≡ true → option_map (with_fit number) (cond b (Some (z, true)) (Some (pos 0, false))) ≡ Some (number z, true)
 number_back true z e = refl
@@ -113,7 +113,7 @@ mutual
       let each = both_hold (fits v) (all_fit vs) e in
       rw (reads_back v each.0, reads_all_back vs each.1) refl
 
--- ---- something is read of a tree exactly where it is of its shape
+-- ---- something is read of a JSON tree exactly where it is of its shape
 
 some_either : {X : Type 0} (b : Bool) (x y : X) → is_some (cond b (Some x) (Some y)) ≡ true
 some_either true x y = refl
@@ -198,7 +198,7 @@ mutual
 shaped : (d : Data) (v : Value) → shape (json v) ≡ shape d → is_some (read d) ≡ true
 shaped d v same = read_shape d ∙ sym (ap (λ c. is_some (read c)) same) ∙ sym (read_shape (json v)) ∙ some_json v
 
--- ---- what was read has the shape of the tree
+-- ---- what was read has the shape of the JSON tree
 
 number_same : (b f : Bool) (z : ℤ) (v : Value) → shape (json (number z)) ≡ D.number (unsigned 0)
     → option_map (with_fit number) (cond b (Some (z, true)) (Some (pos 0, false))) ≡ Some (v, f) → shape (json v) ≡ D.number (unsigned 0)
@@ -279,7 +279,7 @@ refusal_means d NotAValue h = no_shape value_form value_is d h
 refusal_means d OutOfRange h = out_of_range value_form value_is d h.0 h.1
 refusal_means d Memory h = tt
 
--- what is the tree of a value in range is refused for want of memory alone
+-- what is the JSON tree of a value in range is refused for want of memory alone
 pub only_memory : (d : Data) (v : Value) (f : JsonFault) → StandsFor value_form d v → IsJsonFault d f → f ≡ Memory
 only_memory d v NotAValue s h = absurd (h (v, s.0, ap shape s.2))
 only_memory d v OutOfRange s h = absurd (h.1 v s)

@@ -1,4 +1,4 @@
--- The tree of a list of values.
+-- The JSON tree of a list of values.
 use Rattle.std.proofs.Common.{◌≡◌, List, [], ◌∷◌, ◌++◌, map, codes, refl, ap, ◌∙◌}
 use Rattle.serde_json.specs.Data.{string, array, item}
 use Rattle.serde_json.specs.View.{view, items_view, items_of}

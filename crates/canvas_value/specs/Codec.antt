@@ -1,9 +1,9 @@
--- What has a form in JSON, and what it is for a tree to have that form.
+-- What has a form in JSON, and what it is for a JSON tree to have that form.
 use Rattle.std.specs.Prelude.{◌≡◌, ℕ, List, Bool, true, Option, Some, is_some}
 use Rattle.serde_json.specs.Data.{Data, Items}
 use Rattle.canvas_value.specs.Shape.{shape, shapes}
 
--- a form that things of a type X have in D, which is trees or the members of an array
+-- a form that things of a type X have in D, which is JSON trees or the members of an array
 pub record Form (D X : Type 0) : Type 0 where
   -- what a thing is written as
   pub write : X → D
@@ -14,27 +14,27 @@ pub record Form (D X : Type 0) : Type 0 where
   -- what is read, and whether its whole numbers were in range: 0 stands for one that wasn't
   pub read : D → Option (X × Bool)
 
--- as a tree
+-- as a JSON tree
 abbrev pub Codec : Type 0 → Type 0
 Codec X = Form Data X
 
--- as the members of an array from some place on
-abbrev pub Row : Type 0 → Type 0
-Row X = Form Items X
+-- as the members of an array from some index on
+abbrev pub Members : Type 0 → Type 0
+Members X = Form Items X
 
 -- as an array that begins with a word, and its other members
 abbrev pub Worded : Type 0 → Type 0
 Worded X = Form (List ℕ × Items) X
 
--- the tree is that of a thing, but for its whole numbers
+-- the JSON tree is that of a thing, but for its whole numbers
 abbrev pub HasShape : {X : Type 0} → Codec X → Data → Type 0
 HasShape {X} c d = (x : X) × (c.sound x ≡ true) × (shape (c.write x) ≡ shape d)
 
--- the tree is that of this thing, whose whole numbers are in range
+-- the JSON tree is that of this thing, whose whole numbers are in range
 abbrev pub StandsFor : {X : Type 0} → Codec X → Data → X → Type 0
 StandsFor c d x = (c.sound x ≡ true) × (c.fits x ≡ true) × (c.write x ≡ d)
 
--- the tree has the shape, and some whole number is out of range
+-- the JSON tree has the shape, and some whole number is out of range
 abbrev pub IsOutOfRange : {X : Type 0} → Codec X → Data → Type 0
 IsOutOfRange {X} c d = HasShape c d × ((x : X) → StandsFor c d x → ⊥)
 
@@ -51,13 +51,13 @@ pub record IsForm {D X : Type 0} (form : D → D) (f : Form D X) : Type 0 where
 abbrev pub word_shape : List ℕ × Items → List ℕ × Items
 word_shape p = (p.0, shapes p.1)
 
--- a form as a tree
+-- a form as a JSON tree
 abbrev pub IsCodec : {X : Type 0} → Codec X → Type 0
 IsCodec c = IsForm shape c
 
 -- a form as the members of an array
-abbrev pub IsRow : {X : Type 0} → Row X → Type 0
-IsRow r = IsForm shapes r
+abbrev pub AreMembers : {X : Type 0} → Members X → Type 0
+AreMembers r = IsForm shapes r
 
 -- a form as an array that begins with a word
 abbrev pub IsWorded : {X : Type 0} → Worded X → Type 0

@@ -8,7 +8,7 @@ use Rattle.canvas_value.specs.Codec.{Codec}
 use Rattle.canvas_value.specs.Parts.{is_within, whole_in, with_fit, text_of}
 use Rattle.canvas_value.specs.Names.{is_name}
 
--- the tree of a value
+-- the JSON tree of a value
 abbrev mutual
   pub json : Value → Data
   json (number n) = D.number (of_integer n)
@@ -48,7 +48,7 @@ colour_in no_items = None
 colour_in (item d no_items) = option_map (with_fit colour) (whole_in 0 4294967295 d)
 colour_in (item d (item e ds)) = None
 
--- the value that a tree is read as
+-- the value that a JSON tree is read as
 abbrev mutual
   pub read : Data → Option (Value × Bool)
   read null = None

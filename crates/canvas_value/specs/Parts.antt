@@ -3,7 +3,7 @@ use Rattle.std.specs.Prelude.{◌&&◌, ◌⊎◌, ℕ, pos, negsuc, List, [], �
 use mathlib.Core.Logic.{inl, inr}
 use Rattle.serde_json.specs.Data as D
 use Rattle.serde_json.specs.Data.{unsigned, negative, float, Data, null, boolean, string, array, object, Items, no_items, item}
-use Rattle.canvas_value.specs.Codec.{Form, Codec, Row, Worded}
+use Rattle.canvas_value.specs.Codec.{Form, Codec, Members, Worded}
 
 -- what is read is made into a thing of another type, and its numbers stay in range or out of it
 abbrev pub with_fit : {A B : Type 0} → (A → B) → A × Bool → B × Bool
@@ -13,7 +13,7 @@ with_fit f r = (f r.0, r.1)
 abbrev pub via : {D X Y : Type 0} → (X → Y) → (Y → X) → Form D X → Form D Y
 via to from f = record { write = λ y. f.write (from y); sound = λ y. f.sound (from y); fits = λ y. f.fits (from y); read = λ d. option_map (with_fit to) (f.read d) }
 
--- ---- trees
+-- ---- JSON trees
 
 -- the number is one from low to high
 abbrev pub is_within : ℕ → ℕ → ℕ → Bool
@@ -83,7 +83,7 @@ end_in no_items = Some (tt, true)
 end_in (item d ds) = None
 
 -- the form of the end of an array
-abbrev pub end : Row (Unit {0})
+abbrev pub end : Members (Unit {0})
 end = record { write = λ _. no_items; sound = λ _. true; fits = λ _. true; read = end_in }
 
 -- both things, whose numbers are in range where those of each are
@@ -98,7 +98,7 @@ member_in f g no_items = None
 member_in f g (item d ds) = join (f d) (g ds)
 
 -- the form of one member and of those after it
-abbrev pub member : {X Y : Type 0} → Codec X → Row Y → Row (X × Y)
+abbrev pub member : {X Y : Type 0} → Codec X → Members Y → Members (X × Y)
 member c r = record { write = λ p. item (c.write p.0) (r.write p.1); sound = λ p. c.sound p.0 && r.sound p.1; fits = λ p. c.fits p.0 && r.fits p.1; read = member_in c.read r.read }
 
 -- any number of members of one form
@@ -117,7 +117,7 @@ each_test f [] = true
 each_test f (x ∷ xs) = f x && each_test f xs
 
 -- the form of any number of members
-abbrev pub each : {X : Type 0} → Codec X → Row (List X)
+abbrev pub each : {X : Type 0} → Codec X → Members (List X)
 each c = record { write = each_written c.write; sound = each_test c.sound; fits = each_test c.fits; read = each_in c.read }
 
 -- the members of an array, read
@@ -130,7 +130,7 @@ array_in f (array ds) = f ds
 array_in f (object ms) = None
 
 -- the form of an array
-abbrev pub array_of : {X : Type 0} → Row X → Codec X
+abbrev pub array_of : {X : Type 0} → Members X → Codec X
 array_of r = record { write = λ x. array (r.write x); sound = r.sound; fits = r.fits; read = array_in r.read }
 
 -- ---- arrays that begin with a word
@@ -156,11 +156,11 @@ head_in f (item (array es) ds) = None
 head_in f (item (object ms) ds) = None
 
 -- the form of an array that begins with a word
-abbrev pub headed : {X : Type 0} → Worded X → Row X
+abbrev pub headed : {X : Type 0} → Worded X → Members X
 headed w = record { write = λ x. item (string (w.write x).0) (w.write x).1; sound = w.sound; fits = w.fits; read = head_in w.read }
 
 -- one word, and what comes after it
-abbrev pub after : {X : Type 0} → List ℕ → Row X → Worded X
+abbrev pub after : {X : Type 0} → List ℕ → Members X → Worded X
 after v r = record { write = λ x. (v, r.write x); sound = r.sound; fits = r.fits; read = λ p. if bytes_eq p.0 v then r.read p.1 else None }
 
 -- the one or the other, whichever is there
@@ -169,7 +169,7 @@ side f g (inl x) = f x
 side f g (inr y) = g y
 
 -- one word and what comes after it, or else an array that begins with another
-abbrev pub choice : {X Y : Type 0} → List ℕ → Row X → Worded Y → Worded (X ⊎ Y)
+abbrev pub choice : {X Y : Type 0} → List ℕ → Members X → Worded Y → Worded (X ⊎ Y)
 choice {X} {Y} v r w = record {
   write = side (λ x. (v, r.write x)) w.write;
   sound = side r.sound w.sound;

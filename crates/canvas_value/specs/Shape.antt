@@ -1,4 +1,4 @@
--- The shape of a JSON tree: the tree with 0 in place of each whole number.
+-- The shape of a JSON tree: the JSON tree with 0 in place of each whole number.
 use Rattle.std.specs.Prelude.{pos, negsuc}
 use Rattle.serde_json.specs.Data as D
 use Rattle.serde_json.specs.Data.{Data, null, boolean, string, array, object, unsigned, negative, float, Items, no_items, item}

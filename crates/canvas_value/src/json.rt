@@ -6,10 +6,10 @@ ghost use Rattle.serde_json.specs.Read.{read as read_text};
 ghost use Rattle.canvas_model.specs.Value.{Value as PlainValue, colour, list};
 ghost use Rattle.canvas_model.specs.Value.{values_of, depth, max_depth};
 ghost use Rattle.canvas_value.specs.Codec.{StandsFor, IsCodec};
-ghost use Rattle.canvas_value.specs.Json.{json as tree, fits, value_form, integer_in, colour_in};
+ghost use Rattle.canvas_value.specs.Json.{json as json_tree, fits, value_form, integer_in, colour_in};
 ghost use Rattle.canvas_value.specs.Json.{read as meant, read_all as all_meant};
 ghost use Rattle.canvas_value.specs.Text.{json_text};
-ghost use Rattle.canvas_value.specs.Laws.{TreesAreOfOne, TextsSpellOne, NamesPassTest};
+ghost use Rattle.canvas_value.specs.Laws.{JsonIsOfOne, TextsSpellOne, NamesPassTest};
 ghost use Rattle.canvas_value.specs.Faults.{RefusesShape, Refuses, IsJsonFault};
 
 use crate::parts::{split_word, whole};
@@ -19,9 +19,9 @@ use std::alloc::{AllocError, Allocator, Global};
 
 impl<A: Allocator> Value<A> {
     /// The JSON of a value: a number, `true` or `false`, a string, `["rgba",n]` for a colour, and
-    /// `["list",value,..]` for a list. The tree stands under the global allocator.
+    /// `["list",value,..]` for a list. The JSON tree stands under the global allocator.
     pub fn to_json(&self, alloc: Global) -> Result<Json, AllocError>
-        ensures tree { IfOk result (λ j. view j ≡ tree self.now) }
+        ensures json_tree { IfOk result (λ j. view j ≡ json_tree self.now) }
         ensures range { fits self.now ≡ true }
     {
         write(alloc, self)
@@ -30,11 +30,11 @@ impl<A: Allocator> Value<A> {
     /// The JSON text of a value, with no space outside its texts. The error is that memory was
     /// refused.
     ///
-    /// Read as JSON, the text of a value that passes [`Value::check`] gives its tree again.
+    /// Read as JSON, the text of a value that passes [`Value::check`] gives its JSON tree again.
     pub fn json_text(&self, alloc: Global) -> Result<String, AllocError>
         ensures text { IfOk result (λ s. string_bytes s ≡ json_text self.now) }
         ensures reads_back { depth self.now ≤ max_depth
-            → IfOk result (λ s. read_text (string_bytes s) ≡ Some (tree self.now)) }
+            → IfOk result (λ s. read_text (string_bytes s) ≡ Some (json_tree self.now)) }
     {
         self.to_json(alloc)?.to_string(alloc)
     }
@@ -43,15 +43,15 @@ impl<A: Allocator> Value<A> {
 impl<A: Allocator + Copy> Value<A> {
     /// The value of which this is the JSON. How deep it nests is left to [`Value::check`].
     ///
-    /// `NotAValue` for any other tree, as one with a number that isn't a whole number of 64 bits.
-    /// `OutOfRange` where the tree is that of a value but for a number past the signed 64 bits, or
+    /// `NotAValue` for any other JSON tree, as one with a number that isn't a whole number of 64 bits.
+    /// `OutOfRange` where the JSON tree is that of a value but for a number past the signed 64 bits, or
     /// a colour past 32 bits. `Memory` can be answered in place of each of these.
     pub fn from_json(alloc: A, json: &Json) -> Result<Value<A>, JsonFault>
-        ensures ok { IfOk result (λ v. tree v ≡ view json.now) }
+        ensures ok { IfOk result (λ v. json_tree v ≡ view json.now) }
         ensures range { IfOk result (λ v. fits v ≡ true) }
-        ensures only { IfOk result (λ v. (w : PlainValue) → tree w ≡ view json.now → w ≡ v) }
+        ensures only { IfOk result (λ v. (w : PlainValue) → json_tree w ≡ view json.now → w ≡ v) }
 
-        // The tree of a value whose numbers are in range is refused for want of memory alone.
+        // The JSON tree of a value whose numbers are in range is refused for want of memory alone.
         ensures only_memory { (w : PlainValue) → StandsFor value_form (view json.now) w
             → IfErr result (λ e. e ≡ JsonFault.Memory) }
         ensures fault { IfErr result (IsJsonFault (view json.now)) }
@@ -73,9 +73,9 @@ fn judge<A: Allocator + Copy>(alloc: A, json: &Json) -> Result<Value<A>, JsonFau
     }
 }
 
-/// The value that a tree is read as, and whether each number in it was in range.
+/// The value that a JSON tree is read as, and whether each number in it was in range.
 ///
-/// `NotAValue` for a tree that isn't that of a value, whatever its whole numbers; `OutOfRange` is
+/// `NotAValue` for a JSON tree that isn't that of a value, whatever its whole numbers; `OutOfRange` is
 /// never answered.
 #[cycle(read)]
 pub fn read<A: Allocator + Copy>(alloc: A, json: &Json) -> Result<(Value<A>, bool), JsonFault>
@@ -163,7 +163,7 @@ fn read_items<A: Allocator + Copy>(
 // The JSON of a value.
 #[cycle(write)]
 fn write<A: Allocator>(alloc: Global, value: &Value<A>) -> Result<Json, AllocError>
-    ensures tree { IfOk result (λ j. view j ≡ tree value.now) }
+    ensures json_tree { IfOk result (λ j. view j ≡ json_tree value.now) }
     ensures range { fits value.now ≡ true }
 {
     match value.variant() {
@@ -177,7 +177,7 @@ fn write<A: Allocator>(alloc: Global, value: &Value<A>) -> Result<Json, AllocErr
 
 // The JSON of a colour.
 fn write_colour(alloc: Global, c: u32) -> Result<Json, AllocError>
-    ensures { IfOk result (λ j. view j ≡ tree (colour c)) }
+    ensures { IfOk result (λ j. view j ≡ json_tree (colour c)) }
 {
     let mut items = Vec::with_capacity(alloc, 2)?;
     items.push(Json::try_from_str(alloc, "rgba")?)?;
@@ -188,7 +188,7 @@ fn write_colour(alloc: Global, c: u32) -> Result<Json, AllocError>
 // The JSON of a list.
 #[cycle(write)]
 fn write_list<A: Allocator>(alloc: Global, members: &[Value<A>]) -> Result<Json, AllocError>
-    ensures { IfOk result (λ j. view j ≡ tree (list (values_of members.now))) }
+    ensures { IfOk result (λ j. view j ≡ json_tree (list (values_of members.now))) }
 {
     let mut items = Vec::with_capacity(alloc, members.len().saturating_add(1))?;
     items.push(Json::try_from_str(alloc, "list")?)?;
@@ -198,11 +198,11 @@ fn write_list<A: Allocator>(alloc: Global, members: &[Value<A>]) -> Result<Json,
     Ok(Json::from(items))
 }
 
-/// The laws of the JSON of values and names: a tree is that of one value at most, and a text spells
+/// The laws of the JSON of values and names: a JSON tree is that of one value at most, and a text spells
 /// one at most; values have a form, and names are the texts of theirs. It does nothing when it
 /// runs: call it where a proof needs the laws.
 pub fn every_spelling()
-    ensures tree { TreesAreOfOne }
+    ensures json_tree { JsonIsOfOne }
     ensures text { TextsSpellOne }
     ensures form { IsCodec value_form }
     ensures name { NamesPassTest }

@@ -1,16 +1,16 @@
-// Why a tree is no value.
+// Why a JSON tree is no value.
 use std::alloc::{AllocError, AllocFailed};
 use thiserror::Error;
 
-/// Why [`from_json`](crate::Value::from_json) gives no value: the first reason that holds, in this
-/// order. But memory can be refused before the tree is read whole.
+/// Why [`from_json`](crate::Value::from_json) gives no value: the first case that holds, in this
+/// order. But memory can be refused before the JSON tree is read whole.
 #[derive(Clone, Copy, Debug, PartialEq, Eq, Error)]
 pub enum JsonFault {
-    /// The tree isn't that of a value, whatever its whole numbers: it has `null`, an object,
+    /// The JSON tree isn't that of a value, whatever its whole numbers: it has `null`, a JSON object,
     /// another array, or a number that isn't a whole number of 64 bits.
-    #[error("the tree isn't that of a value")]
+    #[error("the JSON isn't that of a value")]
     NotAValue,
-    /// The tree is that of a value but for a number past the signed 64 bits, or a colour that isn't
+    /// The JSON tree is that of a value but for a number past the signed 64 bits, or a colour that isn't
     /// one of 0 to 4294967295.
     #[error("a number is out of range")]
     OutOfRange,

@@ -1,6 +1,6 @@
 //! Values of properties, names of properties, and their JSON.
 //!
-//! Contracts see a value as the plain tree of `canvas_model`, which knows no allocator, and a name
+//! Contracts see a value as the plain one of `canvas_model`, which knows no allocator, and a name
 //! as its bytes. So they can say that two values under different allocators are the same.
 #![tactic(auto)]
 
@@ -26,9 +26,9 @@ use thiserror::Error;
 /// The deepest nesting of lists that [`Value::check`] lets pass.
 pub const MAX_DEPTH: u32 = 16;
 
-/// The value of a property: a finite tree, whose texts and lists stand under one allocator.
+/// The value of a property, nested to a finite depth. Its texts and lists stand under one allocator.
 ///
-/// A contract sees it as the plain tree, without the allocator. Its numbers are in range, at any
+/// A contract sees it as the plain value, without the allocator. Its numbers are in range, at any
 /// depth: they are what their variants hold.
 #[cycle(value)]
 #[derive(Debug, Drop)]

@@ -21,7 +21,7 @@ use thiserror::Error;
 /// The most bytes that a name has.
 pub const MAX_NAME_LEN: usize = 32;
 
-/// Why [`Name::read`] gives no name: the first reason that holds, in this order.
+/// Why [`Name::read`] gives no name: the first case that holds, in this order.
 #[derive(Clone, Copy, Debug, PartialEq, Eq, Error)]
 pub enum NameError {
     /// There are no bytes.

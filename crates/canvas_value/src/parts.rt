@@ -1,7 +1,7 @@
 //! The parts of JSON that every message is read from.
 //!
 //! A reader answers what it read, and whether each whole number in it was in range, where 0 stands
-//! for one that wasn't. So a tree is read once, and a caller still can tell a tree of another shape
+//! for one that wasn't. So a JSON tree is read once, and a caller still can tell a JSON tree of another shape
 //! from one with a number out of range.
 ghost use Rattle.std.specs.Prelude.{◌≡◌, option_map};
 ghost use Rattle.serde_json.specs.View.{view, items_view};
@@ -14,7 +14,7 @@ ghost use Rattle.canvas_value.specs.Laws.{WordedAreForms, OneWordIsForm, Choices
 
 use serde_json::Value as Json;
 
-/// A whole number of 64 bits, and whether it is one from `low` to `high`; none for any other tree.
+/// A whole number of 64 bits, and whether it is one from `low` to `high`; none for any other JSON tree.
 pub fn whole(json: &Json, low: u64, high: u64) -> Option<(u64, bool)>
     ensures { result ≡ whole_in low high (view json.now) }
 {
@@ -54,7 +54,7 @@ pub fn ended(items: &[Json]) -> Option<((), bool)>
     }
 }
 
-/// What is read of a tree says exactly what the tree is, for every form. It does nothing when it
+/// What is read of a JSON tree says exactly what the JSON tree is, for every form. It does nothing when it
 /// runs: call it where a proof needs the laws.
 pub fn every_form<X>()
     ensures read { EachReadStands X }

@@ -90,18 +90,18 @@ fn numbers_read(rt: HostRuntime) -> Result<(), Fail> {
     Ok(())
 }
 
-// Whether the tree of the sample is what its text is as JSON, and is read as the sample.
-fn tree_of_sample(alloc: Global, text: &str) -> Result<bool, Fail> {
+// Whether the JSON tree of the sample is what its text is as JSON, and is read as the sample.
+fn json_of_sample(alloc: Global, text: &str) -> Result<bool, Fail> {
     let value = sample(alloc)?;
-    let tree = value.to_json(alloc)?;
-    let back = Value::from_json(alloc, &tree)?;
-    Ok(tree == Json::from_str(alloc, text)? && back.same(&value))
+    let json = value.to_json(alloc)?;
+    let back = Value::from_json(alloc, &json)?;
+    Ok(json == Json::from_str(alloc, text)? && back.same(&value))
 }
 
 #[test]
 fn trees(rt: HostRuntime) -> Result<(), Fail> {
     let text = "[\"list\",-3,[\"rgba\",255],[\"list\",true,\"n\\u00e9e\"]]";
-    assert!(rt; tree_of_sample(rt.alloc(), text)?);
+    assert!(rt; json_of_sample(rt.alloc(), text)?);
     Ok(())
 }
 

@@ -1,7 +1,7 @@
 -- Checkpoints have a form in each version.
 use Rattle.std.proofs.Common.{codes, refl}
 use Rattle.canvas_value.specs.Shape.{shape}
-use Rattle.canvas_value.specs.Codec.{IsCodec, IsRow, IsWorded}
+use Rattle.canvas_value.specs.Codec.{IsCodec, AreMembers, IsWorded}
 use Rattle.canvas_value.specs.Parts.{after}
 use Rattle.canvas_value.proofs.Forms.{via_is, end_is, member_is, each_is, array_is, headed_is, after_is}
 use Rattle.canvas_forms.specs.Version.{Version}
@@ -16,7 +16,7 @@ counts_is = via_is shape _ _ _ (array_is _ (member_is _ _ version_is (member_is 
 clients_is : IsCodec clients_form
 clients_is = array_is _ (each_is counts_form counts_is)
 
-saved_is : (v : Version) → IsRow (saved v)
+saved_is : (v : Version) → AreMembers (saved v)
 saved_is v = member_is _ _ (number_is v) (member_is _ _ version_is (member_is _ _ clients_is (member_is _ _ rows_is end_is)))
 
 words_are : (v : Version) → IsWorded (after (codes "checkpoint") (saved v))

@@ -15,12 +15,12 @@ use Rattle.canvas_value.specs.declared.json_fault.JsonFault.{JsonFault}
 use Rattle.canvas_value.specs.declared.json_fault.JsonFault.TheVariants as value
 use Rattle.canvas_value.proofs.Forms.{both_hold, stands_for, out_of_range, no_shape}
 use Rattle.canvas_forms.specs.Version.{version_one}
-use Rattle.canvas_forms.specs.Tree.{worded}
+use Rattle.canvas_forms.specs.JsonTree.{worded}
 use Rattle.canvas_forms.specs.Rows.{rows_form}
 use Rattle.canvas_forms.specs.RowOrder.{are_in_order, rows_in}
 use Rattle.canvas_forms.proofs.Members.{no_word, word_first}
 use Rattle.canvas_forms.proofs.Orders.{ordered_document}
-use Rattle.canvas_wire.specs.Messages.{MessageParts, message_words, copied, parts_form, message_of, parts_of, message_in, message_after, copy_in_order, is_orderly, IsMessageShape, IsMessageTree}
+use Rattle.canvas_wire.specs.Messages.{MessageParts, message_words, copied, parts_form, message_of, parts_of, message_in, message_after, copy_in_order, is_orderly, IsMessageShape, IsMessageJson}
 use Rattle.canvas_wire.specs.Drafts.{IsMade}
 use Rattle.canvas_wire.specs.Faults.{refusal, Means, IsOut, IsUnfinished}
 use Rattle.canvas_wire.specs.Text.{IsShallowMessage, IsMessageFault}
@@ -44,18 +44,18 @@ message_back (Copies version done doc) = ap (Copies version done) (map.same_entr
 message_back Idle = refl
 message_back (No reason) = refl
 
-pub one_message : (d : Data) (m n : Message) → IsMessageTree version_one d m → IsMessageTree version_one d n → m ≡ n
+pub one_message : (d : Data) (m n : Message) → IsMessageJson version_one d m → IsMessageJson version_one d n → m ≡ n
 one_message d m n (o, s) (p, t) = sym (message_back m) ∙ ap message_of (stands_one (parts_form version_one) is_form (λ _. Unit {0}) d (parts_of m) (parts_of n) s t) ∙ message_back n
 
-pub message_shaped : (d : Data) (m : Message) → IsMessageTree version_one d m → IsMessageShape version_one d
+pub message_shaped : (d : Data) (m : Message) → IsMessageJson version_one d m → IsMessageShape version_one d
 message_shaped d m (o, s) = (o, (parts_of m, s.0, ap shape s.2))
 
--- ---- what was read of an orderly tree
+-- ---- what was read of an orderly JSON tree
 
 was_orderly : (d : Data) (r : MessageParts × Bool) → message_in version_one d ≡ Some r → (is_orderly d ≡ true) × ((parts_form version_one).read d ≡ Some r)
 was_orderly d r e = tested_case (is_orderly d) ((parts_form version_one).read d) r e
 
--- what a fault of the shape says of the tree
+-- what a fault of the shape says of the JSON tree
 pub message_fault : (d : Data) (f : JsonFault) → RefusesShape (message_in version_one d) f → IsMessageFault d (refusal f)
 message_fault d value.NotAValue e = λ s. no_shape (parts_form version_one) is_form d (unread_case (is_orderly d) ((parts_form version_one).read d) e s.0) s.1
 message_fault d value.OutOfRange e = absurd e
@@ -125,16 +125,16 @@ module _ (d : Data) (p : MessageParts) (b : Bool) (e : message_in version_one d 
       let w = in_range_was t in
       made_written p (ap is_orderly w.1.2 ∙ w.0) w.1.1
 
-  tree_was : b ≡ true → IsMessageTree version_one d (message_of p)
-  tree_was t =
+  json_was : b ≡ true → IsMessageJson version_one d (message_of p)
+  json_was t =
       let w = in_range_was t in
       (w.0, subst (StandsFor (parts_form version_one) d) (sym (parts_back p (made t))) w.1)
 
-  pub message_means : b ≡ true → IsShallowMessage (message_of p) → Means (IsMessageTree version_one) IsShallowMessage d (message_of p)
-  message_means t s = (tree_was t, s)
+  pub message_means : b ≡ true → IsShallowMessage (message_of p) → Means (IsMessageJson version_one) IsShallowMessage d (message_of p)
+  message_means t s = (json_was t, s)
 
   pub message_deep : b ≡ true → (IsShallowMessage (message_of p) → ⊥) → IsMessageFault d TooDeep
-  message_deep t s = (message_of p, tree_was t, s)
+  message_deep t s = (message_of p, json_was t, s)
 
   pub message_unfinished : b ≡ true → (f : WireError) → IsUnfinished (IsShallowMessage (message_of p)) f → IsMessageFault d f
   message_unfinished t TooDeep deep = message_deep t deep
@@ -143,7 +143,7 @@ module _ (d : Data) (p : MessageParts) (b : Bool) (e : message_in version_one d 
   message_unfinished t NotAMessage h = absurd h
   message_unfinished t OutOfRange h = absurd h
 
-  pub message_out : b ≡ false → IsOut (IsMessageShape version_one) (IsMessageTree version_one) d
+  pub message_out : b ≡ false → IsOut (IsMessageShape version_one) (IsMessageJson version_one) d
   message_out t =
       let w = was_orderly d (p, b) e in
       let out = out_of_range (parts_form version_one) is_form d p (w.1 ∙ ap (λ (f : Bool). Some (p, f)) t) in

@@ -4,7 +4,7 @@ use Rattle.canvas_model.specs.declared.ObjId.{ObjId}
 use Rattle.canvas_model.specs.Document.{Object}
 use Rattle.canvas_model.specs.Change.{Change}
 use Rattle.canvas_model.specs.Log.{Entry}
-use Rattle.canvas_value.specs.Codec.{Row, Worded, IsCodec, IsRow, IsWorded}
+use Rattle.canvas_value.specs.Codec.{Members, Worded, IsCodec, AreMembers, IsWorded}
 use Rattle.canvas_value.specs.Parts.{is_within, whole, choice, after, end}
 use Rattle.canvas_value.proofs.Forms.{whole_is, end_is, member_is, array_is, headed_is, after_is, choice_is}
 use Rattle.canvas_forms.specs.Version.{Version}
@@ -16,10 +16,10 @@ use Rattle.canvas_wire.specs.Messages.{number_form, sent, asked, told, copied, m
 use Rattle.canvas_wire.proofs.EntryForms.{entry_is}
 
 -- words that are told apart from another word
-apart_after : {X : Type 0} (u v : List ℕ) (r : Row X) → bytes_eq u v ≡ false → (x : X) → bytes_eq ((after u r).write x).0 v ≡ false
+apart_after : {X : Type 0} (u v : List ℕ) (r : Members X) → bytes_eq u v ≡ false → (x : X) → bytes_eq ((after u r).write x).0 v ≡ false
 apart_after u v r e x = e
 
-apart_choice : {X Y : Type 0} (u v : List ℕ) (r : Row X) (w : Worded Y) → bytes_eq u v ≡ false → ((y : Y) → bytes_eq (w.write y).0 v ≡ false) → (z : X ⊎ Y) → bytes_eq ((choice u r w).write z).0 v ≡ false
+apart_choice : {X Y : Type 0} (u v : List ℕ) (r : Members X) (w : Worded Y) → bytes_eq u v ≡ false → ((y : Y) → bytes_eq (w.write y).0 v ≡ false) → (z : X ⊎ Y) → bytes_eq ((choice u r w).write z).0 v ≡ false
 apart_choice u v r w e k (inl x) = e
 apart_choice u v r w e k (inr y) = k y
 
@@ -55,7 +55,7 @@ module _ (v : Version) (h : v.last_reason ≤ 7) where
       → (y : (ℕ × (ℕ × (List (ObjId × Object) × Unit {0}))) ⊎ (Unit {0} ⊎ (ℕ × Unit {0}))) → bytes_eq (copy_words.write y).0 word ≡ false
   after_copy word d e f = apart_choice (codes "copy") word copied idle_words d (after_idle word e f)
 
-  told_is : IsRow (told v)
+  told_is : AreMembers (told v)
   told_is = member_is _ _ version_is (member_is _ _ (entry_is v h) end_is)
 
   abbrev entry_words : Worded ((ℕ × (Entry × Unit {0})) ⊎ ((ℕ × (ℕ × (List (ObjId × Object) × Unit {0}))) ⊎ (Unit {0} ⊎ (ℕ × Unit {0}))))

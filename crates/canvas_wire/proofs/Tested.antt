@@ -1,4 +1,4 @@
--- What is read only where a tree meets a test.
+-- What is read only where a JSON tree meets a test.
 use Rattle.std.proofs.Common.{◌≡◌, Bool, true, false, true≢false, cond, Option, Some, None, refl, sym}
 
 pub neither : {X : Type 0} (b : Bool) → ◌≡◌ {A = Option X} (cond b None None) None

@@ -8,41 +8,41 @@ use Rattle.canvas_value.specs.declared.json_fault.JsonFault.TheVariants as value
 use Rattle.canvas_wire.specs.declared.fault.WireError.{WireError}
 use Rattle.canvas_wire.specs.declared.fault.WireError.TheVariants.{NotJson, NotAMessage, OutOfRange, TooDeep, Memory}
 
--- the bytes are JSON of this tree
+-- the bytes are JSON of this JSON tree
 abbrev pub IsJson : List ℕ → Data → Type 0
 IsJson bytes d = IsUtf8 bytes × (read_text bytes ≡ Some d)
 
-module _ {X : Type 0} (IsTreeOf : Data → X → Type 0) (IsShallow : X → Type 0) where
-  -- the tree is that of this thing, whose values aren't too deep
+module _ {X : Type 0} (IsJsonOf : Data → X → Type 0) (IsShallow : X → Type 0) where
+  -- the JSON tree is that of this thing, whose values aren't too deep
   abbrev pub Means : Data → X → Type 0
-  Means d x = IsTreeOf d x × IsShallow x
+  Means d x = IsJsonOf d x × IsShallow x
 
   -- the bytes are a text of it
   abbrev pub IsTextOf : List ℕ → X → Type 0
   IsTextOf bytes x = (d : Data) × IsJson bytes d × Means d x
 
--- which trees have the shape of a thing, but for their whole numbers, and which is that of which thing, its whole numbers in range
-module _ {X : Type 0} (IsShaped : Data → Type 0) (IsTreeOf : Data → X → Type 0) where
-  -- the tree has the shape, and some whole number is out of range
+-- which JSON trees have the shape of a thing, but for their whole numbers, and which is that of which thing, its whole numbers in range
+module _ {X : Type 0} (IsShaped : Data → Type 0) (IsJsonOf : Data → X → Type 0) where
+  -- the JSON tree has the shape, and some whole number is out of range
   abbrev pub IsOut : Data → Type 0
-  IsOut d = IsShaped d × ((x : X) → IsTreeOf d x → ⊥)
+  IsOut d = IsShaped d × ((x : X) → IsJsonOf d x → ⊥)
 
-module _ {X : Type 0} (IsShaped : Data → Type 0) (IsTreeOf : Data → X → Type 0) (IsShallow : X → Type 0) where
-  -- why a tree is refused: it has no such shape; it has one, and some whole number is out of range; all but the depth of a value fits; want of
+module _ {X : Type 0} (IsShaped : Data → Type 0) (IsJsonOf : Data → X → Type 0) (IsShallow : X → Type 0) where
+  -- why a JSON tree is refused: it has no such shape; it has one, and some whole number is out of range; all but the depth of a value fits; want of
   -- memory can be met at any
-  abbrev pub IsTreeFault : Data → WireError → Type 0
-  IsTreeFault d NotJson = ⊥
-  IsTreeFault d NotAMessage = IsShaped d → ⊥
-  IsTreeFault d OutOfRange = IsOut IsShaped IsTreeOf d
-  IsTreeFault d TooDeep = (x : X) × IsTreeOf d x × (IsShallow x → ⊥)
-  IsTreeFault d Memory = Unit {0}
+  abbrev pub IsJsonFault : Data → WireError → Type 0
+  IsJsonFault d NotJson = ⊥
+  IsJsonFault d NotAMessage = IsShaped d → ⊥
+  IsJsonFault d OutOfRange = IsOut IsShaped IsJsonOf d
+  IsJsonFault d TooDeep = (x : X) × IsJsonOf d x × (IsShallow x → ⊥)
+  IsJsonFault d Memory = Unit {0}
 
-  -- why bytes are refused: they aren't JSON, or their tree is refused
+  -- why bytes are refused: they aren't JSON, or their JSON tree is refused
   abbrev pub IsWireError : List ℕ → WireError → Type 0
   IsWireError bytes NotJson = (d : Data) → IsJson bytes d → ⊥
   IsWireError bytes NotAMessage = (d : Data) × IsJson bytes d × (IsShaped d → ⊥)
-  IsWireError bytes OutOfRange = (d : Data) × IsJson bytes d × IsOut IsShaped IsTreeOf d
-  IsWireError bytes TooDeep = (d : Data) × (x : X) × IsJson bytes d × IsTreeOf d x × (IsShallow x → ⊥)
+  IsWireError bytes OutOfRange = (d : Data) × IsJson bytes d × IsOut IsShaped IsJsonOf d
+  IsWireError bytes TooDeep = (d : Data) × (x : X) × IsJson bytes d × IsJsonOf d x × (IsShallow x → ⊥)
   IsWireError bytes Memory = Unit {0}
 
 -- what a fault of the shape is answered as

@@ -9,7 +9,7 @@ use Rattle.canvas_model.specs.Document.{Object}
 use Rattle.canvas_model.specs.Change.{Change}
 use Rattle.canvas_model.specs.Log.{Entry}
 use Rattle.canvas_model.specs.Receive.{Message, Joins, Welcome, Sends, Asks, Tells, Copies, Idle, No}
-use Rattle.canvas_value.specs.Codec.{Codec, Row, Worded, HasShape, StandsFor}
+use Rattle.canvas_value.specs.Codec.{Codec, Members, Worded, HasShape, StandsFor}
 use Rattle.canvas_value.specs.Parts.{whole, array_of, headed, choice, after, member, end}
 use Rattle.canvas_forms.specs.Version.{Version}
 use Rattle.canvas_forms.specs.Numbered.{numbered}
@@ -25,19 +25,19 @@ abbrev pub number_form : Version → Codec (Unit {0})
 number_form v = numbered v.number v.number (λ _. tt) (λ _. v.number)
 
 -- `client,seq,change`
-abbrev pub sent : Row (ℕ × (ℕ × (Change × Unit {0})))
+abbrev pub sent : Members (ℕ × (ℕ × (Change × Unit {0})))
 sent = member client_form (member version_form (member change_form end))
 
 -- `client,version`
-abbrev pub asked : Row (ℕ × (ℕ × Unit {0}))
+abbrev pub asked : Members (ℕ × (ℕ × Unit {0}))
 asked = member client_form (member version_form end)
 
 -- `version,entry`
-abbrev pub told : Version → Row (ℕ × (Entry × Unit {0}))
+abbrev pub told : Version → Members (ℕ × (Entry × Unit {0}))
 told v = member version_form (member (entry_form v) end)
 
 -- `version,done,rows`
-abbrev pub copied : Row (ℕ × (ℕ × (List (ObjId × Object) × Unit {0})))
+abbrev pub copied : Members (ℕ × (ℕ × (List (ObjId × Object) × Unit {0})))
 copied = member version_form (member version_form (member rows_form end))
 
 -- what stands in a message, the rows of a copy in any order
@@ -95,7 +95,7 @@ are_orderly (item (string s) ds) = if bytes_eq s (codes "copy") then copy_in_ord
 are_orderly (item (array es) ds) = true
 are_orderly (item (object ms) ds) = true
 
--- if the tree is a copy, its rows stand in order
+-- if the JSON tree is a copy, its rows stand in order
 abbrev pub is_orderly : Data → Bool
 is_orderly null = true
 is_orderly (boolean b) = true
@@ -104,19 +104,19 @@ is_orderly (string s) = true
 is_orderly (array ds) = are_orderly ds
 is_orderly (object ms) = true
 
--- the tree of a message
-abbrev pub message_tree : Version → Message → Data
-message_tree v m = (parts_form v).write (parts_of m)
+-- the JSON tree of a message
+abbrev pub message_json : Version → Message → Data
+message_json v m = (parts_form v).write (parts_of m)
 
--- the tree is that of a message, but for its whole numbers: these only tell in which order rows stand
+-- the JSON tree is that of a message, but for its whole numbers: these only tell in which order rows stand
 abbrev pub IsMessageShape : Version → Data → Type 0
 IsMessageShape v d = (is_orderly d ≡ true) × HasShape (parts_form v) d
 
--- the tree is that of this message, whose whole numbers are in range
-abbrev pub IsMessageTree : Version → Data → Message → Type 0
-IsMessageTree v d m = (is_orderly d ≡ true) × StandsFor (parts_form v) d (parts_of m)
+-- the JSON tree is that of this message, whose whole numbers are in range
+abbrev pub IsMessageJson : Version → Data → Message → Type 0
+IsMessageJson v d m = (is_orderly d ≡ true) × StandsFor (parts_form v) d (parts_of m)
 
--- the parts that an orderly tree is read as
+-- the parts that an orderly JSON tree is read as
 abbrev pub message_in : Version → Data → Option (MessageParts × Bool)
 message_in v d = if is_orderly d then (parts_form v).read d else None
 

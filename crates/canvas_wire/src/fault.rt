@@ -1,4 +1,4 @@
-// What tree bytes are the text of, and why they are refused.
+// What JSON tree bytes are the text of, and why they are refused.
 ghost use Rattle.std.specs.Prelude.{◌≡◌, IfOk, IfErr};
 ghost use Rattle.serde_json.specs.View.{view};
 ghost use Rattle.canvas_wire.specs.Faults.{IsJson, IsNotJson, refusal};
@@ -16,7 +16,7 @@ pub enum WireError {
     /// The bytes aren't JSON: not UTF-8, cut short, or nested more than 127 deep.
     #[error("the bytes aren't JSON")]
     NotJson,
-    /// The tree has the shape of no message, or of no entry, whatever its whole numbers.
+    /// The JSON tree has the shape of no message, or of no entry, whatever its whole numbers.
     #[error("the JSON isn't that of a message")]
     NotAMessage,
     /// The shape fits, and some whole number is out of its range.
@@ -60,7 +60,7 @@ impl<T: Drop> From<AllocFailed<T>> for WireError {
     }
 }
 
-// The tree of which the bytes are JSON.
+// The JSON tree of which the bytes are JSON.
 pub(crate) fn parse(heap: Global, bytes: &[u8]) -> Result<Json, WireError>
     ensures ok { IfOk result (λ j. IsJson bytes.now (view j)) }
     ensures fault { IfErr result (IsNotJson bytes.now) }

@@ -8,9 +8,9 @@ ghost use Rattle.canvas_judge.specs.Seen.{seen_message, seen_what};
 ghost use Rattle.canvas_forms.specs.Version.{version_one};
 ghost use Rattle.canvas_wire.specs.Entries.{what_form, entry_form};
 ghost use Rattle.canvas_wire.specs.Checkpoints as checkpoint;
-ghost use Rattle.canvas_wire.specs.Checkpoints.{checkpoint_form, checkpoint_tree, has_rows};
+ghost use Rattle.canvas_wire.specs.Checkpoints.{checkpoint_form, checkpoint_json, has_rows};
 ghost use Rattle.canvas_wire.specs.Text.{IsShallowEntry, IsEntryInRange, IsCheckpointInRange};
-ghost use Rattle.canvas_wire.specs.Messages.{parts_form, parts_of, message_tree, is_orderly};
+ghost use Rattle.canvas_wire.specs.Messages.{parts_form, parts_of, message_json, is_orderly};
 
 use canvas_forms::sound::{know_client, sound_change, sound_doc, sound_outcome};
 use canvas_judge::{Entry, Message, State, What};
@@ -19,7 +19,7 @@ use std::alloc::Allocator;
 // Of a message.
 pub(crate) fn sound_message<A: Allocator>(message: &Message<A>)
     ensures sound { (parts_form version_one).sound (parts_of (seen_message message.now)) ≡ true }
-    ensures orderly { is_orderly (message_tree version_one (seen_message message.now)) ≡ true }
+    ensures orderly { is_orderly (message_json version_one (seen_message message.now)) ≡ true }
 {
     match message {
         Message::Edit { change, .. } => sound_change(change),
@@ -32,7 +32,7 @@ pub(crate) fn sound_message<A: Allocator>(message: &Message<A>)
 // Of a checkpoint.
 pub(crate) fn sound_checkpoint<A: Allocator>(state: &State<A>, version: u64)
     ensures sound { (checkpoint_form version_one).sound (checkpoint.parts_of (state.now, version)) ≡ true }
-    ensures orderly { has_rows (checkpoint_tree version_one (state.now, version)) ≡ true }
+    ensures orderly { has_rows (checkpoint_json version_one (state.now, version)) ≡ true }
     ensures is_sound { IsSound state.now }
     ensures in_range { version ≤ last_version → ((client : ℕ) → done state.now client ≤ last_version) → IsCheckpointInRange (state.now, version) }
 {

@@ -129,5 +129,5 @@ pub run_adds : AfterEachStep IsGood → (old : World) (events : List Event) (new
 run_adds keeps old [] new nothing good = (itself old).1
 run_adds keeps old (event ∷ events) new (and_then {u = mid} answer step rest) good =
     sums (length old.nodes) (length mid.nodes) (length new.nodes) (adds event) (added events)
-    (step_grows old event answer mid good.counts.kept step).1
+    (step_grows old event answer mid good.bounds.kept step).1
     (run_adds keeps mid events new rest (keeps old event answer mid good step))

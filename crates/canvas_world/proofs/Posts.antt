@@ -180,7 +180,7 @@ pub tells_late_at : (w old : World) (s : Served) (v k : ℕ) (ns : List Node) (n
     → IsPost old (Tell v k) None
 tells_late_at w old s v k ns n xs good here serves is same some tail empty =
     subst (λ (u : World). IsPost u (Tell v k) None) here
-    (tells_late w v k n xs good.counts (found w.nodes ns k n n is same refl) (omega arith) (tail ∙ ap (λ (s : Served). tail_of s (v - 1) 1) serves) (none_left xs empty))
+    (tells_late w v k n xs good.bounds (found w.nodes ns k n n is same refl) (omega arith) (tail ∙ ap (λ (s : Served). tail_of s (v - 1) 1) serves) (none_left xs empty))
 
 pub tells_passed_at : (w old : World) (s : Served) (v k : ℕ) (ns : List Node) (n : Node) → w ≡ old → s ≡ served_in w → Some n ≡ nth ns k → ns ≡ w.nodes → (v ≡ 0 → ⊥) → None ≡ tail_of s (v - 1) 1
     → IsPost old (Tell v k) None

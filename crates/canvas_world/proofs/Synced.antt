@@ -12,7 +12,7 @@ use Rattle.canvas_world.proofs.Growth.{step_grows}
 
 -- after one event
 pub step_keeps : EachStepKeepsSynced → (old : World) (event : Event) (answer : Answer) (new : World) → IsGood old → Step old event answer new → KeepsSynced old new
-step_keeps same old event answer new good step = (same old event answer new good step, (step_grows old event answer new good.counts.kept step).0)
+step_keeps same old event answer new good step = (same old event answer new good step, (step_grows old event answer new good.bounds.kept step).0)
 
 -- after one event, or none where memory was refused
 pub played_keeps : {E : Type 0} → EachStepKeepsSynced → (r : Result coded.Answer E) (old new : World) (event : Event) → IsGood old → IfOk r (λ a. Step old event (seen_answer a) new) → OnErr r (new ≡ old) → KeepsSynced old new

@@ -1,4 +1,4 @@
-//! Spots without room.
+//! Targets without room.
 //!
 //! A new first child stands half way between 0 and the former one, so each digit serves six times (47, 23, 11, 5, 2 and 1 of its 95
 //! values), and the 128 digits of a position serve 768 times.
@@ -47,9 +47,9 @@ const AT_A_NODE: [Story; 1] = [Story {
     ],
 }];
 
-// The last spot is taken by node 1, and node 2 asks for it too. The neighbour before is `Cycle`.
+// The last target is taken by node 1, and node 2 asks for it too. The neighbour before is `Cycle`.
 const AT_THE_SERVER: [Story; 1] = [Story {
-    name: "the last spot for a first child",
+    name: "the last target for a first child",
     opening: Opening::Drawn,
     lines: &[
         Fill(1, RIGHT, 767),

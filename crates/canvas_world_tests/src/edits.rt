@@ -1,6 +1,6 @@
 //! Edits that a node refuses: each refusal by itself, and the earlier of two neighbours in the order in which they are looked for.
 //!
-//! `NotOpen`, `IsRoot`, `NotShown`, `ParentNotShown`, `BadParent`, `OwnDescendant`, `Crowded`: that is the order. A spot without room is
+//! `NotOpen`, `IsRoot`, `NotShown`, `ParentNotShown`, `BadParent`, `OwnDescendant`, `Crowded`: that is the order. A target without room is
 //! in `crowds`. `IdsSpent` and `Full` come after billions of edits, so they are in the contracts alone.
 use crate::looks::Line::{Do, See};
 use crate::looks::{Look, Story, first_wrong};

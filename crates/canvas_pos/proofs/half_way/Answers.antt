@@ -3,14 +3,14 @@ use Rattle.std.specs.Option.{option_copied}
 use Rattle.std.proofs.lemmas.List.Elements.{All-push}
 use Rattle.canvas_model.specs.Position.{IsDigitByte}
 use Rattle.canvas_pos.proofs.Numbers.{num-zero, num-push}
-use Rattle.canvas_pos.proofs.Gaps.{floor-zero}
+use Rattle.canvas_pos.proofs.Gaps.{greatest_before-zero}
 use Rattle.canvas_pos.proofs.half_way.Goals as goal
 
 pub loop-i-init : goal.loop-i-init
 loop-i-init g c = record {
   len = search rules;
   digits = rw c.in_ok-bytes.ensures.items (λ k d h. absurd (omega arith));
-  value = num-zero c.in_ok-bytes.bytes.items ∙ sym (floor-zero (option_copied c.args.lo));
+  value = num-zero c.in_ok-bytes.bytes.items ∙ sym (greatest_before-zero (option_copied c.args.lo));
 }
 
 pub loop-i-preserved : goal.loop-i-preserved

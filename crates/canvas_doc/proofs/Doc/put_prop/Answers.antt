@@ -7,7 +7,7 @@ use Rattle.canvas_model.specs.Ids.{id_cmp}
 use Rattle.canvas_model.specs.Document.{IsDocument, Place, place_of, with_place, with_prop}
 use Rattle.canvas_doc.specs.Known.{HasObjects}
 use Rattle.canvas_doc.specs.Spots.{AreSpots}
-use Rattle.canvas_model.proofs.Rows.{kind_kept, place_kept}
+use Rattle.canvas_model.proofs.Fields.{kind_kept, place_kept}
 use Rattle.canvas_doc.proofs.Revised.{changed_sorted, changed_is, changed_known, inserted, there, set_document, written_back, not_changed}
 use Rattle.canvas_doc.proofs.Placing.{places_kept, twice}
 use Rattle.canvas_doc.proofs.Spotted.{spots_same}

@@ -2,4 +2,4 @@ use Rattle.std.proofs.Common.{◌≢◌, ℕ, ◌<◌, get_or}
 use Rattle.canvas_model.proofs.words.cut.Given as goal
 
 abbrev pub invariant-loop-at : goal.invariant-loop-at
-invariant-loop-at l = (k : ℕ) → k < l.at → get_or l.bytes k 0 ≢ l.mark
+invariant-loop-at l = (k : ℕ) → k < l.at → get_or l.bytes k 0 ≢ l.separator

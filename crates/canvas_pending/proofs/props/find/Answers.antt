@@ -8,7 +8,7 @@ use Rattle.canvas_model.specs.declared.ObjId.{ObjId}
 use Rattle.canvas_model.specs.Document.{Name}
 use Rattle.canvas_pending.specs.Tallied.{prop_cmp}
 use Rattle.canvas_pending.proofs.Edges.{found_here, gap_at_end, gap_before, pair_here}
-use Rattle.canvas_pending.proofs.Rows.{props_total}
+use Rattle.canvas_pending.proofs.PropTallies.{props_total}
 use Rattle.canvas_pending.proofs.Tests.{told_apart, told_equal}
 use Rattle.canvas_pending.proofs.props.find.Goals as goal
 
@@ -19,10 +19,10 @@ returns-then-is_eq-clause-found g c =
       before = λ d lt. let called = c.edge-at.ensures.before d lt in search rules;
       after = λ d lt. let called = c.edge-at.ensures.after d lt in search rules;
     } in
-    let here : slice_get c.args.props.now c.edge-at.result ≡ Some c.in-Some.row.now = sym c.get.ensures ∙ ap option_copied c.in-Some.is in
-    let tied : prop_cmp c.in-Some.row.now.0 (c.args.id, c.args.name.now) ≡ Equal = sym c.compare.ensures ∙ told_equal c.compare.result c.if-is_eq.ensures in (
-      pair_here props_total c.args.props.now c.requires (c.args.id, c.args.name.now) c.edge-at.result edge c.in-Some.row.now here tied,
-      found_here props_total c.args.props.now c.requires (c.args.id, c.args.name.now) c.edge-at.result edge c.in-Some.row.now here tied,
+    let here : slice_get c.args.props.now c.edge-at.result ≡ Some c.in-Some.tally.now = sym c.get.ensures ∙ ap option_copied c.in-Some.is in
+    let tied : prop_cmp c.in-Some.tally.now.0 (c.args.id, c.args.name.now) ≡ Equal = sym c.compare.ensures ∙ told_equal c.compare.result c.if-is_eq.ensures in (
+      pair_here props_total c.args.props.now c.requires (c.args.id, c.args.name.now) c.edge-at.result edge c.in-Some.tally.now here tied,
+      found_here props_total c.args.props.now c.requires (c.args.id, c.args.name.now) c.edge-at.result edge c.in-Some.tally.now here tied,
     )
 
 pub returns-else-is_eq-clause-absent : goal.returns-else-is_eq-clause-absent
@@ -32,8 +32,8 @@ returns-else-is_eq-clause-absent g c =
       before = λ d lt. let called = c.edge-at.ensures.before d lt in search rules;
       after = λ d lt. let called = c.edge-at.ensures.after d lt in search rules;
     } in
-    let here : slice_get c.args.props.now c.edge-at.result ≡ Some c.in-Some.row.now = sym c.get.ensures ∙ ap option_copied c.in-Some.is in
-    gap_before props_total c.args.props.now c.requires (c.args.id, c.args.name.now) c.edge-at.result edge c.in-Some.row.now here
+    let here : slice_get c.args.props.now c.edge-at.result ≡ Some c.in-Some.tally.now = sym c.get.ensures ∙ ap option_copied c.in-Some.is in
+    gap_before props_total c.args.props.now c.requires (c.args.id, c.args.name.now) c.edge-at.result edge c.in-Some.tally.now here
     (λ tied. told_apart c.compare.result c.if-is_eq.ensures (c.compare.ensures ∙ tied))
 
 pub returns-in-None-clause-absent : goal.returns-in-None-clause-absent

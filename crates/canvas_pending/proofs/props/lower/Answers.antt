@@ -2,7 +2,7 @@ use Rattle.std.proofs.Common.{◌≡◌, ◌+◌, ◌-◌, ◌∙◌, Some, ap, 
 use Rattle.std.specs.Option.{unwrap_or}
 use Rattle.canvas_doc.specs.Sorted.{IsGapAt}
 use Rattle.canvas_pending.specs.Tallied.{IsCountAt, prop_cmp}
-use Rattle.canvas_pending.proofs.Rows.{less_no_zero, less_sorted, lowered_away, lowered_found, prop_it, put_no_zero, put_sorted, replaced, without}
+use Rattle.canvas_pending.proofs.PropTallies.{less_no_zero, less_sorted, lowered_away, lowered_found, prop_it, put_no_zero, put_sorted, replaced, without}
 use Rattle.canvas_pending.proofs.props.lower.Goals as goal
 
 pub returns-in_default-clause-lowered : goal.returns-in_default-clause-lowered

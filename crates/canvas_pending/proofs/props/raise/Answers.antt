@@ -3,7 +3,7 @@ use Rattle.std.specs.FinMap as map
 use Rattle.std.proofs.lemmas.Result.{on_err_weaker, on_ok_weaker}
 use Rattle.canvas_doc.specs.Sorted.{IsGapAt}
 use Rattle.canvas_pending.specs.Tallied.{HasNoZero, IsCountAt, IsOneMore, is_prop, of_props, prop_cmp}
-use Rattle.canvas_pending.proofs.Rows.{put_no_zero, put_sorted, raised_absent, raised_found, replaced}
+use Rattle.canvas_pending.proofs.PropTallies.{put_no_zero, put_sorted, raised_absent, raised_found, replaced}
 use Rattle.canvas_pending.proofs.Tests.{either_way, risen}
 use Rattle.canvas_pending.proofs.props.raise.Goals as goal
 
@@ -38,10 +38,10 @@ pub returns-in-Err-clause-sorted : goal.returns-in-Err-clause-sorted
 returns-in-Err-clause-sorted g c =
     let gap : IsGapAt prop_cmp c.args.props.now (c.args.id, c.in_ok-name.name) c.in-Err.at = c.in-Err.ensures.absent in
     either_way c.insert.result (on_ok_weaker c.insert.result (λ is. put_sorted c.args.id c.in_ok-name.name c.args.props.now c.insert.new.self c.requires.sorted 1 (is ∙ gap.put_there 1)) c.insert.ensures.ok)
-    (on_err_weaker c.insert.result (λ is. subst (λ rows. T (map.is_sorted prop_cmp rows)) (sym is) c.requires.sorted) c.insert.ensures.err)
+    (on_err_weaker c.insert.result (λ is. subst (λ tallies. T (map.is_sorted prop_cmp tallies)) (sym is) c.requires.sorted) c.insert.ensures.err)
 
 pub returns-in-Err-clause-no_zero : goal.returns-in-Err-clause-no_zero
 returns-in-Err-clause-no_zero g c =
     let gap : IsGapAt prop_cmp c.args.props.now (c.args.id, c.in_ok-name.name) c.in-Err.at = c.in-Err.ensures.absent in
     either_way c.insert.result (on_ok_weaker c.insert.result (λ is. put_no_zero c.args.id c.in_ok-name.name c.args.props.now c.insert.new.self c.requires.sorted 1 (is ∙ gap.put_there 1) (risen 1 0 refl) c.requires.no_zero) c.insert.ensures.ok)
-    (on_err_weaker c.insert.result (λ is. subst (λ rows. HasNoZero (of_props rows)) (sym is) c.requires.no_zero) c.insert.ensures.err)
+    (on_err_weaker c.insert.result (λ is. subst (λ tallies. HasNoZero (of_props tallies)) (sym is) c.requires.no_zero) c.insert.ensures.err)

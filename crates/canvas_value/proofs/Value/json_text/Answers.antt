@@ -7,10 +7,10 @@ use Rattle.canvas_value.proofs.Value.json_text.Goals as goal
 
 pub returns-clause-text : goal.returns-clause-text
 returns-clause-text g c =
-    let same = c.in_ok-to_json.ensures.tree in
+    let same = c.in_ok-to_json.ensures.json_tree in
     IfOk-weaker c.to_string.result _ _ (λ s text. text (ap has_float same ∙ no_float c.args.self.now) ∙ ap compact_text same) c.to_string.ensures.text
 
 pub returns-clause-reads_back : goal.returns-clause-reads_back
 returns-clause-reads_back g c small =
-    let same = c.in_ok-to_json.ensures.tree in
+    let same = c.in_ok-to_json.ensures.json_tree in
     IfOk-weaker c.to_string.result _ _ (λ s back. back (subst (λ d. D.depth d ≤ 127) (sym same) (omega (arith, nests c.args.self.now, small))) ∙ ap Some same) c.to_string.ensures.reads_back

@@ -5,4 +5,4 @@ use Rattle.canvas_value.proofs.NameText.{IsName-from, is_name-from}
 use Rattle.canvas_value.proofs.json.every_spelling.Goals as goal
 
 pub returns : goal.returns
-returns c = record { tree = json_one; text = spells_one; form = value_is; name = λ bytes. (IsName-from bytes, is_name-from bytes) }
+returns c = record { json_tree = json_one; text = spells_one; form = value_is; name = λ bytes. (IsName-from bytes, is_name-from bytes) }

@@ -1,6 +1,6 @@
 use Rattle.std.proofs.Common.{refl}
 use Rattle.canvas_forms.specs.Version.{version_one}
-use Rattle.canvas_wire.specs.Messages.{message_tree, IsMessageShape, IsMessageTree}
+use Rattle.canvas_wire.specs.Messages.{message_json, IsMessageShape, IsMessageJson}
 use Rattle.canvas_wire.specs.Text.{IsShallowMessage}
 use Rattle.canvas_wire.proofs.MessageForms.{parts_are}
 use Rattle.canvas_wire.proofs.Message.{one_message, message_shaped}
@@ -10,6 +10,6 @@ use Rattle.canvas_wire.proofs.laws.every_message.Goals as goal
 pub returns : goal.returns
 returns c = record {
   form = parts_are;
-  back = λ bytes m w fits small. (message_tree version_one m, (w.utf8, w.reads_back small), ((w.orderly, (w.sound, fits, refl)), small));
-  one = spells_same (IsMessageShape version_one) (IsMessageTree version_one) IsShallowMessage one_message message_shaped;
+  back = λ bytes m w fits small. (message_json version_one m, (w.utf8, w.reads_back small), ((w.orderly, (w.sound, fits, refl)), small));
+  one = spells_same (IsMessageShape version_one) (IsMessageJson version_one) IsShallowMessage one_message message_shaped;
 }

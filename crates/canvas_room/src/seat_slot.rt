@@ -1,4 +1,4 @@
-// A seat's place at the mailbox of its room.
+// A seat's slot in the mailbox of its room.
 ghost use Rattle.std.specs.Prelude.{IfErr, IfSome};
 ghost use Rattle.canvas_server.specs.Asked.{seen_request};
 ghost use Rattle.canvas_room.specs.Batches.{IsUnjudged};
@@ -6,7 +6,7 @@ ghost use Rattle.canvas_room.specs.Seats.{IsAnswerTo};
 
 use crate::asking::Told;
 use crate::batch::commit;
-use crate::mailbox::{Letter, Mailbox, Slot};
+use crate::mailbox::{Mailbox, Slot, Ticket};
 use canvas_board::{Front, RoomName};
 use canvas_desk::{Desk, SubmitError};
 use canvas_journal::Keeper;
@@ -23,7 +23,7 @@ pub struct SharedMailbox<N: RoomName> {
 
 /// The slot of a seat in the mailbox of its room.
 #[derive(Drop)]
-pub struct Place<N: RoomName> {
+pub struct SeatSlot<N: RoomName> {
     alloc: Global,
     shared: Arc<SharedMailbox<N>, Global>,
     seat: usize,
@@ -43,10 +43,10 @@ impl<N: RoomName> SharedMailbox<N> {
     }
 }
 
-impl<N: RoomName> Place<N> {
+impl<N: RoomName> SeatSlot<N> {
     /// The slot of this seat.
-    pub fn new(alloc: Global, shared: Arc<SharedMailbox<N>, Global>, seat: usize) -> Place<N> {
-        Place {
+    pub fn new(alloc: Global, shared: Arc<SharedMailbox<N>, Global>, seat: usize) -> SeatSlot<N> {
+        SeatSlot {
             alloc,
             shared,
             seat,
@@ -56,11 +56,11 @@ impl<N: RoomName> Place<N> {
     /// Leaves a copy of a request in the slot, with what the seat has seen; or nothing where memory is refused for that. It may wait for
     /// the mailbox's lock.
     pub fn post<W: Wait>(&self, rt: &W, request: &Request, seen: &Front<N>) {
-        if let Ok(letter) = Letter::new(self.alloc, request, seen) {
+        if let Ok(ticket) = Ticket::new(self.alloc, request, seen) {
             self.shared
                 .mailbox
                 .lock(rt)
-                .put(self.seat, Slot::Waiting(letter));
+                .put(self.seat, Slot::Waiting(ticket));
         }
     }
 
@@ -99,7 +99,7 @@ impl<N: RoomName> Place<N> {
             call.notify_one();
         }
         for (seat, call) in calls.iter().enumerate() {
-            if !mailbox.lock(rt).has_letter(seat) {
+            if !mailbox.lock(rt).has_ticket(seat) {
                 call.notify_one();
             }
         }

@@ -1,4 +1,4 @@
--- Rows of properties, of which one has another count.
+-- Tallies of properties, of which one has another count.
 use Rattle.std.proofs.Common.{◌≡◌, ℕ, ◌+◌, Bool, true, false, cond, List, get_or, Some, None, T, refl, sym, ap, subst, ◌∙◌}
 use Rattle.std.specs.Prelude.{◌&&◌, not, slice_set}
 use Rattle.std.specs.List.{remove}
@@ -17,7 +17,7 @@ use Rattle.canvas_model.specs.Ids.{id_cmp, same_id}
 use Rattle.canvas_model.specs.Document.{Name, name_cmp}
 use Rattle.canvas_model.specs.View.{same_name}
 use Rattle.canvas_model.proofs.Ids.{id_itself, same_id_true}
-use Rattle.canvas_model.proofs.Rows.{name_itself, same_name_true}
+use Rattle.canvas_model.proofs.Fields.{name_itself, same_name_true}
 use Rattle.canvas_doc.specs.Sorted.{IsPairAt, is_other}
 use Rattle.canvas_doc.proofs.Maps.{exact_ids, ids_total}
 use Rattle.canvas_doc.proofs.Props.{exact_names, names_total}
@@ -55,7 +55,7 @@ module _ (id : ObjId) (name : Name) where
       right false b e = absurd (cc)
 
   module _ (es fs : List ((ObjId × Name) × ℕ)) (sorted : T (map.is_sorted prop_cmp es)) where
-    -- the rows with a count for the property
+    -- the tallies with a count for the property
     module _ (n : ℕ) (is : fs ≡ map.put prop_cmp (id, name) n es) where
       pub put_sorted : T (map.is_sorted prop_cmp fs)
       put_sorted = subst (λ es. T (map.is_sorted prop_cmp es)) (sym is) (is_sorted-put prop_cmp props_total (id, name) n es sorted)
@@ -63,7 +63,7 @@ module _ (id : ObjId) (name : Name) where
       pub put_count : (k : ObjId × Name) → of_props fs k ≡ cond (is_prop id name k) (Some n) (of_props es k)
       put_count k = ap (map.find prop_cmp k) is ∙ find-put prop_cmp props_total k (id, name) n es ∙ ap (λ b. cond b (Some n) (of_props es k)) (prop_is k)
 
-    -- the rows without the property
+    -- the tallies without the property
     module _ (is : fs ≡ where_key prop_cmp (is_other prop_cmp (id, name)) es) where
       pub less_sorted : T (map.is_sorted prop_cmp fs)
       less_sorted = subst (λ es. T (map.is_sorted prop_cmp es)) (sym is) (is_sorted-where_key prop_cmp (is_other prop_cmp (id, name)) es sorted)
@@ -78,7 +78,7 @@ module _ (id : ObjId) (name : Name) where
           turned true = refl
           turned false = refl
 
-    -- the row of the property is written anew, or taken out
+    -- the tally of the property is written anew, or taken out
     module _ (i : ℕ) (at : IsPairAt prop_cmp es (id, name) i) where
       pub replaced : (n : ℕ) → fs ≡ slice_set es i ((id, name), n) → fs ≡ map.put prop_cmp (id, name) n es
       replaced n is =
@@ -112,7 +112,7 @@ module _ (id : ObjId) (name : Name) where
         pub lowered_found : count ≡ n + 1 → IsOneMore (is_prop id name) (of_props fs) (of_props es)
         lowered_found = lowered (is_prop id name) (of_props es) (of_props fs) (Some n) (put_count es fs sorted n is) count (was_found es count there)
 
-    -- without the row
+    -- without the tally
     module _ (is : fs ≡ where_key prop_cmp (is_other prop_cmp (id, name)) es) where
       pub less_no_zero : HasNoZero (of_props es) → HasNoZero (of_props fs)
       less_no_zero = no_zero (is_prop id name) (of_props es) (of_props fs) None (less_count es fs sorted is) (λ e. absurd (cc))

@@ -1,4 +1,4 @@
--- What a list of changes makes of one row.
+-- What a list of changes makes of one field.
 use Rattle.std.proofs.Common.{◌≡◌, List, [], ◌∷◌, refl, ap, sym, ◌∙◌, subst}
 use Rattle.std.specs.Prelude.{Bool, true, false, not, cond, ◌&&◌, ◌||◌, Option, Some, None}
 use Rattle.std.specs.Option.{option_map}
@@ -19,7 +19,7 @@ use Rattle.std.proofs.lemmas.Bool.{or_parts}
 use Rattle.canvas_model.proofs.Ids.{equal_of}
 use Rattle.canvas_model.proofs.Overlay.{lay_at, over_at}
 
--- the rows of one object's properties
+-- the fields of one object's properties
 pub prop_of : (o : Object) (name : Name) (value : Option Value) (q : Name) → map.get (with_prop name value o).props q ≡ cond (same_name q name) value (map.get o.props q)
 prop_of o name None q = get-remove nat_list_cmp_total o.props name q
 prop_of o name (Some v) q = get-insert nat_list_cmp_total o.props name v q
@@ -87,13 +87,13 @@ none_stays q (change ∷ changes) h = ap (over_at q changes) (one change (or_par
     one (Move id place) h = ap (cond (same_id id root) None) (both_ways (same_id q id) None) ∙ both_ways (same_id id root) None
     one (Delete id) h = ap (cond (same_id id root) None) (both_ways (same_id q id) None) ∙ both_ways (same_id id root) None
 
--- what f makes of an object's row lasts, unless a change writes that row
+-- what f makes of an object's field lasts, unless a change writes that field
 module _ (q : ObjId) (f : Object → Object) (writes : Change → Bool)
     (step : (change : Change) → creates_it q change ≡ false → (x : Option Object) → lay_at q change (option_map f x) ≡ cond (writes change) (lay_at q change x) (option_map f (lay_at q change x)))
   where
-    pub row_over : (changes : List Change) → list_any (creates_it q) changes ≡ false → (x : Option Object) → over_at q changes (option_map f x) ≡ cond (list_any writes changes) (over_at q changes x) (option_map f (over_at q changes x))
-    row_over [] h x = refl
-    row_over (change ∷ changes) h x = ap (over_at q changes) (step change (or_parts _ _ h).0 x) ∙ go (writes change) (row_over changes (or_parts _ _ h).1 (lay_at q change x))
+    pub field_over : (changes : List Change) → list_any (creates_it q) changes ≡ false → (x : Option Object) → over_at q changes (option_map f x) ≡ cond (list_any writes changes) (over_at q changes x) (option_map f (over_at q changes x))
+    field_over [] h x = refl
+    field_over (change ∷ changes) h x = ap (over_at q changes) (step change (or_parts _ _ h).0 x) ∙ go (writes change) (field_over changes (or_parts _ _ h).1 (lay_at q change x))
       where
         go : (b : Bool) → over_at q changes (option_map f (lay_at q change x)) ≡ cond (list_any writes changes) (over_at q changes (lay_at q change x)) (option_map f (over_at q changes (lay_at q change x)))
             → over_at q changes (cond b (lay_at q change x) (option_map f (lay_at q change x))) ≡ cond (b || list_any writes changes) (over_at q changes (lay_at q change x)) (option_map f (over_at q changes (lay_at q change x)))

@@ -3,8 +3,8 @@ use Rattle.canvas_model.specs.Ids.{root}
 use Rattle.canvas_model.specs.Receive.{staying}
 use Rattle.canvas_client.proofs.Changed.{place_stays}
 use Rattle.canvas_doc.proofs.Laid.{ids_equal}
-use Rattle.canvas_client.proofs.rows.put.Goals as goal
-use Rattle.canvas_client.proofs.rows.put.Goals.{then-eq-via-then-eq, then-eq-via-else-eq+then-some_moves}
+use Rattle.canvas_client.proofs.fields.put.Goals as goal
+use Rattle.canvas_client.proofs.fields.put.Goals.{then-eq-via-then-eq, then-eq-via-else-eq+then-some_moves}
 
 pub returns-then-eq-clause-ok : goal.returns-then-eq-clause-ok
 returns-then-eq-clause-ok g c not_root = elim c.then-eq.branch [

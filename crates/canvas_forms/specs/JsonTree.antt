@@ -1,4 +1,4 @@
--- What stands in a tree, for private clauses.
+-- What stands in a JSON tree, for private clauses.
 use Rattle.std.specs.Prelude.{ℕ, suc, List, Option, Some, None}
 use Rattle.serde_json.specs.Data as D
 use Rattle.serde_json.specs.Data.{Data, null, boolean, string, array, object, Items, no_items, item}

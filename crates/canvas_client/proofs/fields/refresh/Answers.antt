@@ -8,7 +8,7 @@ use Rattle.canvas_doc.specs.Seen.{seen}
 use Rattle.canvas_judge.specs.Seen.{seen_outcome}
 use Rattle.canvas_model.specs.Receive.{staying}
 use Rattle.canvas_client.proofs.Followed.{set_shown, moved_shown, refused_shown, removed_shown, created_other}
-use Rattle.canvas_client.proofs.rows.refresh.Goals as goal
+use Rattle.canvas_client.proofs.fields.refresh.Goals as goal
 
 pub returns-in-Set-WasSet-clause-ok : goal.returns-in-Set-WasSet-clause-ok
 returns-in-Set-WasSet-clause-ok g c = on_ok_weaker c.set.result (λ is spares.

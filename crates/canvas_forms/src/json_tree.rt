@@ -1,9 +1,9 @@
-//! The parts of trees: arrays of a few members, the word at the head, whole numbers of 32 bits.
+//! The parts of JSON trees: arrays of a few members, the word at the head, whole numbers of 32 bits.
 ghost use Rattle.std.specs.Prelude.{◌≡◌, ◌≢◌, IfOk, IfSome, IfNone, option_map};
 ghost use Rattle.serde_json.specs.Data.{array, item, no_items};
 ghost use Rattle.serde_json.specs.View.{view, items_view};
 ghost use Rattle.canvas_value.specs.Parts.{whole_in};
-ghost use Rattle.canvas_forms.specs.Tree.{count, worded, members};
+ghost use Rattle.canvas_forms.specs.JsonTree.{count, worded, members};
 
 use canvas_value::parts::{split_word, whole};
 use serde_json::Value as Json;
@@ -16,7 +16,7 @@ pub fn array<const N: usize>(alloc: Global, items: [Json; N]) -> Result<Json, Al
     Ok(Json::from(Vec::from_array(alloc, items)?))
 }
 
-/// The members of an array; none for any other tree.
+/// The members of an array; none for any other JSON tree.
 pub fn members(json: &Json) -> Option<&[Json]>
     ensures { option_map (λ r. items_view r.now) result ≡ members (view json.now) }
 {
@@ -26,7 +26,7 @@ pub fn members(json: &Json) -> Option<&[Json]>
     }
 }
 
-/// The word that an array begins with, and its other members; none for any other tree.
+/// The word that an array begins with, and its other members; none for any other JSON tree.
 pub fn worded(json: &Json) -> Option<(&str, &[Json])>
     ensures { option_map (λ r. (r.0.now, items_view r.1.now)) result ≡ worded (view json.now) }
 {
@@ -86,7 +86,7 @@ pub fn four(items: &[Json]) -> Option<(&Json, &Json, &Json, &Json)>
     Some((&items[0], &items[1], &items[2], &items[3]))
 }
 
-/// A whole number, and whether it is one of 32 bits, where 0 stands for one that isn't; none for any other tree.
+/// A whole number, and whether it is one of 32 bits, where 0 stands for one that isn't; none for any other JSON tree.
 pub fn whole32(json: &Json) -> Option<(u32, bool)>
     ensures { result ≡ whole_in 0 4294967295 (view json.now) }
 {
