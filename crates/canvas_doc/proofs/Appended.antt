@@ -1,5 +1,6 @@
 -- Rows with one more at the end.
-use Rattle.std.proofs.Common.{◌≡◌, ◌≢◌, inl, inr, List, [], ◌∷◌, ◌++◌, None, Some, T, refl, sym, ap, subst, ◌∙◌, ℕ, arith}
+use Rattle.std.proofs.Common.{◌≡◌, ◌≢◌, inl, inr, List, [], ◌∷◌, ◌++◌, None, Some, T, All, refl, sym, ap, subst, ◌∙◌, ℕ, arith}
+use Rattle.std.proofs.lemmas.List.{get_or_append_left, length-append}
 use Rattle.std.specs.List.{insert}
 use Rattle.std.specs.Option.{option_and_then, option_map}
 use Rattle.std.specs.List.Sorted.{IsStrictlySortedBy}
@@ -10,10 +11,11 @@ use Rattle.std.specs.declared.cmp.Ordering.TheVariants.{Less}
 use Rattle.canvas_model.specs.declared.ObjId.{ObjId}
 use Rattle.canvas_model.specs.Ids.{id_cmp}
 use Rattle.canvas_model.specs.Document.{Object, Place, place_of}
-use Rattle.canvas_doc.specs.Spots.{AreSpots, IsCut}
+use Rattle.canvas_doc.specs.declared.spots.Spot.{Spot}
+use Rattle.canvas_doc.specs.Spots.{AreSpots, IsCut, new_spot}
 use Rattle.canvas_doc.proofs.Maps.{ids_total, get_is, put_inserts, same_or_differ}
 use Rattle.canvas_doc.proofs.Placing.{place_now, places_moved}
-use Rattle.canvas_doc.proofs.Searched.{below, below_front, greater, head_below, front_sorted, second}
+use Rattle.canvas_doc.proofs.Searched.{below, greater, head_below, front_sorted, second}
 use Rattle.canvas_doc.proofs.Spotted.{spots_same, spots_with}
 
 module _ {K X : Type 0} {R : K → K → Ordering} (o : IsTotalOrder R) (k : K) (v : X) where
@@ -46,8 +48,8 @@ module _ (es fs : List (ObjId × Object)) (id : ObjId) (o : Object) (whole : T (
   own : place_of (map.from_sorted {R = id_cmp} fs) id ≡ o.place
   own = ap (λ d. place_of d id) now_is ∙ place_now (map.from_sorted es) id o
 
-  module _ (spots : List (ObjId × ObjId)) (are : AreSpots (place_of (map.from_sorted es)) spots) where
-    pub spot_more : (s : Place) → o.place ≡ Some s → (i : ℕ) → IsCut (place_of (map.from_sorted es)) s.parent s.pos id spots i → AreSpots (place_of (map.from_sorted fs)) (insert spots i (s.parent, id))
+  module _ (spots : List Spot) (are : AreSpots (place_of (map.from_sorted es)) spots) where
+    pub spot_more : (s : Place) → o.place ≡ Some s → (i : ℕ) → IsCut (place_of (map.from_sorted es)) s.parent s.pos id spots i → AreSpots (place_of (map.from_sorted fs)) (insert spots i (new_spot id s))
     spot_more s stands i cut = spots_with (place_of (map.from_sorted es)) (place_of (map.from_sorted fs)) spots are id others nowhere s (own ∙ stands) i cut
 
     pub spots_stay : o.place ≡ None → AreSpots (place_of (map.from_sorted fs)) spots
@@ -59,10 +61,14 @@ module _ (es fs : List (ObjId × Object)) (id : ObjId) (o : Object) (whole : T (
 -- no rows have no spots
 none_stand : AreSpots (place_of (map.from_sorted {R = id_cmp} [])) []
 unfolding IsStrictlySortedBy
-none_stand = record { in_order = tt; each = λ s. (λ h. absurd (omega (arith, h.1)), λ h. absurd (let f : None ≡ Some s.0 = sym (ap (λ x. option_map (λ (p : Place). p.parent) (option_and_then (λ (x : Object). x.place) x)) (map.get-from_sorted id_cmp [] s.1 tt)) ∙ h in cc)) }
+none_stand = record { in_order = tt; each = λ s. (λ h. absurd (omega (arith, h.1)), λ h. absurd (let f : None ≡ Some s = sym (ap (λ x. option_map (new_spot s.id) (option_and_then (λ (x : Object). x.place) x)) (map.get-from_sorted id_cmp [] s.id tt)) ∙ h in cc)) }
 
-pub no_spots : (es : List (ObjId × Object)) (spots : List (ObjId × ObjId)) → es ≡ [] → spots ≡ [] → AreSpots (place_of (map.from_sorted {R = id_cmp} es)) spots
+pub no_spots : (es : List (ObjId × Object)) (spots : List Spot) → es ≡ [] → spots ≡ [] → AreSpots (place_of (map.from_sorted {R = id_cmp} es)) spots
 no_spots es spots none none_too = subst (AreSpots (place_of (map.from_sorted {R = id_cmp} es))) (sym none_too) (subst (λ es. AreSpots (place_of (map.from_sorted {R = id_cmp} es)) []) (sym none) none_stand)
+
+-- what holds of all items holds of the first ones
+pub all_front : {X : Type 0} (P : X → Type 0) (xs ys : List X) → All P (xs ++ ys) → All P xs
+all_front P xs ys all k d lt = subst P (get_or_append_left xs ys d k lt) (all k d (omega (arith, lt, length-append xs ys)))
 
 pub nothing_left : {X : Type 0} (xs : List X) → Rattle.std.specs.Prelude.length xs ≡ 0 → xs ≡ []
 nothing_left [] e = refl

@@ -12,6 +12,7 @@ mod Kept
 mod Copied
 mod Rooted
 mod Told
+mod Digits
 mod Spotted
 mod Placing
 mod Walked

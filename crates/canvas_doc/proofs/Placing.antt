@@ -1,5 +1,5 @@
 -- The spots of a document of which one object was added or removed.
-use Rattle.std.proofs.Common.{◌≡◌, ◌≢◌, ◌⊎◌, inl, inr, ℕ, suc, zero, ◌+◌, ◌-◌, ◌<◌, ◌≤◌, Bool, true, false, cond, List, [], ◌∷◌, length, get_or, set, set-set, Option, Some, None, T, refl, sym, ap, subst, ◌∙◌, arith}
+use Rattle.std.proofs.Common.{◌≡◌, ◌≢◌, ◌⊎◌, inl, inr, ℕ, suc, zero, ◌+◌, ◌-◌, ◌<◌, ◌≤◌, true, false, cond, List, [], ◌∷◌, length, get_or, set, set-set, Option, Some, None, T, refl, sym, ap, subst, ◌∙◌, arith}
 use Rattle.std.specs.Prelude.{is_some, not}
 use Rattle.std.specs.List.{Contains, insert, remove}
 use Rattle.std.specs.Option.{option_and_then, option_map, option_map_or}
@@ -18,12 +18,17 @@ use Rattle.canvas_model.specs.declared.Kind.TheVariants.{Document}
 use Rattle.canvas_model.specs.Ids.{id_cmp, root, same_id}
 use Rattle.canvas_model.specs.Document.{Doc, IsDocument, Object, Place, blank, new_object, place_of}
 use Rattle.canvas_doc.specs.Sorted.{is_other, IsPairAt}
-use Rattle.canvas_doc.specs.Spots.{AreSpots, IsCut, Places, is_before, spot_cmp}
+use Rattle.canvas_doc.specs.declared.spots.Spot.{Spot}
+use Rattle.canvas_doc.specs.Spots.{AreSpots, IsCut, Places, is_before, new_spot, spot_cmp}
 use Rattle.canvas_doc.proofs.Maps.{exact_ids, ids_total, differ, get_other, get_same, same_or_differ}
 use Rattle.canvas_doc.proofs.Kept.{get_removed}
 use Rattle.canvas_doc.proofs.Rooted.{more_inserted}
 use Rattle.canvas_doc.proofs.Revised.{removed_doc}
 use Rattle.canvas_doc.proofs.Spotted.{spots_with, spots_without, cut_below, cut_above, key, key_cmp, key_at, key_total, before_is, left_is, left_other, placed}
+
+-- a spot to read lists with
+pub any_spot : Spot
+any_spot = new_spot root (record { parent = root; pos = [] })
 
 placed_as : Option Object → Option Place
 placed_as = option_and_then (λ o. o.place)
@@ -33,7 +38,7 @@ module _ (es fs : List (ObjId × Object)) (d : Doc) (id : ObjId) (kind : Kind) (
   now_is : map.from_sorted {R = id_cmp} fs ≡ map.insert d id (new_object kind (Some s))
   now_is = more_inserted es fs d id kind s o sorted view bare is
 
-  pub put_spots : map.get d id ≡ None → (spots : List (ObjId × ObjId)) → AreSpots (place_of (map.from_sorted es)) spots → (i : ℕ) → IsCut (place_of (map.from_sorted es)) s.parent s.pos id spots i → AreSpots (place_of (map.from_sorted fs)) (insert spots i (s.parent, id))
+  pub put_spots : map.get d id ≡ None → (spots : List Spot) → AreSpots (place_of (map.from_sorted es)) spots → (i : ℕ) → IsCut (place_of (map.from_sorted es)) s.parent s.pos id spots i → AreSpots (place_of (map.from_sorted fs)) (insert spots i (new_spot id s))
   unfolding placed_as
   put_spots free spots are i cut =
       spots_with (place_of (map.from_sorted es)) (place_of (map.from_sorted fs)) spots are id
@@ -49,7 +54,7 @@ module _ (es fs : List (ObjId × Object)) (d : Doc) (id : ObjId) (sorted : T (ma
   stays : (y : ObjId) → y ≢ id → cond (is_other id_cmp id y) (map.get d y) None ≡ map.get d y
   stays y ne = ap (λ b. cond (not b) (map.get d y) None) (differ y id ne)
 
-  pub removed_spots : (spots : List (ObjId × ObjId)) → AreSpots (place_of (map.from_sorted es)) spots → (i : ℕ) (x : ObjId × ObjId) → i < length spots → x ≡ get_or spots i x → x.1 ≡ id → AreSpots (place_of (map.from_sorted fs)) (remove spots i)
+  pub removed_spots : (spots : List Spot) → AreSpots (place_of (map.from_sorted es)) spots → (i : ℕ) (x : Spot) → i < length spots → x ≡ get_or spots i x → x.id ≡ id → AreSpots (place_of (map.from_sorted fs)) (remove spots i)
   unfolding placed_as
   removed_spots spots are i x lt at of_id =
       spots_without (place_of (map.from_sorted es)) (place_of (map.from_sorted fs)) spots are id
@@ -57,31 +62,31 @@ module _ (es fs : List (ObjId × Object)) (d : Doc) (id : ObjId) (sorted : T (ma
       (ap placed_as (left_get id ∙ ap (λ r. cond (not (is_eq r)) (map.get d id) None) (tied_itself ids_total id))) i x lt at of_id
 
 -- where the spot of an object stands
-module _ (p : Places) (spots : List (ObjId × ObjId)) (are : AreSpots p spots) (id : ObjId) (place : Place) (stands : p id ≡ Some place) (i : ℕ) (cut : IsCut p place.parent place.pos id spots i) where
-  own_key : key p (place.parent, id) ≡ (place.parent, (place.pos, id))
-  own_key = key_at p (place.parent, id) place stands
+module _ (p : Places) (spots : List Spot) (are : AreSpots p spots) (id : ObjId) (place : Place) (stands : p id ≡ Some place) (i : ℕ) (cut : IsCut p place.parent place.pos id spots i) where
+  own_key : key p (new_spot id place) ≡ (place.parent, (place.pos, id))
+  own_key = key_at p (new_spot id place) place stands
 
-  there : Contains spots (place.parent, id)
-  there = (are.each (place.parent, id)).1 (ap (option_map (λ x. x.parent)) stands)
+  there : Contains spots (new_spot id place)
+  there = (are.each (new_spot id place)).1 (ap (option_map (new_spot id)) stands)
 
-  pub spot_found : (i < length spots) × ((d : ObjId × ObjId) → (get_or spots i d).1 ≡ id)
+  pub spot_found : (i < length spots) × ((d : Spot) → (get_or spots i d).id ≡ id)
   spot_found =
-      elim (cases_lt there.0 i) as (λ _. (i < length spots) × ((d : ObjId × ObjId) → (get_or spots i d).1 ≡ id)) [
+      elim (cases_lt there.0 i) as (λ _. (i < length spots) × ((d : Spot) → (get_or spots i d).id ≡ id)) [
         | inl before ↦ absurd (
-            let less : key_cmp (key p (place.parent, id)) (place.parent, (place.pos, id)) ≡ Less = subst (λ s. key_cmp (key p s) (place.parent, (place.pos, id)) ≡ Less) there.2 (cut_below p spots are place.parent place.pos id i cut there.0 (place.parent, id) (omega arith) before) in
-            let tied : key_cmp (key p (place.parent, id)) (place.parent, (place.pos, id)) ≡ Equal = subst (λ k. key_cmp k (place.parent, (place.pos, id)) ≡ Equal) (sym own_key) (tied_itself key_total (place.parent, (place.pos, id))) in
+            let less : key_cmp (key p (new_spot id place)) (place.parent, (place.pos, id)) ≡ Less = subst (λ s. key_cmp (key p s) (place.parent, (place.pos, id)) ≡ Less) there.2 (cut_below p spots are place.parent place.pos id i cut there.0 (new_spot id place) (omega arith) before) in
+            let tied : key_cmp (key p (new_spot id place)) (place.parent, (place.pos, id)) ≡ Equal = subst (λ k. key_cmp k (place.parent, (place.pos, id)) ≡ Equal) (sym own_key) (tied_itself key_total (place.parent, (place.pos, id))) in
             let f : Less ≡ Equal = sym less ∙ tied in cc)
-        | inr not_before ↦ elim (cases_lt i there.0) as (λ _. (i < length spots) × ((d : ObjId × ObjId) → (get_or spots i d).1 ≡ id)) [
+        | inr not_before ↦ elim (cases_lt i there.0) as (λ _. (i < length spots) × ((d : Spot) → (get_or spots i d).id ≡ id)) [
           | inl after ↦ absurd (
-              let s = get_or spots i (place.parent, id) in
-              let less : key_cmp (key p s) (key p (place.parent, id)) ≡ Less = subst (λ t. spot_cmp p (get_or spots i (place.parent, id)) t ≡ Less) there.2 (Less-from_sorted (spot_cmp p) spots i there.0 (place.parent, id) are.in_order after there.1) in
-              let here : key_cmp (key p s) (place.parent, (place.pos, id)) ≡ Less = subst (λ k. key_cmp (key p (get_or spots i (place.parent, id))) k ≡ Less) own_key less in
-              let not_less = cut_above p spots are place.parent place.pos id i cut i (place.parent, id) (omega arith) (omega (arith, there.1)) in
+              let s = get_or spots i (new_spot id place) in
+              let less : key_cmp (key p s) (key p (new_spot id place)) ≡ Less = subst (λ t. spot_cmp p (get_or spots i (new_spot id place)) t ≡ Less) there.2 (Less-from_sorted (spot_cmp p) spots i there.0 (new_spot id place) are.in_order after there.1) in
+              let here : key_cmp (key p s) (place.parent, (place.pos, id)) ≡ Less = subst (λ k. key_cmp (key p (get_or spots i (new_spot id place))) k ≡ Less) own_key less in
+              let not_less = cut_above p spots are place.parent place.pos id i cut i (new_spot id place) (omega arith) (omega (arith, there.1)) in
               let f : true ≡ false = sym (ap is_lt here) ∙ not_less in cc)
           | inr not_after ↦
               let same : there.0 ≡ i = omega arith in
               let lt : i < length spots = omega (arith, there.1) in
-              (lt, λ d. ap (λ (s : ObjId × ObjId). s.1) (get_or_default spots i d (place.parent, id) lt ∙ ap (λ k. get_or spots k (place.parent, id)) (sym same) ∙ there.2))
+              (lt, λ d. ap (λ (s : Spot). s.id) (get_or_default spots i d (new_spot id place) lt ∙ ap (λ k. get_or spots k (new_spot id place)) (sym same) ∙ there.2))
         ]
       ]
 
@@ -122,7 +127,7 @@ place_now d id o = ap (option_and_then (λ (x : Object). x.place)) (get_same d i
 -- the root alone has no spots
 pub blank_spots : AreSpots (place_of blank) []
 unfolding IsStrictlySortedBy
-blank_spots = record { in_order = tt; each = λ s. (λ h. absurd (omega (arith, h.1)), λ h. absurd (let f : None ≡ Some s.0 = sym (ap (option_map (λ (x : Place). x.parent)) (nowhere s.1)) ∙ h in cc)) }
+blank_spots = record { in_order = tt; each = λ s. (λ h. absurd (omega (arith, h.1)), λ h. absurd (let f : None ≡ Some s = sym (ap (option_map (new_spot s.id)) (nowhere s.id)) ∙ h in cc)) }
   where
     nowhere : (q : ObjId) → place_of blank q ≡ None
     nowhere q = elim (same_or_differ q root) as (λ _. place_of blank q ≡ None) [
@@ -177,8 +182,8 @@ moves_within : (i k j size : ℕ) → Moves i k j → k < size → j < size + 1
 moves_within i k j size (inl (c, d)) lt = omega arith
 moves_within i k j size (inr (c, d)) lt = omega arith
 
-module _ (p q : Places) (spots : List (ObjId × ObjId)) (are : AreSpots p spots) (id : ObjId) (others : (x : ObjId) → x ≢ id → q x ≡ p x) (s : Place) (stands : q id ≡ Some s) (to : ℕ) (cut : IsCut p s.parent s.pos id spots to)
-    (from : ℕ) (x : ObjId × ObjId) (lt : from < length spots) (is : x ≡ get_or spots from x) (of_id : x.1 ≡ id) (n : ℕ) (target : Target from to n) where
+module _ (p q : Places) (spots : List Spot) (are : AreSpots p spots) (id : ObjId) (others : (x : ObjId) → x ≢ id → q x ≡ p x) (s : Place) (stands : q id ≡ Some s) (to : ℕ) (cut : IsCut p s.parent s.pos id spots to)
+    (from : ℕ) (x : Spot) (lt : from < length spots) (is : x ≡ get_or spots from x) (of_id : x.id ≡ id) (n : ℕ) (target : Target from to n) where
   without_it : Places
   without_it y = cond (same_id y id) None (p y)
 
@@ -196,19 +201,19 @@ module _ (p q : Places) (spots : List (ObjId × ObjId)) (are : AreSpots p spots)
   size : length (remove spots from) + 1 ≡ length spots
   size = go spots from lt
     where
-      go : (xs : List (ObjId × ObjId)) (i : ℕ) → i < length xs → length (remove xs i) + 1 ≡ length xs
+      go : (xs : List Spot) (i : ℕ) → i < length xs → length (remove xs i) + 1 ≡ length xs
       go [] i lt = absurd (omega arith)
       go (y ∷ xs) zero lt = omega arith
       go (y ∷ xs) (suc i) lt = let rest = go xs i (omega arith) in omega (arith, rest)
 
-  told : (t : ObjId × ObjId) → Contains (remove spots from) t → is_before without_it s.parent s.pos id t ≡ is_lt (key_cmp (key p t) (s.parent, (s.pos, id)))
+  told : (t : Spot) → Contains (remove spots from) t → is_before without_it s.parent s.pos id t ≡ is_lt (key_cmp (key p t) (s.parent, (s.pos, id)))
   told t inside =
       let ne = left_other p without_it spots are id stay gone from x lt is of_id t inside in
       let there = placed p spots are t (left_is p without_it spots are id stay gone from x lt is of_id t inside) in
-      before_is without_it s.parent s.pos id t there.0 (stay t.1 ne ∙ there.1)
-      ∙ (λ i. is_lt (key_cmp (t.0, (option_map_or (λ (x : Place). x.pos) (stay t.1 ne i) [], t.1)) (s.parent, (s.pos, id))))
+      before_is without_it s.parent s.pos id t there.0 (stay t.id ne ∙ there.1)
+      ∙ (λ i. is_lt (key_cmp (t.parent, (option_map_or (λ (x : Place). x.pos) (stay t.id ne i) [], t.id)) (s.parent, (s.pos, id))))
 
-  inside_at : (k : ℕ) (d : ObjId × ObjId) → k < length (remove spots from) → Contains (remove spots from) (get_or (remove spots from) k d)
+  inside_at : (k : ℕ) (d : Spot) → k < length (remove spots from) → Contains (remove spots from) (get_or (remove spots from) k d)
   inside_at k d lk = (k, lk, get_or_default (remove spots from) k (get_or (remove spots from) k d) d lk)
 
   cut_left : IsCut without_it s.parent s.pos id (remove spots from) n
@@ -230,5 +235,5 @@ module _ (p q : Places) (spots : List (ObjId × ObjId)) (are : AreSpots p spots)
         sym (told (get_or (remove spots from) n d) (inside_at n d lk) ∙ ap (λ t. is_lt (key_cmp (key p t) (s.parent, (s.pos, id)))) at.1 ∙ not_less);
   }
 
-  pub moved_spots : AreSpots q (insert (remove spots from) n (s.parent, id))
+  pub moved_spots : AreSpots q (insert (remove spots from) n (new_spot id s))
   moved_spots = spots_with without_it q (remove spots from) left id (λ y ne. others y ne ∙ sym (stay y ne)) gone s stands n cut_left

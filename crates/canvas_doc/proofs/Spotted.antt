@@ -1,7 +1,7 @@
 -- Spots in order, of which one was added or taken out.
-use Rattle.std.proofs.Common.{◌≡◌, ◌≢◌, ◌⊎◌, ◌↔◌, inl, inr, ℕ, suc, zero, ◌+◌, ◌-◌, ◌<◌, ◌≤◌, Bool, true, false, List, [], ◌∷◌, length, get_or, Option, Some, None, refl, sym, ap, subst, ◌∙◌, arith}
+use Rattle.std.proofs.Common.{◌≡◌, ◌≢◌, inl, inr, ℕ, suc, zero, ◌+◌, ◌-◌, ◌<◌, ◌≤◌, Bool, true, false, List, [], ◌∷◌, length, get_or, Option, Some, None, refl, sym, ap, subst, ◌∙◌, arith}
 use Rattle.std.specs.List.{AllWithin, AllByRecursion, Contains, insert, remove}
-use Rattle.std.specs.List.Sorted.{IsStrictlySortedBy, IsNonDecreasingBy, IsPermutation}
+use Rattle.std.specs.List.Sorted.{IsStrictlySortedBy, IsNonDecreasingBy}
 use Rattle.std.specs.Option.{option_map, option_map_or}
 use Rattle.std.specs.Cmp.{IsTotalOrder}
 use Rattle.std.specs.Cmp.Lexicographic.{slice_cmp, nat_list_cmp_total}
@@ -12,11 +12,11 @@ use Rattle.std.proofs.lemmas.List.{get_or_default}
 use Rattle.std.proofs.lemmas.Cmp.{on_total, then_total, tied_itself}
 use Rattle.std.proofs.lemmas.List.Sorted.{Contains-permutation, IsPermutation-insert, IsPermutation-remove, IsPermutation-sym, searchable_from_sorted}
 use Rattle.std.proofs.lemmas.Map.Keys.{Less-from_sorted}
-use Rattle.canvas_blocks.specs.Blocks.{IsEdge}
 use Rattle.canvas_model.specs.declared.ObjId.{ObjId}
 use Rattle.canvas_model.specs.Ids.{id_cmp}
 use Rattle.canvas_model.specs.Document.{Place, Pos}
-use Rattle.canvas_doc.specs.Spots.{AreSpots, IsCut, Places, is_before, is_lower, parent_at, pos_at, position_at, spot_cmp}
+use Rattle.canvas_doc.specs.declared.spots.Spot.{Spot}
+use Rattle.canvas_doc.specs.Spots.{AreSpots, IsCut, Places, is_before, is_lower, new_spot, parent_at, position_at, spot_at, spot_cmp}
 use Rattle.canvas_doc.proofs.Maps.{exact_ids, ids_total, same_or_differ}
 use Rattle.canvas_doc.proofs.Searched.{greater}
 use Rattle.canvas_doc.proofs.Edges.{is_less, lowest}
@@ -127,8 +127,8 @@ key_cmp = then_cmp (on (λ k. k.0) id_cmp) (on (λ k. k.1) (then_cmp (on (λ k. 
 pub key_total : IsTotalOrder key_cmp
 key_total = then_total (on_total (λ k. k.0) ids_total) (on_total (λ k. k.1) (then_total (on_total (λ k. k.0) nat_list_cmp_total) (on_total (λ k. k.1) ids_total)))
 
-abbrev pub key : Places → ObjId × ObjId → Key
-key p s = (s.0, (position_at p s.1, s.1))
+abbrev pub key : Places → Spot → Key
+key p s = (s.parent, (position_at p s.id, s.id))
 
 spot_total : (p : Places) → IsTotalOrder (spot_cmp p)
 spot_total p = on_total (key p) key_total
@@ -156,33 +156,37 @@ third_ties Less b c e = absurd (let f : Less ≡ Equal = e in cc)
 third_ties Greater b c e = absurd (let f : Greater ≡ Equal = e in cc)
 
 -- a spot with a place is before a cut where its key is less
-pub before_is : (p : Places) (parent : ObjId) (pos : Pos) (id : ObjId) (s : ObjId × ObjId) (place : Place) → p s.1 ≡ Some place → is_before p parent pos id s ≡ is_lt (key_cmp (key p s) (parent, (pos, id)))
+pub before_is : (p : Places) (parent : ObjId) (pos : Pos) (id : ObjId) (s : Spot) (place : Place) → p s.id ≡ Some place → is_before p parent pos id s ≡ is_lt (key_cmp (key p s) (parent, (pos, id)))
 before_is p parent pos id s place e =
-    ap (λ (o : Option Place). match_ordering (id_cmp s.0 parent) true (is_lower (option_map (λ x. x.pos) o) s.1 pos id) false) e
-    ∙ turned (id_cmp s.0 parent) (ordering_then (slice_cmp nat_cmp place.pos pos) (id_cmp s.1 id))
-    ∙ ap (λ (o : Option Place). is_lt (ordering_then (id_cmp s.0 parent) (ordering_then (slice_cmp nat_cmp (option_map_or (λ x. x.pos) o []) pos) (id_cmp s.1 id)))) (sym e)
+    ap (λ (o : Option Place). match_ordering (id_cmp s.parent parent) true (is_lower (option_map (λ x. x.pos) o) s.id pos id) false) e
+    ∙ turned (id_cmp s.parent parent) (ordering_then (slice_cmp nat_cmp place.pos pos) (id_cmp s.id id))
+    ∙ ap (λ (o : Option Place). is_lt (ordering_then (id_cmp s.parent parent) (ordering_then (slice_cmp nat_cmp (option_map_or (λ x. x.pos) o []) pos) (id_cmp s.id id)))) (sym e)
 
-module _ (p : Places) (spots : List (ObjId × ObjId)) (are : AreSpots p spots) where
+-- an object of which this is the spot stands there
+pub spot_is : (p : Places) (s : Spot) → spot_at p s.id ≡ Some s → (place : Place) × (p s.id ≡ Some place) × (new_spot s.id place ≡ s)
+spot_is p s h =
+    elim (p s.id) as (λ o. p s.id ≡ o → option_map (new_spot s.id) o ≡ Some s → (place : Place) × (p s.id ≡ Some place) × (new_spot s.id place ≡ s)) [
+      | None ↦ λ e h. absurd (let f : None ≡ Some s = h in cc)
+      | Some place ↦ λ e h. (place, e, let f : new_spot s.id place ≡ s = cc in f)
+    ] refl h
+
+module _ (p : Places) (spots : List Spot) (are : AreSpots p spots) where
   -- each of them stands where it says
-  pub placed : (s : ObjId × ObjId) → Contains spots s → (place : Place) × (p s.1 ≡ Some place) × (place.parent ≡ s.0)
-  placed s inside =
-      elim (p s.1) as (λ o. p s.1 ≡ o → option_map (λ (x : Place). x.parent) o ≡ Some s.0 → (place : Place) × (p s.1 ≡ Some place) × (place.parent ≡ s.0)) [
-        | None ↦ λ e h. absurd (let f : None ≡ Some s.0 = h in cc)
-        | Some place ↦ λ e h. (place, e, let f : place.parent ≡ s.0 = cc in f)
-      ] refl ((are.each s).0 inside)
+  pub placed : (s : Spot) → Contains spots s → (place : Place) × (p s.id ≡ Some place) × (place.parent ≡ s.parent) × (new_spot s.id place ≡ s)
+  placed s inside = let there = spot_is p s ((are.each s).0 inside) in (there.0, there.1, ap (λ (x : Spot). x.parent) there.2, there.2)
 
-  inside_at : (k : ℕ) (d : ObjId × ObjId) → k < length spots → Contains spots (get_or spots k d)
+  inside_at : (k : ℕ) (d : Spot) → k < length spots → Contains spots (get_or spots k d)
   inside_at k d lt = (k, lt, get_or_default spots k (get_or spots k d) d lt)
 
   module _ (parent : ObjId) (pos : Pos) (id : ObjId) (i : ℕ) (cut : IsCut p parent pos id spots i) where
-    rank : ObjId × ObjId → Ordering
+    rank : Spot → Ordering
     rank s = key_cmp (key p s) (parent, (pos, id))
 
     rise : IsNonDecreasingBy (λ s. ordering_index (rank s)) spots
     unfolding rank
     rise = searchable_from_sorted key_total (key p) spots (parent, (pos, id)) (λ k d low lt. ap is_lt (greater key_total (key p (get_or spots k d)) (key p (get_or spots (k + 1) d)) (Less-from_sorted (spot_cmp p) spots k (k + 1) d are.in_order (omega arith) lt)))
 
-    known : (s : ObjId × ObjId) → Contains spots s → (b : Bool) → b ≡ is_before p parent pos id s → b ≡ is_lt (rank s)
+    known : (s : Spot) → Contains spots s → (b : Bool) → b ≡ is_before p parent pos id s → b ≡ is_lt (rank s)
     unfolding rank
     known s inside b e = let there = placed s inside in e ∙ before_is p parent pos id s there.0 there.1
 
@@ -195,45 +199,42 @@ module _ (p : Places) (spots : List (ObjId × ObjId)) (are : AreSpots p spots) w
     cut_above = higher_after rank spots rise i cut.within (λ d lt. known (get_or spots i d) (inside_at i d lt) false (cut.after d lt))
 
 -- ---- a spot that is added
-same_spots : (p q : Places) (x y : ObjId × ObjId) → q x.1 ≡ p x.1 → q y.1 ≡ p y.1 → spot_cmp p x y ≡ Less → spot_cmp q x y ≡ Less
+same_spots : (p q : Places) (x y : Spot) → q x.id ≡ p x.id → q y.id ≡ p y.id → spot_cmp p x y ≡ Less → spot_cmp q x y ≡ Less
 same_spots p q x y ex ey h =
-    (λ t. ordering_then (id_cmp x.0 y.0) (ordering_then (slice_cmp nat_cmp (option_map_or (λ (s : Place). s.pos) (ex t) []) (option_map_or (λ (s : Place). s.pos) (ey t) [])) (id_cmp x.1 y.1))) ∙ h
+    (λ t. ordering_then (id_cmp x.parent y.parent) (ordering_then (slice_cmp nat_cmp (option_map_or (λ (s : Place). s.pos) (ex t) []) (option_map_or (λ (s : Place). s.pos) (ey t) [])) (id_cmp x.id y.id))) ∙ h
 
-pub key_at : (p : Places) (s : ObjId × ObjId) (place : Place) → p s.1 ≡ Some place → key p s ≡ (s.0, (place.pos, s.1))
-key_at p s place e = ap (λ (o : Option Place). (s.0, (option_map_or (λ (x : Place). x.pos) o [], s.1))) e
+pub key_at : (p : Places) (s : Spot) (place : Place) → p s.id ≡ Some place → key p s ≡ (s.parent, (place.pos, s.id))
+key_at p s place e = ap (λ (o : Option Place). (s.parent, (option_map_or (λ (x : Place). x.pos) o [], s.id))) e
 
-module _ (p q : Places) (spots : List (ObjId × ObjId)) (are : AreSpots p spots) (id : ObjId) (others : (x : ObjId) → x ≢ id → q x ≡ p x) where
+module _ (p q : Places) (spots : List Spot) (are : AreSpots p spots) (id : ObjId) (others : (x : ObjId) → x ≢ id → q x ≡ p x) where
   -- none of them is of an object that stands nowhere
-  other_than : p id ≡ None → (s : ObjId × ObjId) → Contains spots s → s.1 ≢ id
+  other_than : p id ≡ None → (s : Spot) → Contains spots s → s.id ≢ id
   other_than nowhere s inside same =
       let there = placed p spots are s inside in
       let f : None ≡ Some there.0 = sym nowhere ∙ ap p (sym same) ∙ there.1 in cc
 
   module _ (nowhere : p id ≡ None) (place : Place) (stands : q id ≡ Some place) (i : ℕ) (cut : IsCut p place.parent place.pos id spots i) where
-    spot : ObjId × ObjId
-    spot = (place.parent, id)
+    unchanged : (s : Spot) → Contains spots s → q s.id ≡ p s.id
+    unchanged s inside = others s.id (other_than nowhere s inside)
 
-    unchanged : (s : ObjId × ObjId) → Contains spots s → q s.1 ≡ p s.1
-    unchanged s inside = others s.1 (other_than nowhere s inside)
+    same_key : (s : Spot) → Contains spots s → key q s ≡ key p s
+    same_key s inside = λ t. (s.parent, (option_map_or (λ (x : Place). x.pos) (unchanged s inside t) [], s.id))
 
-    same_key : (s : ObjId × ObjId) → Contains spots s → key q s ≡ key p s
-    same_key s inside = λ t. (s.0, (option_map_or (λ (x : Place). x.pos) (unchanged s inside t) [], s.1))
+    spot_key : key q (new_spot id place) ≡ (place.parent, (place.pos, id))
+    spot_key = key_at q (new_spot id place) place stands
 
-    spot_key : key q (place.parent, id) ≡ (place.parent, (place.pos, id))
-    spot_key = key_at q (place.parent, id) place stands
-
-    comes_after : (s : ObjId × ObjId) → Contains spots s → is_lt (key_cmp (key p s) (place.parent, (place.pos, id))) ≡ false → key_cmp (place.parent, (place.pos, id)) (key p s) ≡ Less
+    comes_after : (s : Spot) → Contains spots s → is_lt (key_cmp (key p s) (place.parent, (place.pos, id))) ≡ false → key_cmp (place.parent, (place.pos, id)) (key p s) ≡ Less
     comes_after s inside not_less =
         elim (key_cmp (key p s) (place.parent, (place.pos, id))) as (λ r. key_cmp (key p s) (place.parent, (place.pos, id)) ≡ r → is_lt r ≡ false → key_cmp (place.parent, (place.pos, id)) (key p s) ≡ Less) [
           | Less ↦ λ e n. absurd (let f : true ≡ false = n in cc)
-          | Equal ↦ λ e n. absurd (other_than nowhere s inside (exact_ids s.1 id (third_ties (id_cmp s.0 place.parent) (slice_cmp nat_cmp (position_at p s.1) place.pos) (id_cmp s.1 id) e)))
+          | Equal ↦ λ e n. absurd (other_than nowhere s inside (exact_ids s.id id (third_ties (id_cmp s.parent place.parent) (slice_cmp nat_cmp (position_at p s.id) place.pos) (id_cmp s.id id) e)))
           | Greater ↦ λ e n. key_total.antisymm (place.parent, (place.pos, id)) (key p s) ∙ ap ordering_reverse e
         ] refl not_less
 
-    pub spots_with : AreSpots q (insert spots i (place.parent, id))
+    pub spots_with : AreSpots q (insert spots i (new_spot id place))
     spots_with = record {
-      in_order = sorted_insert (spot_cmp q) spots i (place.parent, id) cut.within
-          (sorted_same (spot_cmp p) (spot_cmp q) (λ s. q s.1 ≡ p s.1) (λ x y ex ey. same_spots p q x y ex ey) spots (all_from (λ s. q s.1 ≡ p s.1) spots (λ k d low lt. unchanged (get_or spots k d) (inside_at p spots are k d lt))) are.in_order)
+      in_order = sorted_insert (spot_cmp q) spots i (new_spot id place) cut.within
+          (sorted_same (spot_cmp p) (spot_cmp q) (λ s. q s.id ≡ p s.id) (λ x y ex ey. same_spots p q x y ex ey) spots (all_from (λ s. q s.id ≡ p s.id) spots (λ k d low lt. unchanged (get_or spots k d) (inside_at p spots are k d lt))) are.in_order)
           (λ k d low lt.
           let inside = inside_at p spots are k d (omega (arith, cut.within)) in
           (λ t. key_cmp (same_key (get_or spots k d) inside t) (spot_key t)) ∙ cut_below p spots are place.parent place.pos id i cut k d low lt)
@@ -241,57 +242,57 @@ module _ (p q : Places) (spots : List (ObjId × ObjId)) (are : AreSpots p spots)
           let inside = inside_at p spots are k d lt in
           (λ t. key_cmp (spot_key t) (same_key (get_or spots k d) inside t)) ∙ comes_after (get_or spots k d) inside (cut_above p spots are place.parent place.pos id i cut k d low lt));
       each = λ s. (
-        λ h. has s (Contains-permutation (insert spots i (place.parent, id)) ((place.parent, id) ∷ spots) s (IsPermutation-sym ((place.parent, id) ∷ spots) (insert spots i (place.parent, id)) (IsPermutation-insert spots i (place.parent, id))) h),
-        λ h. Contains-permutation ((place.parent, id) ∷ spots) (insert spots i (place.parent, id)) s (IsPermutation-insert spots i (place.parent, id)) (is_there s h),
+        λ h. has s (Contains-permutation (insert spots i (new_spot id place)) (new_spot id place ∷ spots) s (IsPermutation-sym (new_spot id place ∷ spots) (insert spots i (new_spot id place)) (IsPermutation-insert spots i (new_spot id place))) h),
+        λ h. Contains-permutation (new_spot id place ∷ spots) (insert spots i (new_spot id place)) s (IsPermutation-insert spots i (new_spot id place)) (is_there s h),
       );
     }
       where
-        has : (s : ObjId × ObjId) → Contains ((place.parent, id) ∷ spots) s → parent_at q s.1 ≡ Some s.0
-        has s (zero, lt, is) = subst (λ s. parent_at q s.1 ≡ Some s.0) is (ap (option_map (λ x. x.parent)) stands)
+        has : (s : Spot) → Contains (new_spot id place ∷ spots) s → spot_at q s.id ≡ Some s
+        has s (zero, lt, is) = subst (λ (s : Spot). spot_at q s.id ≡ Some s) is (ap (option_map (new_spot id)) stands)
         has s (suc k, lt, is) =
             let inside : Contains spots s = (k, omega (arith, lt), is) in
-            ap (option_map (λ x. x.parent)) (unchanged s inside) ∙ (are.each s).0 inside
+            ap (option_map (new_spot s.id)) (unchanged s inside) ∙ (are.each s).0 inside
 
-        is_there : (s : ObjId × ObjId) → parent_at q s.1 ≡ Some s.0 → Contains ((place.parent, id) ∷ spots) s
-        is_there s h = elim (same_or_differ s.1 id) as (λ _. Contains ((place.parent, id) ∷ spots) s) [
+        is_there : (s : Spot) → spot_at q s.id ≡ Some s → Contains (new_spot id place ∷ spots) s
+        is_there s h = elim (same_or_differ s.id id) as (λ _. Contains (new_spot id place ∷ spots) s) [
           | inl same ↦
-              let named : Some place.parent ≡ Some s.0 = ap (option_map (λ x. x.parent)) (sym stands) ∙ ap (parent_at q) (sym same) ∙ h in
-              let first : place.parent ≡ s.0 = cc in
-              (0, omega arith, λ t. (first t, sym same t))
+              let named : Some (new_spot id place) ≡ Some s = ap (option_map (new_spot id)) (sym stands) ∙ ap (spot_at q) (sym same) ∙ h in
+              let first : new_spot id place ≡ s = cc in
+              (0, omega arith, first)
           | inr differs ↦
-              let old = (are.each s).1 (ap (option_map (λ x. x.parent)) (sym (others s.1 differs)) ∙ h) in
+              let old = (are.each s).1 (ap (option_map (new_spot s.id)) (sym (others s.id differs)) ∙ h) in
               (suc old.0, omega (arith, old.1), old.2)
         ]
 
   -- ---- a spot that is taken out
-  module _ (gone : q id ≡ None) (i : ℕ) (x : ObjId × ObjId) (lt : i < length spots) (is : x ≡ get_or spots i x) (of_id : x.1 ≡ id) where
-    pub left_is : (s : ObjId × ObjId) → Contains (remove spots i) s → Contains spots s
+  module _ (gone : q id ≡ None) (i : ℕ) (x : Spot) (lt : i < length spots) (is : x ≡ get_or spots i x) (of_id : x.id ≡ id) where
+    pub left_is : (s : Spot) → Contains (remove spots i) s → Contains spots s
     left_is s h =
         let moved = Contains-permutation (x ∷ remove spots i) spots s (IsPermutation-sym spots (x ∷ remove spots i) (IsPermutation-remove spots i x lt is)) (suc h.0, omega (arith, h.1), h.2) in moved
 
-    pub left_other : (s : ObjId × ObjId) → Contains (remove spots i) s → s.1 ≢ id
+    pub left_other : (s : Spot) → Contains (remove spots i) s → s.id ≢ id
     left_other s h same =
         let apart = all_contained (λ y. y ≢ x) (remove spots i) (left_differs (spot_cmp p) (spot_total p) spots i x lt is are.in_order) s h in
         let there = (are.each s).0 (left_is s h) in
         let here = (are.each x).0 (i, lt, sym is) in
-        let named : Some s.0 ≡ Some x.0 = sym there ∙ ap (parent_at p) (same ∙ sym of_id) ∙ here in
-        let first : s.0 ≡ x.0 = cc in
-        apart (λ t. (first t, (same ∙ sym of_id) t))
+        let named : Some s ≡ Some x = sym there ∙ ap (spot_at p) (same ∙ sym of_id) ∙ here in
+        let one : s ≡ x = cc in
+        apart one
 
     pub spots_without : AreSpots q (remove spots i)
     spots_without = record {
-      in_order = sorted_same (spot_cmp p) (spot_cmp q) (λ s. q s.1 ≡ p s.1) (λ x y ex ey. same_spots p q x y ex ey) (remove spots i)
-          (all_from (λ s. q s.1 ≡ p s.1) (remove spots i) (λ k d low lk. others (get_or (remove spots i) k d).1 (left_other (get_or (remove spots i) k d) (k, lk, get_or_default (remove spots i) k (get_or (remove spots i) k d) d lk))))
+      in_order = sorted_same (spot_cmp p) (spot_cmp q) (λ s. q s.id ≡ p s.id) (λ x y ex ey. same_spots p q x y ex ey) (remove spots i)
+          (all_from (λ s. q s.id ≡ p s.id) (remove spots i) (λ k d low lk. others (get_or (remove spots i) k d).id (left_other (get_or (remove spots i) k d) (k, lk, get_or_default (remove spots i) k (get_or (remove spots i) k d) d lk))))
           (sorted_remove (spot_cmp p) spots i are.in_order);
       each = λ s. (
-        λ h. ap (option_map (λ x. x.parent)) (others s.1 (left_other s h)) ∙ (are.each s).0 (left_is s h),
-        λ h. elim (same_or_differ s.1 id) as (λ _. Contains (remove spots i) s) [
-          | inl same ↦ absurd (let f : None ≡ Some s.0 = ap (option_map (λ x. x.parent)) (sym gone) ∙ ap (parent_at q) (sym same) ∙ h in cc)
+        λ h. ap (option_map (new_spot s.id)) (others s.id (left_other s h)) ∙ (are.each s).0 (left_is s h),
+        λ h. elim (same_or_differ s.id id) as (λ _. Contains (remove spots i) s) [
+          | inl same ↦ absurd (let f : None ≡ Some s = ap (option_map (new_spot id)) (sym gone) ∙ ap (spot_at q) (sym same) ∙ h in cc)
           | inr differs ↦
-              let old = (are.each s).1 (ap (option_map (λ x. x.parent)) (sym (others s.1 differs)) ∙ h) in
+              let old = (are.each s).1 (ap (option_map (new_spot s.id)) (sym (others s.id differs)) ∙ h) in
               let moved = Contains-permutation spots (x ∷ remove spots i) s (IsPermutation-remove spots i x lt is) old in
               elim moved.0 as (λ k. k < length (x ∷ remove spots i) → get_or (x ∷ remove spots i) k s ≡ s → Contains (remove spots i) s) [
-                | zero ↦ λ l e. absurd (differs (sym (ap (λ (y : ObjId × ObjId). y.1) e) ∙ of_id))
+                | zero ↦ λ l e. absurd (differs (sym (ap (λ (y : Spot). y.id) e) ∙ of_id))
                 | suc k ↦ λ l e. (k, omega arith, e)
               ] moved.1 moved.2
         ],
@@ -299,5 +300,13 @@ module _ (p q : Places) (spots : List (ObjId × ObjId)) (are : AreSpots p spots)
     }
 
 -- the spots of a document in which nothing moved
-pub spots_same : (p q : Places) (spots : List (ObjId × ObjId)) → ((x : ObjId) → p x ≡ q x) → AreSpots p spots → AreSpots q spots
+pub spots_same : (p q : Places) (spots : List Spot) → ((x : ObjId) → p x ≡ q x) → AreSpots p spots → AreSpots q spots
 spots_same p q spots same are = subst (λ p. AreSpots p spots) (λ t x. same x t) are
+
+-- an object with this parent stands somewhere
+pub standing : (p : Places) (q parent : ObjId) → parent_at p q ≡ Some parent → (place : Place) × (p q ≡ Some place) × (place.parent ≡ parent)
+standing p q parent h =
+    elim (p q) as (λ o. p q ≡ o → option_map (λ (x : Place). x.parent) o ≡ Some parent → (place : Place) × (p q ≡ Some place) × (place.parent ≡ parent)) [
+      | None ↦ λ e h. absurd (let f : None ≡ Some parent = h in cc)
+      | Some place ↦ λ e h. (place, e, let f : place.parent ≡ parent = cc in f)
+    ] refl h

@@ -1,5 +1,5 @@
 -- Which objects stand where, as the walk through the spots from a cut finds them.
-use Rattle.std.proofs.Common.{◌≡◌, ◌≢◌, ◌⊎◌, ◌↔◌, inl, inr, IsTrue, ℕ, suc, zero, ◌+◌, ◌<◌, ◌≤◌, Bool, true, false, List, [], ◌∷◌, length, get_or, drop, Option, Some, None, refl, sym, ap, subst, ◌∙◌, arith}
+use Rattle.std.proofs.Common.{◌≡◌, ◌≢◌, inl, inr, ℕ, suc, zero, ◌<◌, ◌≤◌, true, false, List, [], ◌∷◌, length, get_or, drop, Option, Some, refl, sym, ap, subst, ◌∙◌, arith}
 use Rattle.std.specs.List.{AllWithin, Contains}
 use Rattle.std.specs.Option.{option_map, option_map_or}
 use Rattle.std.specs.FinMap.{nat_cmp-IsAntisymmetric, slice_cmp-IsAntisymmetric}
@@ -10,15 +10,15 @@ use Rattle.std.specs.Ordering.{is_lt, nat_cmp, ordering_then}
 use Rattle.std.specs.declared.cmp.Ordering.{Ordering}
 use Rattle.std.specs.declared.cmp.Ordering.TheVariants.{Less, Equal, Greater}
 use Rattle.std.proofs.lemmas.Bool.{cases_lt}
-use Rattle.std.proofs.lemmas.List.{drop_more, get_or_default}
+use Rattle.std.proofs.lemmas.List.{get_or_default}
 use Rattle.std.proofs.lemmas.Map.Keys.{Less-from_sorted}
 use Rattle.canvas_model.specs.declared.ObjId.{ObjId}
 use Rattle.canvas_model.specs.Ids.{id_cmp, root}
-use Rattle.canvas_model.specs.Document.{Doc, Place, Pos, place_of}
-use Rattle.canvas_model.specs.Sibling.{IsTaken}
-use Rattle.canvas_doc.specs.Spots.{AreSpots, IsCut, Places, pos_at, parent_at, position_at, spot_cmp}
+use Rattle.canvas_model.specs.Document.{Place, Pos}
+use Rattle.canvas_doc.specs.declared.spots.Spot.{Spot}
+use Rattle.canvas_doc.specs.Spots.{AreSpots, IsCut, Places, new_spot, pos_at, position_at, spot_cmp}
 use Rattle.canvas_doc.proofs.Maps.{exact_ids, ids_total}
-use Rattle.canvas_doc.proofs.Spotted.{Key, cut_below, cut_above, key, key_at, key_cmp, placed}
+use Rattle.canvas_doc.proofs.Spotted.{cut_below, cut_above, key, key_at, key_cmp, placed}
 
 pub some_is : {X : Type 0} (x y : X) → Some x ≡ Some y → x ≡ y
 some_is x y e = cc
@@ -67,13 +67,13 @@ rest_done [] rest n at is = omega arith
 rest_done (y ∷ xs) rest zero at is = absurd (let f : y ∷ xs ≡ [] = sym at ∙ is in cc)
 rest_done (y ∷ xs) rest (suc n) at is = let h = rest_done xs rest n at is in omega (arith, h)
 
-module _ (p : Places) (spots : List (ObjId × ObjId)) (are : AreSpots p spots) where
+module _ (p : Places) (spots : List Spot) (are : AreSpots p spots) where
   -- a child's spot
-  spot_there : (q : ObjId) (s : Place) → p q ≡ Some s → Contains spots (s.parent, q)
-  spot_there q s stands = (are.each (s.parent, q)).1 (ap (option_map (λ x. x.parent)) stands)
+  spot_there : (q : ObjId) (s : Place) → p q ≡ Some s → Contains spots (new_spot q s)
+  spot_there q s stands = (are.each (new_spot q s)).1 (ap (option_map (new_spot q)) stands)
 
   -- a spot at this position is of an object that stands there
-  pub stands_at : (s : ObjId × ObjId) (parent : ObjId) (pos : Pos) → Contains spots s → s.0 ≡ parent → pos_at p s.1 ≡ Some pos → p s.1 ≡ Some (record { parent = parent; pos = pos })
+  pub stands_at : (s : Spot) (parent : ObjId) (pos : Pos) → Contains spots s → s.parent ≡ parent → pos_at p s.id ≡ Some pos → p s.id ≡ Some (record { parent = parent; pos = pos })
   stands_at s parent pos inside named at =
       let there = placed p spots are s inside in
       let same : Some there.0.pos ≡ Some pos = sym (ap (option_map (λ x. x.pos)) there.1) ∙ at in
@@ -81,38 +81,39 @@ module _ (p : Places) (spots : List (ObjId × ObjId)) (are : AreSpots p spots) w
       let parent_is : there.0.parent ≡ parent = there.2 ∙ named in
       there.1 ∙ (λ t. Some (record { parent = parent_is t; pos = pos_is t }))
 
-  module _ (parent : ObjId) (pos : Pos) (except : ObjId) (first n : ℕ) (cut : IsCut p parent pos root spots first) (from : first ≤ n) (passed : AllWithin (λ s. s.1 ≡ except) spots first n) where
+  module _ (parent : ObjId) (pos : Pos) (except : ObjId) (first n : ℕ) (cut : IsCut p parent pos root spots first) (from : first ≤ n) (passed : AllWithin (λ s. s.id ≡ except) spots first n) where
     -- none stands there, where the next spot is at another place
-    pub none_stands : ((d : ObjId × ObjId) → n < length spots → (get_or spots n d).0 ≡ parent → pos_at p (get_or spots n d).1 ≡ Some pos → ⊥) → (q : ObjId) → q ≢ except → p q ≡ Some (record { parent = parent; pos = pos }) → ⊥
+    pub none_stands : ((d : Spot) → n < length spots → (get_or spots n d).parent ≡ parent → pos_at p (get_or spots n d).id ≡ Some pos → ⊥) → (q : ObjId) → q ≢ except → p q ≡ Some (record { parent = parent; pos = pos }) → ⊥
     none_stands other q ne stands =
         let s : Place = record { parent = parent; pos = pos } in
+        let own_spot : Spot = new_spot q s in
         let there = spot_there q s stands in
-        let own : key p (parent, q) ≡ (parent, (pos, q)) = key_at p (parent, q) s stands in
-        let own_at : key p (get_or spots there.0 (parent, q)) ≡ (parent, (pos, q)) = ap (key p) there.2 ∙ own in
+        let own : key p own_spot ≡ (parent, (pos, q)) = key_at p own_spot s stands in
+        let own_at : key p (get_or spots there.0 own_spot) ≡ (parent, (pos, q)) = ap (key p) there.2 ∙ own in
         elim (cases_lt there.0 first) as (λ _. ⊥) [
           | inl before ↦
-              let less : key_cmp (parent, (pos, q)) (parent, (pos, root)) ≡ Less = subst (λ k. key_cmp k (parent, (pos, root)) ≡ Less) own_at (cut_below p spots are parent pos root first cut there.0 (parent, q) (omega arith) before) in
+              let less : key_cmp (parent, (pos, q)) (parent, (pos, root)) ≡ Less = subst (λ k. key_cmp k (parent, (pos, root)) ≡ Less) own_at (cut_below p spots are parent pos root first cut there.0 own_spot (omega arith) before) in
               let ids : id_cmp q root ≡ Less = then_third (id_cmp parent parent) (slice_cmp nat_cmp pos pos) (id_cmp q root) (tied_itself ids_total parent) (tied_itself nat_list_cmp_total pos) less in
               let f : true ≡ false = sym (ap is_lt ids) ∙ root_least q in cc
           | inr later ↦ elim (cases_lt there.0 n) as (λ _. ⊥) [
-            | inl within ↦ ne (sym (ap (λ (x : ObjId × ObjId). x.1) there.2) ∙ passed there.0 (parent, q) (omega arith) within)
+            | inl within ↦ ne (sym (ap (λ (x : Spot). x.id) there.2) ∙ passed there.0 own_spot (omega arith) within)
             | inr beyond ↦ elim (cases_lt n there.0) as (λ _. ⊥) [
               | inr not_after ↦
                   let same : there.0 ≡ n = omega arith in
-                  let here : get_or spots n (parent, q) ≡ (parent, q) = ap (λ k. get_or spots k (parent, q)) (sym same) ∙ there.2 in
-                  other (parent, q) (omega (arith, there.1)) (ap (λ (x : ObjId × ObjId). x.0) here) (ap (λ (x : ObjId × ObjId). pos_at p x.1) here ∙ ap (option_map (λ x. x.pos)) stands)
+                  let here : get_or spots n own_spot ≡ own_spot = ap (λ k. get_or spots k own_spot) (sym same) ∙ there.2 in
+                  other own_spot (omega (arith, there.1)) (ap (λ (x : Spot). x.parent) here) (ap (λ (x : Spot). pos_at p x.id) here ∙ ap (option_map (λ x. x.pos)) stands)
               | inl after ↦
-                  let d : ObjId × ObjId = (parent, q) in
-                  let less : key_cmp (key p (get_or spots n d)) (parent, (pos, q)) ≡ Less = subst (λ k. key_cmp (key p (get_or spots n (parent, q))) k ≡ Less) own_at (Less-from_sorted (spot_cmp p) spots n there.0 d are.in_order after there.1) in
+                  let d : Spot = own_spot in
+                  let less : key_cmp (key p (get_or spots n d)) (parent, (pos, q)) ≡ Less = subst (λ k. key_cmp (key p (get_or spots n own_spot)) k ≡ Less) own_at (Less-from_sorted (spot_cmp p) spots n there.0 d are.in_order after there.1) in
                   let not_less = cut_above p spots are parent pos root first cut n d from (omega (arith, there.1)) in
                   let x = get_or spots n d in
-                  let eqs = between (id_cmp x.0 parent) (slice_cmp nat_cmp (position_at p x.1) pos) (id_cmp x.1 q) less (id_cmp x.1 root) not_less in
+                  let eqs = between (id_cmp x.parent parent) (slice_cmp nat_cmp (position_at p x.id) pos) (id_cmp x.id q) less (id_cmp x.id root) not_less in
                   let lt : n < length spots = omega (arith, there.1) in
                   let inside : Contains spots x = (n, lt, get_or_default spots n x d lt) in
                   let placed_x = placed p spots are x inside in
-                  let pos_is : position_at p x.1 ≡ pos = slice_cmp-IsAntisymmetric nat_cmp-IsAntisymmetric (position_at p x.1) pos eqs.1 in
+                  let pos_is : position_at p x.id ≡ pos = slice_cmp-IsAntisymmetric nat_cmp-IsAntisymmetric (position_at p x.id) pos eqs.1 in
                   let pos_eq : placed_x.0.pos ≡ pos = sym (ap (λ (o : Option Place). option_map_or (λ (s : Place). s.pos) o []) placed_x.1) ∙ pos_is in
-                  other d lt (exact_ids x.0 parent eqs.0) (ap (option_map (λ (s : Place). s.pos)) placed_x.1 ∙ ap Some pos_eq)
+                  other d lt (exact_ids x.parent parent eqs.0) (ap (option_map (λ (s : Place). s.pos)) placed_x.1 ∙ ap Some pos_eq)
             ]
           ]
         ]

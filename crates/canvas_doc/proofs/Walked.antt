@@ -1,10 +1,10 @@
 -- The children of an object, as they are walked through the spots.
-use Rattle.std.proofs.Common.{◌≡◌, ◌≢◌, ◌⊎◌, inl, inr, ℕ, suc, zero, ◌+◌, ◌-◌, ◌<◌, ◌≤◌, Bool, true, false, List, [], ◌∷◌, ◌++◌, length, get_or, Option, Some, None, refl, sym, ap, subst, ◌∙◌, arith}
+use Rattle.std.proofs.Common.{◌≡◌, ◌≢◌, inl, inr, ℕ, suc, ◌+◌, ◌-◌, ◌<◌, ◌≤◌, false, List, [], ◌∷◌, ◌++◌, length, get_or, Some, refl, sym, ap, subst, ◌∙◌, arith}
 use Rattle.std.specs.List.{AllWithin, Contains}
 use Rattle.std.specs.List.Sorted.{IsNonDecreasingBy}
 use Rattle.std.specs.Option.{option_map}
 use Rattle.std.specs.Cmp.{IsTotalOrder}
-use Rattle.std.specs.Cmp.Lexicographic.{slice_cmp, nat_list_cmp_total}
+use Rattle.std.specs.Cmp.Lexicographic.{nat_list_cmp_total}
 use Rattle.std.specs.Ordering.{is_lt, ordering_index, ordering_reverse, ordering_then}
 use Rattle.std.specs.declared.cmp.Ordering.{Ordering}
 use Rattle.std.specs.declared.cmp.Ordering.TheVariants.{Less, Equal, Greater}
@@ -15,12 +15,13 @@ use Rattle.std.proofs.lemmas.List.Sorted.{searchable_from_sorted}
 use Rattle.std.proofs.lemmas.Map.Keys.{Less-from_sorted, sorted_from_all_adjacent}
 use Rattle.canvas_model.specs.declared.ObjId.{ObjId}
 use Rattle.canvas_model.specs.Ids.{id_cmp, root}
-use Rattle.canvas_model.specs.Document.{Doc, place_of}
+use Rattle.canvas_model.specs.Document.{Doc, Place, place_of}
 use Rattle.canvas_model.specs.Children.{AreChildren, child_cmp, position_of}
-use Rattle.canvas_doc.specs.Spots.{AreSpots, IsStart, spot_cmp}
+use Rattle.canvas_doc.specs.declared.spots.Spot.{Spot}
+use Rattle.canvas_doc.specs.Spots.{AreSpots, IsStart, new_spot, parent_at, spot_cmp}
 use Rattle.canvas_doc.proofs.Maps.{exact_ids, ids_total}
 use Rattle.canvas_doc.proofs.Edges.{highest, is_more}
-use Rattle.canvas_doc.proofs.Spotted.{lower_before, higher_after}
+use Rattle.canvas_doc.proofs.Spotted.{lower_before, higher_after, placed, standing}
 
 not_falling : (a b : ObjId) (c : Ordering) → ordering_then (id_cmp a b) c ≡ Less → is_lt (id_cmp b a) ≡ false
 not_falling a b c e =
@@ -35,43 +36,47 @@ second_less Less b e l = absurd (let f : Less ≡ Equal = e in cc)
 second_less Equal b e l = l
 second_less Greater b e l = absurd (let f : Greater ≡ Equal = e in cc)
 
+-- a spot to read lists with
+blank_spot : Spot
+blank_spot = new_spot root (record { parent = root; pos = [] })
+
 child_total : (d : Doc) → IsTotalOrder (child_cmp d)
 child_total d = then_total (on_total (position_of d) nat_list_cmp_total) ids_total
 
 -- the ids of the spots from `first` up to n
-pub record AreIds (spots : List (ObjId × ObjId)) (first n : ℕ) (ids : List ObjId) : Type 0 where
+pub record AreIds (spots : List Spot) (first n : ℕ) (ids : List ObjId) : Type 0 where
   pub long : first + length ids ≡ n
-  pub each : (k : ℕ) (r : ObjId) (s : ObjId × ObjId) → k < length ids → get_or ids k r ≡ (get_or spots (first + k) s).1
+  pub each : (k : ℕ) (r : ObjId) (s : Spot) → k < length ids → get_or ids k r ≡ (get_or spots (first + k) s).id
 
-pub ids_more : (spots : List (ObjId × ObjId)) (first n : ℕ) (ids more : List ObjId) (x : ObjId × ObjId) → AreIds spots first n ids → ((s : ObjId × ObjId) → get_or spots n s ≡ x) → more ≡ ids ++ x.1 ∷ [] → AreIds spots first (suc n) more
+pub ids_more : (spots : List Spot) (first n : ℕ) (ids more : List ObjId) (x : Spot) → AreIds spots first n ids → ((s : Spot) → get_or spots n s ≡ x) → more ≡ ids ++ x.id ∷ [] → AreIds spots first (suc n) more
 ids_more spots first n ids more x are at new =
-    let size : length more ≡ length ids + 1 = ap length new ∙ length_push ids x.1 in
+    let size : length more ≡ length ids + 1 = ap length new ∙ length_push ids x.id in
     record {
       long = omega (arith, are.long, size);
-      each = λ k r s lt. elim (cases_lt k (length ids)) as (λ _. get_or more k r ≡ (get_or spots (first + k) s).1) [
-        | inl before ↦ ap (λ l. get_or l k r) new ∙ get_or_append_left ids (x.1 ∷ []) r k before ∙ are.each k r s before
+      each = λ k r s lt. elim (cases_lt k (length ids)) as (λ _. get_or more k r ≡ (get_or spots (first + k) s).id) [
+        | inl before ↦ ap (λ l. get_or l k r) new ∙ get_or_append_left ids (x.id ∷ []) r k before ∙ are.each k r s before
         | inr not_before ↦
             let last : length ids ≡ k = omega (arith, size) in
             let there : n ≡ first + k = omega (arith, are.long, last) in
-            ap (λ l. get_or l k r) new ∙ get_or_push ids x.1 r k last ∙ sym (ap (λ (y : ObjId × ObjId). y.1) (at s)) ∙ ap (λ k. (get_or spots k s).1) there
+            ap (λ l. get_or l k r) new ∙ get_or_push ids x.id r k last ∙ sym (ap (λ (y : Spot). y.id) (at s)) ∙ ap (λ k. (get_or spots k s).id) there
       ];
     }
 
-module _ (d : Doc) (spots : List (ObjId × ObjId)) (are : AreSpots (place_of d) spots) (id : ObjId) (first : ℕ) (start : IsStart id spots first) where
-  pub start_rises : IsNonDecreasingBy (λ (s : ObjId × ObjId). ordering_index (id_cmp s.0 id)) spots
-  start_rises = searchable_from_sorted ids_total (λ (s : ObjId × ObjId). s.0) spots id (λ k e low lt. not_falling (get_or spots k e).0 (get_or spots (k + 1) e).0 _ (Less-from_sorted (spot_cmp (place_of d)) spots k (k + 1) e are.in_order (omega arith) lt))
+module _ (d : Doc) (spots : List Spot) (are : AreSpots (place_of d) spots) (id : ObjId) (first : ℕ) (start : IsStart id spots first) where
+  pub start_rises : IsNonDecreasingBy (λ (s : Spot). ordering_index (id_cmp s.parent id)) spots
+  start_rises = searchable_from_sorted ids_total (λ (s : Spot). s.parent) spots id (λ k e low lt. not_falling (get_or spots k e).parent (get_or spots (k + 1) e).parent _ (Less-from_sorted (spot_cmp (place_of d)) spots k (k + 1) e are.in_order (omega arith) lt))
 
   -- the spots before the start are under lesser parents, and none after it is
-  pub start_below : AllWithin (λ (s : ObjId × ObjId). id_cmp s.0 id ≡ Less) spots 0 first
-  start_below = lower_before (λ (s : ObjId × ObjId). id_cmp s.0 id) spots start_rises first start.within (λ e lt. start.before e lt)
+  pub start_below : AllWithin (λ (s : Spot). id_cmp s.parent id ≡ Less) spots 0 first
+  start_below = lower_before (λ (s : Spot). id_cmp s.parent id) spots start_rises first start.within (λ e lt. start.before e lt)
 
-  pub start_above : AllWithin (λ (s : ObjId × ObjId). is_lt (id_cmp s.0 id) ≡ false) spots first (length spots)
-  start_above = higher_after (λ (s : ObjId × ObjId). id_cmp s.0 id) spots start_rises first start.within (λ e lt. start.after e lt)
+  pub start_above : AllWithin (λ (s : Spot). is_lt (id_cmp s.parent id) ≡ false) spots first (length spots)
+  start_above = higher_after (λ (s : Spot). id_cmp s.parent id) spots start_rises first start.within (λ e lt. start.after e lt)
 
-module _ (d : Doc) (spots : List (ObjId × ObjId)) (are : AreSpots (place_of d) spots) (id : ObjId) (first n : ℕ) (start : IsStart id spots first) (from : first ≤ n) (within : n ≤ length spots)
-    (passed : AllWithin (λ s. s.0 ≡ id) spots first n) (ends : (s : ObjId × ObjId) → n < length spots → (get_or spots n s).0 ≢ id) (ids : List ObjId) (listed : AreIds spots first n ids) where
-  abbrev rank : ObjId × ObjId → Ordering
-  rank s = id_cmp s.0 id
+module _ (d : Doc) (spots : List Spot) (are : AreSpots (place_of d) spots) (id : ObjId) (first n : ℕ) (start : IsStart id spots first) (from : first ≤ n) (within : n ≤ length spots)
+    (passed : AllWithin (λ s. s.parent ≡ id) spots first n) (ends : (s : Spot) → n < length spots → (get_or spots n s).parent ≢ id) (ids : List ObjId) (listed : AreIds spots first n ids) where
+  abbrev rank : Spot → Ordering
+  rank s = id_cmp s.parent id
 
   rise : IsNonDecreasingBy (λ s. ordering_index (rank s)) spots
   rise = start_rises d spots are id first start
@@ -82,14 +87,13 @@ module _ (d : Doc) (spots : List (ObjId × ObjId)) (are : AreSpots (place_of d) 
   high : AllWithin (λ s. is_lt (rank s) ≡ false) spots first (length spots)
   high = start_above d spots are id first start
 
-  own : (s : ObjId × ObjId) → s.0 ≡ id → rank s ≡ Equal
+  own : (s : Spot) → s.parent ≡ id → rank s ≡ Equal
   own s e = subst (λ x. id_cmp x id ≡ Equal) (sym e) (tied_itself ids_total id)
 
   -- a child's spot is among those
-  among : (q : ObjId) (there : Contains spots (id, q)) → (first ≤ there.0) × (there.0 < n)
-  among q there =
-      let s : ObjId × ObjId = (id, q) in
-      let equal : rank (get_or spots there.0 s) ≡ Equal = own (get_or spots there.0 s) (ap (λ (x : ObjId × ObjId). x.0) there.2) in (
+  among : (s : Spot) → s.parent ≡ id → (there : Contains spots s) → (first ≤ there.0) × (there.0 < n)
+  among s under there =
+      let equal : rank (get_or spots there.0 s) ≡ Equal = own (get_or spots there.0 s) (ap (λ (x : Spot). x.parent) there.2 ∙ under) in (
         elim (cases_lt there.0 first) as (λ _. first ≤ there.0) [
           | inl before ↦ absurd (let less = low there.0 s (omega arith) before in let f : Less ≡ Equal = sym less ∙ equal in cc)
           | inr later ↦ omega arith
@@ -98,7 +102,7 @@ module _ (d : Doc) (spots : List (ObjId × ObjId)) (are : AreSpots (place_of d) 
           | inl before ↦ before
           | inr later ↦ absurd (
               let lt : n < length spots = omega (arith, there.1) in
-              let more : rank (get_or spots n s) ≡ Greater = is_more (rank (get_or spots n s)) (sym (high n s from lt)) (λ tied. ends s lt (exact_ids (get_or spots n s).0 id tied)) in
+              let more : rank (get_or spots n s) ≡ Greater = is_more (rank (get_or spots n s)) (sym (high n s from lt)) (λ tied. ends s lt (exact_ids (get_or spots n s).parent id tied)) in
               let up = rise n there.0 s (omega arith) there.1 in
               let two : ordering_index (rank (get_or spots n s)) ≡ 2 = ap ordering_index more in
               let top = highest (rank (get_or spots there.0 s)) (omega (arith, up, two)) in
@@ -109,31 +113,34 @@ module _ (d : Doc) (spots : List (ObjId × ObjId)) (are : AreSpots (place_of d) 
   pub children_are : AreChildren d id ids
   children_are = record {
     in_order = sorted_from_all_adjacent (child_total d) ids root (λ k lt.
-        let s : ObjId × ObjId = (root, root) in
+        let s : Spot = blank_spot in
         let x = get_or spots (first + k) s in
         let y = get_or spots (first + (k + 1)) s in
         let next : first + (k + 1) ≡ first + k + 1 = omega arith in
         let less = Less-from_sorted (spot_cmp (place_of d)) spots (first + k) (first + (k + 1)) s are.in_order (omega arith) (omega (arith, listed.long)) in
-        let xp : x.0 ≡ id = passed (first + k) s (omega arith) (omega (arith, listed.long)) in
-        let yp : y.0 ≡ id = passed (first + (k + 1)) s (omega arith) (omega (arith, listed.long)) in
-        let tied : id_cmp x.0 y.0 ≡ Equal = (λ t. id_cmp (xp t) (yp t)) ∙ tied_itself ids_total id in
+        let xp : x.parent ≡ id = passed (first + k) s (omega arith) (omega (arith, listed.long)) in
+        let yp : y.parent ≡ id = passed (first + (k + 1)) s (omega arith) (omega (arith, listed.long)) in
+        let tied : id_cmp x.parent y.parent ≡ Equal = (λ t. id_cmp (xp t) (yp t)) ∙ tied_itself ids_total id in
         let xi = listed.each k root s (omega arith) in
         let yi = listed.each (k + 1) root s lt in
-        (λ t. child_cmp d (xi t) (yi t)) ∙ second_less (id_cmp x.0 y.0) (child_cmp d x.1 y.1) tied less);
+        (λ t. child_cmp d (xi t) (yi t)) ∙ second_less (id_cmp x.parent y.parent) (child_cmp d x.id y.id) tied less);
     each = λ q. (
       (λ inside.
-          let s : ObjId × ObjId = (id, q) in
+          let s : Spot = blank_spot in
           let lt : first + inside.0 < length spots = omega (arith, listed.long, inside.1) in
           let x = get_or spots (first + inside.0) s in
-          let xp : x.0 ≡ id = passed (first + inside.0) s (omega arith) (omega (arith, listed.long, inside.1)) in
-          let xi : x.1 ≡ q = sym (listed.each inside.0 q s inside.1) ∙ inside.2 in
-          (are.each (id, q)).0 (first + inside.0, lt, λ t. (xp t, xi t))),
+          let xp : x.parent ≡ id = passed (first + inside.0) s (omega arith) (omega (arith, listed.long, inside.1)) in
+          let xi : x.id ≡ q = sym (listed.each inside.0 q s inside.1) ∙ inside.2 in
+          let there = placed (place_of d) spots are x (first + inside.0, lt, get_or_default spots (first + inside.0) x s lt) in
+          ap (parent_at (place_of d)) (sym xi) ∙ ap (option_map (λ (y : Place). y.parent)) there.1 ∙ ap Some (there.2 ∙ xp)),
       (λ child.
-          let there = (are.each (id, q)).1 child in
-          let place = among q there in
+          let stands = standing (place_of d) q id child in
+          let s : Spot = new_spot q stands.0 in
+          let there = (are.each s).1 (ap (option_map (new_spot q)) stands.1) in
+          let place = among s stands.2 there in
           let k = there.0 - first in
           let at : first + k ≡ there.0 = omega (arith, place.0) in
           let lk : k < length ids = omega (arith, listed.long, place.0, place.1) in
-          (k, lk, listed.each k q (id, q) lk ∙ ap (λ j. (get_or spots j (id, q)).1) at ∙ ap (λ (x : ObjId × ObjId). x.1) there.2)),
+          (k, lk, listed.each k q s lk ∙ ap (λ j. (get_or spots j s).id) at ∙ ap (λ (x : Spot). x.id) there.2)),
     );
   }

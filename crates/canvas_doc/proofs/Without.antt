@@ -1,14 +1,13 @@
 -- Documents of which one object after another was removed.
-use Rattle.std.proofs.Common.{◌≡◌, ℕ, ◌+◌, ◌<◌, Bool, true, false, cond, ◌||◌, List, [], ◌∷◌, ◌++◌, length, get_or, take, None, Option, refl, sym, ap, ◌∙◌}
+use Rattle.std.proofs.Common.{◌≡◌, ℕ, ◌+◌, ◌<◌, Bool, true, false, cond, ◌||◌, List, [], ◌∷◌, length, get_or, take, None, refl, sym, ap, ◌∙◌}
 use Rattle.std.specs.Prelude.{not}
 use Rattle.std.specs.List.{list_any}
-use Rattle.std.specs.Cmp.{eq_by_cmp_equiv}
 use Rattle.std.specs.FinMap as map
 use Rattle.std.proofs.lemmas.List.{take_more}
 use Rattle.std.proofs.lemmas.List.Folds.{list_any-append}
 use Rattle.canvas_model.specs.declared.ObjId.{ObjId}
 use Rattle.canvas_model.specs.Ids.{id_cmp, same_id}
-use Rattle.canvas_model.specs.Document.{Doc, Object, without}
+use Rattle.canvas_model.specs.Document.{Doc, without}
 use Rattle.canvas_doc.specs.Sorted.{is_other}
 use Rattle.canvas_doc.proofs.Maps.{exact_ids, ids_total}
 use Rattle.canvas_doc.proofs.Kept.{get_removed}

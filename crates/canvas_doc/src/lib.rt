@@ -37,13 +37,14 @@ pub use place::Place;
 use place::know_id;
 use rows::{Rows, copy_rows, gap_of, object_of, row_of, rows_and_spots, same_rows};
 use sorted::is_sorted;
-use spots::{Spots, copy_spots, cut, first_of, ids_under, next_from, spot_of, stands_there};
+use spots::{Spot, Spots, copy_spots, cut, first_of, ids_under, next_from, spot_of, stands_there};
 
 /// A document: its live objects by their ids. The root, `ObjId::ROOT`, is always live, a `Document` without a place;
 /// every other live object has a place, whose parent may be any id.
 ///
-/// The objects stand in blocks in id order, and beside them their spots in the order of parents, positions and ids: what is asked
-/// of one object or of one place takes the logarithm of their number, and what adds, moves or removes one moves a block at most.
+/// The objects stand in blocks in id order, and beside them their spots in the order of parents, positions and ids, each with the
+/// first digits of its position: what is asked of one object or of one place takes the logarithm of their number, and what adds,
+/// moves or removes one moves a block at most.
 #[derive(Debug, Drop)]
 pub struct Doc<A: Allocator = Global> {
     rows: Rows<A>,
@@ -90,12 +91,12 @@ impl<A: Allocator + Copy> Doc<A> {
         ensures err { OnErr result (self.new ≡ self.old) }
     {
         let alloc = self.rows.allocator();
-        let parent = place.parent;
-        let spot = cut(&self.rows, &self.spots, parent, &place.pos, id);
+        let spot = Spot::new(id, &place);
+        let at = cut(&self.rows, &self.spots, place.parent, &place.pos, id);
         let row = gap_of(&self.rows, id);
         self.rows
             .insert(row, (id, Object::new(alloc, kind, Some(place))))?;
-        if self.spots.insert(spot, (parent, id)).is_err() {
+        if self.spots.insert(at, spot).is_err() {
             self.rows.remove(row);
             return Err(AllocError);
         }
@@ -126,7 +127,7 @@ impl<A: Allocator + Copy> Doc<A> {
             let to = cut(&self.rows, &self.spots, place.parent, &place.pos, id);
             let from = spot_of(&self.rows, &self.spots, id);
             let to = if from < to { to - 1 } else { to };
-            self.spots.move_to(from, to, (place.parent, id));
+            self.spots.move_to(from, to, Spot::new(id, &place));
             let bare = Object::new(self.rows.allocator(), Kind::Document, None);
             let mut object = self.rows.replace(row, (id, bare)).1;
             object.put_place(place);
@@ -244,7 +245,7 @@ impl<A: Allocator> Doc<A> {
             if !stands_there(&self.rows, spot, parent, pos) {
                 return false;
             }
-            if spot.1 != except {
+            if spot.id != except {
                 return true;
             }
         }

@@ -1,14 +1,15 @@
 // The live objects in the order of their ids.
-ghost use Rattle.std.specs.Prelude.{◌≡◌, ◌↔◌, ◌++◌, ◌∷◌, [], false, IsTrue, IfOk, IfErr, OnOk, Some, T};
+ghost use Rattle.std.specs.Prelude.{All, ◌≡◌, ◌↔◌, ◌++◌, ◌∷◌, [], false, IsTrue, IfOk, IfErr, OnOk, Some, T};
 ghost use Rattle.std.specs.Option.{option_copied};
 ghost use Rattle.std.specs.FinMap as map;
 ghost use Rattle.canvas_model.specs.Document.{live, place_of};
 ghost use Rattle.canvas_model.specs.Ids.{id_cmp};
+ghost use Rattle.canvas_doc.specs.Known.{IsRow};
 ghost use Rattle.canvas_doc.specs.Sorted.{IsPairAt, IsGapAt};
 ghost use Rattle.canvas_doc.specs.Spots.{AreSpots, is_lesser};
 
 use crate::object::same_object;
-use crate::spots::{Spots, cut};
+use crate::spots::{Spot, Spots, cut};
 use crate::{ObjId, Object};
 use canvas_blocks::BlockList;
 use std::alloc::{AllocError, Allocator};
@@ -61,7 +62,8 @@ pub fn object_of<A: Allocator>(rows: &Rows<A>, id: ObjId) -> Option<&Object<A>>
 pub fn rows_and_spots<A: Allocator + Copy>(
     objects: Vec<(ObjId, Object<A>), A>,
 ) -> Result<(Rows<A>, Spots<A>), AllocError>
-    requires { T (map.is_sorted id_cmp objects.items) }
+    requires sorted { T (map.is_sorted id_cmp objects.items) }
+    requires known { All IsRow objects.items }
     ensures rows { IfOk result (λ both. both.0 ≡ objects.items) }
     ensures spots { IfOk result (λ both. AreSpots (place_of (map.from_sorted objects.items)) both.1) }
 {
@@ -83,6 +85,7 @@ fn append<A: Allocator + Copy>(
     object: Object<A>,
 ) -> Result<(), AllocError>
     requires sorted { T (map.is_sorted id_cmp (rows.old ++ (id, object) ∷ [])) }
+    requires known { All IsRow rows.old }
     requires spots { AreSpots (place_of (map.from_sorted rows.old)) spots.old }
     ensures rows { OnOk result (rows.new ≡ rows.old ++ (id, object) ∷ []) }
     ensures spots { OnOk result (AreSpots (place_of (map.from_sorted (rows.old ++ (id, object) ∷ []))) spots.new) }
@@ -99,13 +102,14 @@ fn append_spot<A: Allocator + Copy>(
     object: &Object<A>,
 ) -> Result<(), AllocError>
     requires sorted { T (map.is_sorted id_cmp (rows.now ++ (id, object.now) ∷ [])) }
+    requires known { All IsRow rows.now }
     requires spots { AreSpots (place_of (map.from_sorted rows.now)) spots.old }
     ensures { OnOk result (AreSpots (place_of (map.from_sorted (rows.now ++ (id, object.now) ∷ []))) spots.new) }
 {
     match object.place() {
         Some(place) => {
-            let spot = cut(rows, spots, place.parent, &place.pos, id);
-            spots.insert(spot, (place.parent, id))
+            let at = cut(rows, spots, place.parent, &place.pos, id);
+            spots.insert(at, Spot::new(id, place))
         }
         None => Ok(()),
     }

@@ -1,4 +1,5 @@
-// The objects that stand somewhere, in the order of their parents, positions and ids: of each its spot, a parent and an id.
+// The objects that stand somewhere, in the order of their parents, positions and ids: of each its spot. It has the first digits of
+// the position, so that most comparisons of two spots needn't look a position up.
 ghost use Rattle.std.specs.Prelude.{◌≡◌, ◌↔◌, ◌<◌, IsTrue, IfOk, Some, T, length, slice_index_or};
 ghost use Rattle.std.specs.Option.{option_copied};
 ghost use Rattle.std.specs.FinMap as map;
@@ -7,17 +8,41 @@ ghost use Rattle.canvas_model.specs.Children.{AreChildren};
 ghost use Rattle.canvas_model.specs.Document.{place_of};
 ghost use Rattle.canvas_model.specs.Order.{IsAfter};
 ghost use Rattle.canvas_model.specs.Sibling.{IsNext};
-ghost use Rattle.canvas_doc.specs.Spots.{AreSpots, IsCut, IsFirst, IsStart, is_before, is_lesser, is_lower, parent_at, pos_at};
+ghost use Rattle.canvas_pos.specs.Digits.{first_digits};
+ghost use Rattle.canvas_doc.specs.Known.{HasObjects};
+ghost use Rattle.canvas_doc.specs.Spots.{AreSpots, IsCut, IsFirst, IsStart, is_before, is_lesser, is_lower, new_spot, parent_at, pos_at, spot_at};
 
 use crate::ObjId;
+use crate::place::Place;
 use crate::rows::{Rows, object_of};
 use canvas_blocks::BlockList;
-use canvas_pos::Pos;
+use canvas_pos::{Pos, digit_order};
 use std::alloc::{AllocError, Allocator};
 use std::cmp::Ordering;
 
-/// Of each object that stands somewhere its parent and its id.
-pub type Spots<A> = BlockList<(ObjId, ObjId), A>;
+/// An object that stands somewhere: its parent, the first digits of its position, and its id.
+#[derive(Clone, Copy, Debug)]
+pub struct Spot {
+    pub parent: ObjId,
+    pub digits: u64,
+    pub id: ObjId,
+}
+
+/// The spots of all objects that stand somewhere.
+pub type Spots<A> = BlockList<Spot, A>;
+
+impl Spot {
+    /// The spot of an object at this place.
+    pub fn new<A: Allocator>(id: ObjId, place: &Place<A>) -> Spot
+        ensures { result ≡ new_spot id place.now }
+    {
+        Spot {
+            parent: place.parent,
+            digits: place.pos.first_digits(),
+            id,
+        }
+    }
+}
 
 /// The position of the object, if it is live and has one.
 pub fn pos_of<A: Allocator>(rows: &Rows<A>, id: ObjId) -> Option<&Pos<A>>
@@ -36,13 +61,18 @@ pub fn cut<A: Allocator, B: Allocator>(
     pos: &Pos<B>,
     id: ObjId,
 ) -> usize
-    requires { T (map.is_sorted id_cmp rows.now) }
+    requires sorted { T (map.is_sorted id_cmp rows.now) }
+    requires known { HasObjects (map.from_sorted rows.now) }
+    requires spots { AreSpots (place_of (map.from_sorted rows.now)) spots.now }
     ensures { IsCut (place_of (map.from_sorted rows.now)) parent pos.now id spots.now result }
 {
+    let digits = pos.first_digits();
     spots.edge(
-        |spot: &(ObjId, ObjId)| -> bool
-            ensures { T (map.is_sorted id_cmp rows.entry.now) → result ≡ is_before (place_of (map.from_sorted rows.entry.now)) parent pos.entry.now id spot.now }
-        { stands_before(rows, spot, parent, pos, id) },
+        |spot: &Spot| -> bool
+            ensures { T (map.is_sorted id_cmp rows.entry.now) → HasObjects (map.from_sorted rows.entry.now) → digits ≡ first_digits pos.entry.now
+                → spot_at (place_of (map.from_sorted rows.entry.now)) spot.now.id ≡ Some spot.now
+                → result ≡ is_before (place_of (map.from_sorted rows.entry.now)) parent pos.entry.now id spot.now }
+        { stands_before(rows, spot, parent, digits, pos, id) },
     )
 }
 
@@ -51,25 +81,31 @@ pub fn start<A: Allocator>(spots: &Spots<A>, parent: ObjId) -> usize
     ensures { IsStart parent spots.now result }
 {
     spots.edge(
-        |spot: &(ObjId, ObjId)| -> bool
-            ensures { result ≡ is_lesser parent spot.now.0 }
-        { spot.0 < parent },
+        |spot: &Spot| -> bool
+            ensures { result ≡ is_lesser parent spot.now.parent }
+        { spot.parent < parent },
     )
 }
 
-// Whether a spot stands before this one.
+// Whether an object's spot stands before the one of this parent, position and id; `digits` are the position's first ones. The
+// object's own position is looked up only where the digits are the same.
 fn stands_before<A: Allocator, B: Allocator>(
     rows: &Rows<A>,
-    spot: &(ObjId, ObjId),
+    spot: &Spot,
     parent: ObjId,
+    digits: u64,
     pos: &Pos<B>,
     id: ObjId,
 ) -> bool
-    ensures { T (map.is_sorted id_cmp rows.now) → result ≡ is_before (place_of (map.from_sorted rows.now)) parent pos.now id spot.now }
+    ensures { T (map.is_sorted id_cmp rows.now) → HasObjects (map.from_sorted rows.now) → digits ≡ first_digits pos.now
+        → spot_at (place_of (map.from_sorted rows.now)) spot.now.id ≡ Some spot.now
+        → result ≡ is_before (place_of (map.from_sorted rows.now)) parent pos.now id spot.now }
 {
-    match spot.0.cmp(&parent) {
+    digit_order();
+    let _pos = pos.bytes();
+    match spot.parent.cmp(&parent).then(spot.digits.cmp(&digits)) {
         Ordering::Less => true,
-        Ordering::Equal => stands_lower(pos_of(rows, spot.1), spot.1, pos, id),
+        Ordering::Equal => stands_lower(pos_of(rows, spot.id), spot.id, pos, id),
         Ordering::Greater => false,
     }
 }
@@ -97,9 +133,10 @@ fn stands_lower<A: Allocator, B: Allocator>(
 pub fn spot_of<A: Allocator>(rows: &Rows<A>, spots: &Spots<A>, id: ObjId) -> usize
     requires sorted { T (map.is_sorted id_cmp rows.now) }
     requires spots { AreSpots (place_of (map.from_sorted rows.now)) spots.now }
+    requires known { HasObjects (map.from_sorted rows.now) }
     requires stands { (parent : _) × (parent_at (place_of (map.from_sorted rows.now)) id ≡ Some parent) }
     ensures bound { result < length spots.now }
-    ensures spot { (d : _) → (slice_index_or spots.now result d).1 ≡ id }
+    ensures spot { (d : _) → (slice_index_or spots.now result d).id ≡ id }
 {
     match object_of(rows, id) {
         Some(object) => match object.place() {
@@ -113,16 +150,16 @@ pub fn spot_of<A: Allocator>(rows: &Rows<A>, spots: &Spots<A>, id: ObjId) -> usi
 /// Whether the spot is under this parent at this position.
 pub fn stands_there<A: Allocator, B: Allocator>(
     rows: &Rows<A>,
-    spot: &(ObjId, ObjId),
+    spot: &Spot,
     parent: ObjId,
     pos: &Pos<B>,
 ) -> bool
-    ensures { T (map.is_sorted id_cmp rows.now) → IsTrue result ↔ (spot.now.0 ≡ parent) × (pos_at (place_of (map.from_sorted rows.now)) spot.now.1 ≡ Some pos.now) }
+    ensures { T (map.is_sorted id_cmp rows.now) → IsTrue result ↔ (spot.now.parent ≡ parent) × (pos_at (place_of (map.from_sorted rows.now)) spot.now.id ≡ Some pos.now) }
 {
-    if spot.0 != parent {
+    if spot.parent != parent {
         return false;
     }
-    match pos_of(rows, spot.1) {
+    match pos_of(rows, spot.id) {
         Some(other) => other.same(pos),
         None => false,
     }
@@ -135,7 +172,9 @@ pub fn first_of<A: Allocator, B: Allocator>(
     parent: ObjId,
     after: Option<&Pos<B>>,
 ) -> usize
-    requires { T (map.is_sorted id_cmp rows.now) }
+    requires sorted { T (map.is_sorted id_cmp rows.now) }
+    requires known { HasObjects (map.from_sorted rows.now) }
+    requires spots { AreSpots (place_of (map.from_sorted rows.now)) spots.now }
     ensures { IsFirst (place_of (map.from_sorted rows.now)) parent (option_copied after.entry) spots.now result }
 {
     match after {
@@ -160,11 +199,11 @@ pub fn next_from<'a, A: Allocator, B: Allocator>(
 {
     let mut rest = spots.iter_from(first);
     while let Some(spot) = rest.next() {
-        if spot.0 != parent {
+        if spot.parent != parent {
             return None;
         }
-        if spot.1 != except {
-            let pos = pos_of(rows, spot.1)?;
+        if spot.id != except {
+            let pos = pos_of(rows, spot.id)?;
             if is_after(pos, after) {
                 return Some(pos);
             }
@@ -195,10 +234,10 @@ pub fn ids_under<A: Allocator, B: Allocator>(
     let first = start(spots, parent);
     let mut rest = spots.iter_from(first);
     while let Some(spot) = rest.next() {
-        if spot.0 != parent {
+        if spot.parent != parent {
             return Ok(ids);
         }
-        ids.push(spot.1)?;
+        ids.push(spot.id)?;
     }
     Ok(ids)
 }

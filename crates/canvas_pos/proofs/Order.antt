@@ -1,6 +1,7 @@
 -- The order of the bytes of positions is that of their fractions.
-use Rattle.std.proofs.Common.{◌≡◌, ◌≢◌, ◌↔◌, Option, Some, None, ℕ, zero, suc, ◌+◌, ◌-◌, ◌*◌, ◌^◌, ◌<◌, ◌≤◌, max, List, [], ◌∷◌, length, get_or, refl, ap, sym, subst, ◌∙◌, arith, All}
+use Rattle.std.proofs.Common.{◌≡◌, ◌≢◌, ◌↔◌, Option, Some, None, ℕ, zero, suc, ◌+◌, ◌-◌, ◌*◌, ◌^◌, ◌<◌, ◌≤◌, max, List, [], ◌∷◌, length, get_or, drop, inl, inr, refl, ap, sym, subst, ◌∙◌, arith, All}
 use Rattle.std.proofs.Math.Nat.{mul-le-mul_right}
+use Rattle.std.proofs.lemmas.Bool.{cases_lt}
 use Rattle.std.specs.declared.cmp.Ordering.{Ordering}
 use Rattle.std.specs.declared.cmp.Ordering.TheVariants.{Less, Equal, Greater}
 use Rattle.std.specs.Ordering.{MatchOrdering, nat_cmp, ordering_then}
@@ -10,8 +11,8 @@ use Rattle.canvas_model.specs.Position.{IsDigitByte, IsPosition, IsSmaller, num}
 use Rattle.canvas_model.specs.Middle.{AreInOrder, IsInside}
 use Rattle.canvas_model.specs.Order.{IsBefore, IsAfter, IsUnder, AreApart, FitsBetween}
 use Rattle.canvas_pos.specs.Ends.{IsEnd}
-use Rattle.canvas_pos.proofs.Numbers.{num-cons, num-empty, num-below, digits-tail}
-use Rattle.canvas_pos.proofs.EndsLemmas.{num-pos, power-pos}
+use Rattle.canvas_pos.proofs.Numbers.{num-add, num-cons, num-empty, num-below, num-past, digits-tail}
+use Rattle.canvas_pos.proofs.EndsLemmas.{digits-drop, num-pos, power-pos}
 use Rattle.canvas_pos.proofs.Products.{less-trans-fraction}
 use Rattle.canvas_pos.proofs.Gaps.{smaller-less, less-smaller}
 
@@ -116,3 +117,29 @@ fits-inside lo hi p e f = (
   λ h. record { position = h.0; after = (after-above lo p e h.0).0 h.1; before = (under-below p hi h.0 f).0 h.2 },
   λ h. (h.position, (after-above lo p e h.position).1 h.after, (under-below p hi h.position f).1 h.before),
 )
+
+-- the first n digits decide the order, where they aren't the same
+pub digits_decide : (n : ℕ) (s t : List ℕ) → IsPosition s → IsPosition t → num s n < num t n → IsBefore s t
+digits_decide n s t p q h = cmp-from_smaller s t p q (go (max (length s) (length t)) (omega arith) (omega arith))
+  where
+    go : (m : ℕ) → length s ≤ m → length t ≤ m → num s m < num t m
+    go m ls lt = elim (cases_lt m n) as (λ _. num s m < num t m) [
+      | inl more ↦ elim (cases_lt (num s m) (num t m)) as (λ _. num s m < num t m) [
+        | inl less ↦ less
+        | inr not_less ↦
+            let k = n - m in
+            let at : n ≡ m + k = omega arith in
+            let left : num s n ≡ num s m * 95 ^ k = ap (num s) at ∙ num-past s m k ls in
+            let right : num t n ≡ num t m * 95 ^ k = ap (num t) at ∙ num-past t m k lt in
+            let over : num t m * 95 ^ k ≤ num s m * 95 ^ k = mul-le-mul_right (95 ^ k) (omega arith) in
+            absurd (omega (arith, left, right, over, h))
+      ]
+      | inr not_more ↦
+          let k = m - n in
+          let at : m ≡ n + k = omega arith in
+          let left : num s m ≡ num s n * 95 ^ k + num (drop n s) k = ap (num s) at ∙ num-add s n k in
+          let right : num t m ≡ num t n * 95 ^ k + num (drop n t) k = ap (num t) at ∙ num-add t n k in
+          let rest : num (drop n s) k < 95 ^ k = num-below (drop n s) k (digits-drop n s p.digits) in
+          let over : (num s n + 1) * 95 ^ k ≤ num t n * 95 ^ k = mul-le-mul_right (95 ^ k) (omega arith) in
+          omega (arith, left, right, rest, over)
+    ]

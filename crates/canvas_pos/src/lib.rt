@@ -22,6 +22,7 @@ ghost use Rattle.std.proofs.Common.{rules};
 ghost use Rattle.canvas_model.specs.Position.{digit, num, IsDigitByte, IsPosition};
 ghost use Rattle.canvas_model.specs.Middle.{AreInOrder, IsShut, Middle};
 ghost use Rattle.canvas_model.specs.Order.{AreApart, FitsBetween};
+ghost use Rattle.canvas_pos.specs.Digits.{first_digits, FirstDigitsDecide};
 ghost use Rattle.canvas_pos.specs.Ends.{IsEnd, greatest_before, least_after, Opens};
 ghost use Rattle.canvas_pos.specs.Fault.{IsFault};
 ghost use Rattle.canvas_pos.specs.Laws.{ComparesAsFractions, IsOnlyMiddle, NoneFits};
@@ -155,6 +156,20 @@ impl<A: Allocator> Pos<A> {
     {
         self.bytes().cmp(other.bytes())
     }
+
+    /// The number that the first nine digits are, where 0 stands for a digit that is missing. Of
+    /// two positions the one with the lesser number is the smaller; two with the same number have
+    /// to be compared.
+    pub fn first_digits(&self) -> u64
+        ensures { result ≡ first_digits self.now }
+    {
+        let bytes = self.bytes();
+        let mut number = 0;
+        for i in 0..9 {
+            number = 95 * number + u64::from(digit(bytes, i));
+        }
+        number
+    }
 }
 
 impl<A: Allocator> PartialEq for Pos<A> {
@@ -237,6 +252,12 @@ pub fn byte_order()
     ensures apart { ApartIffInOrder }
     ensures fits { FitsIffInside }
     ensures transitive { SmallerIsTransitive }
+{}
+
+/// The law of the first digits: where those of two positions differ, they decide the order. It does
+/// nothing when it runs: call it where a proof needs the law.
+pub fn digit_order()
+    ensures { FirstDigitsDecide }
 {}
 
 /// The laws of the middle between two ends: it is a position strictly between them, the only

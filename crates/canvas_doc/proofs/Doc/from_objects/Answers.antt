@@ -7,8 +7,11 @@ use Rattle.canvas_doc.specs.Spots.{AreSpots}
 use Rattle.canvas_doc.proofs.Known.{rows_found}
 use Rattle.canvas_doc.proofs.Doc.from_objects.Goals as goal
 
-pub rows_and_spots-requires : goal.rows_and_spots-requires
-rows_and_spots-requires g c = subst (λ es. T (map.is_sorted id_cmp es)) c.deref.ensures.value (c.is_document.ensures.0 c.if-not-is_document.false).sorted
+pub rows_and_spots-requires-clause-known : goal.rows_and_spots-requires-clause-known
+rows_and_spots-requires-clause-known g c = subst (All IsRow) c.deref-2.ensures.value c.know_rows.ensures
+
+pub rows_and_spots-requires-clause-sorted : goal.rows_and_spots-requires-clause-sorted
+rows_and_spots-requires-clause-sorted g c = subst (λ es. T (map.is_sorted id_cmp es)) c.deref.ensures.value (c.is_document.ensures.0 c.if-not-is_document.false).sorted
 
 pub returns-clause-some : goal.returns-clause-some
 returns-clause-some g c = ap map.from_sorted c.in_ok-rows.ensures.rows

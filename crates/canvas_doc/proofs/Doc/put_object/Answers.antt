@@ -6,7 +6,7 @@ use Rattle.canvas_model.specs.Ids.{id_cmp}
 use Rattle.canvas_model.specs.Document.{IsDocument, Place, live, new_object, place_of}
 use Rattle.canvas_model.proofs.Ids.{dead_none}
 use Rattle.canvas_doc.specs.Known.{HasObjects, IsObject}
-use Rattle.canvas_doc.specs.Spots.{AreSpots}
+use Rattle.canvas_doc.specs.Spots.{AreSpots, new_spot}
 use Rattle.canvas_doc.proofs.Known.{row_put}
 use Rattle.canvas_doc.proofs.Rooted.{more_sorted, more_inserted, more_document}
 use Rattle.canvas_doc.proofs.Placing.{put_spots, taken_back}
@@ -37,14 +37,16 @@ returns-then-is_err-clause-err g c =
 
 pub invariant_of-self-else-is_err : goal.invariant_of-self-else-is_err
 invariant_of-self-else-is_err g c =
-    let spots : c.insert-2.new.self ≡ insert c.self.inside.spots c.cut-spot.result (c.place.inside.parent, c.args.id) = search rules in
+    let added : c.insert-2.new.self ≡ insert c.self.inside.spots c.cut-at.result c.new-spot.result = search rules in
+    let spots : c.insert-2.new.self ≡ insert c.self.inside.spots c.cut-at.result (new_spot c.args.id (record { parent = c.place.inside.parent; pos = c.place.inside.pos })) =
+    added ∙ ap (insert c.self.inside.spots c.cut-at.result) (c.new-spot.ensures ∙ ap (new_spot c.args.id) (sym c.place.view_is)) in
     record {
       sorted = more_sorted c.self.inside.rows c.insert.new.self c.args.self.now c.args.id c.args.kind c.args.place c.new.result c.self.invariant.sorted c.self.view_is c.new.ensures.object (c.in_ok-insert.ensures.ok ∙ c.gap_of-row.ensures.put_there c.new.result);
       document = more_document c.self.inside.rows c.insert.new.self c.args.self.now c.args.id c.args.kind c.args.place c.new.result c.self.invariant.sorted c.self.view_is c.new.ensures.object (c.in_ok-insert.ensures.ok ∙ c.gap_of-row.ensures.put_there c.new.result) (subst IsDocument c.self.view_is c.self.invariant.document) (dead_none _ _ c.requires);
       known = subst HasObjects (sym (more_inserted c.self.inside.rows c.insert.new.self c.args.self.now c.args.id c.args.kind c.args.place c.new.result c.self.invariant.sorted c.self.view_is c.new.ensures.object (c.in_ok-insert.ensures.ok ∙ c.gap_of-row.ensures.put_there c.new.result)))
           (row_put c.args.self.now c.args.id (new_object c.args.kind (Some c.args.place)) (subst HasObjects c.self.view_is c.self.invariant.known) (omega arith, omega arith) (subst IsObject c.new.ensures.object c.new.ensures.known));
       spots = subst (AreSpots (place_of (map.from_sorted c.insert.new.self))) (sym spots)
-          (put_spots c.self.inside.rows c.insert.new.self c.args.self.now c.args.id c.args.kind (record { parent = c.place.inside.parent; pos = c.place.inside.pos }) c.new.result c.self.invariant.sorted c.self.view_is (c.new.ensures.object ∙ ap (λ (s : Place). new_object c.args.kind (Some s)) (sym c.place.view_is)) (c.in_ok-insert.ensures.ok ∙ c.gap_of-row.ensures.put_there c.new.result) (dead_none _ _ c.requires) c.self.inside.spots c.self.invariant.spots c.cut-spot.result c.cut-spot.ensures);
+          (put_spots c.self.inside.rows c.insert.new.self c.args.self.now c.args.id c.args.kind (record { parent = c.place.inside.parent; pos = c.place.inside.pos }) c.new.result c.self.invariant.sorted c.self.view_is (c.new.ensures.object ∙ ap (λ (s : Place). new_object c.args.kind (Some s)) (sym c.place.view_is)) (c.in_ok-insert.ensures.ok ∙ c.gap_of-row.ensures.put_there c.new.result) (dead_none _ _ c.requires) c.self.inside.spots c.self.invariant.spots c.cut-at.result c.cut-at.ensures);
     }
 
 pub returns-clause-ok : goal.returns-clause-ok

@@ -1,10 +1,7 @@
-use Rattle.std.proofs.Common.{◌≡◌, ◌+◌, ◌-◌, ◌<◌, ◌≤◌, ◌∙◌, T, refl, rules, sym, ap, subst, get_or, set, arith}
-use Rattle.std.specs.List.{insert, remove}
-use Rattle.std.specs.Option.{option_map}
+use Rattle.std.proofs.Common.{◌≡◌, ◌∙◌, T, refl, rules, sym, ap, subst, arith}
 use Rattle.std.specs.FinMap as map
-use Rattle.std.proofs.lemmas.List.{get_or_default}
 use Rattle.canvas_model.specs.Ids.{id_cmp}
-use Rattle.canvas_model.specs.Document.{IsDocument, Place, place_of, with_place, with_prop}
+use Rattle.canvas_model.specs.Document.{IsDocument, place_of, with_prop}
 use Rattle.canvas_doc.specs.Known.{HasObjects}
 use Rattle.canvas_doc.specs.Spots.{AreSpots}
 use Rattle.canvas_model.proofs.Fields.{kind_kept, place_kept}

@@ -1,4 +1,4 @@
-use Rattle.std.proofs.Common.{◌≡◌, ◌∙◌, suc, true, false, get_or, refl, sym, ap, subst, arith}
+use Rattle.std.proofs.Common.{◌≡◌, ◌∙◌, suc, true, false, refl, sym, ap, arith}
 use Rattle.std.specs.FinMap as map
 use Rattle.canvas_model.specs.Document.{place_of}
 use Rattle.canvas_doc.specs.Spots.{pos_at}
@@ -14,7 +14,7 @@ loop-spot-preserved g c =
     let inv = c.loop-spot.invariant in
     let x = c.in-Some.spot.now in
     let step = rest_step c.self.inside.spots c.loop-spot.rest c.next.new.self inv.0 x inv.1 c.in-Some.ensures.steps in
-    (suc inv.0, step.2, omega arith, pass_more (λ s. s.1 ≡ c.args.except) c.self.inside.spots c.cut-first.result inv.0 x inv.3 step.1 (not_other x.1 c.args.except c.ne.result c.ne.ensures c.if-ne.false))
+    (suc inv.0, step.2, omega arith, pass_more (λ s. s.id ≡ c.args.except) c.self.inside.spots c.cut-first.result inv.0 x inv.3 step.1 (not_other x.id c.args.except c.ne.result c.ne.ensures c.if-ne.false))
 
 pub returns-then-not-stands_there : goal.returns-then-not-stands_there
 returns-then-not-stands_there g c =
@@ -23,7 +23,7 @@ returns-then-not-stands_there g c =
     let step = rest_step c.self.inside.spots c.loop-spot.rest c.next.new.self inv.0 x inv.1 c.in-Some.ensures.steps in (
       λ t. absurd (let f : false ≡ true = t in cc),
       λ taken. absurd (none_stands (place_of (map.from_sorted c.self.inside.rows)) c.self.inside.spots c.self.invariant.spots c.args.parent c.args.pos.now c.args.except c.cut-first.result inv.0 c.cut-first.ensures inv.2 inv.3 (λ d lt named at.
-          let yes = (c.stands_there.ensures c.self.invariant.sorted).1 (ap (λ s. s.0) (sym (step.1 d)) ∙ named, ap (λ s. pos_at (place_of (map.from_sorted c.self.inside.rows)) s.1) (sym (step.1 d)) ∙ at) in
+          let yes = (c.stands_there.ensures c.self.invariant.sorted).1 (ap (λ s. s.parent) (sym (step.1 d)) ∙ named, ap (λ s. pos_at (place_of (map.from_sorted c.self.inside.rows)) s.id) (sym (step.1 d)) ∙ at) in
           let no = c.if-not-stands_there.true in cc) taken.0 taken.1.0 (ap (λ d. place_of d taken.0) c.self.view_is ∙ taken.1.1)),
     )
 
@@ -34,10 +34,10 @@ returns-then-ne g c =
     let step = rest_step c.self.inside.spots c.loop-spot.rest c.next.new.self inv.0 x inv.1 c.in-Some.ensures.steps in
     let there = (c.stands_there.ensures c.self.invariant.sorted).0 c.if-not-stands_there.false in (
       λ _. (
-        x.1,
+        x.id,
         (
-          told_other x.1 c.args.except c.ne.result c.ne.ensures c.if-ne.true,
-          sym (ap (λ d. place_of d x.1) c.self.view_is) ∙ stands_at (place_of (map.from_sorted c.self.inside.rows)) c.self.inside.spots c.self.invariant.spots x c.args.parent c.args.pos.now (inv.0, step.0, step.1 x) there.0 there.1,
+          told_other x.id c.args.except c.ne.result c.ne.ensures c.if-ne.true,
+          sym (ap (λ d. place_of d x.id) c.self.view_is) ∙ stands_at (place_of (map.from_sorted c.self.inside.rows)) c.self.inside.spots c.self.invariant.spots x c.args.parent c.args.pos.now (inv.0, step.0, step.1 x) there.0 there.1,
         ),
       ),
       λ _. refl,

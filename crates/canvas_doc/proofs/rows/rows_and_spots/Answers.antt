@@ -1,4 +1,4 @@
-use Rattle.std.proofs.Common.{◌≡◌, ◌∙◌, ◌++◌, ◌∷◌, [], T, sym, ap, subst, append_assoc, append-nil, arith}
+use Rattle.std.proofs.Common.{◌∙◌, ◌++◌, ◌∷◌, [], T, All, sym, ap, subst, append_assoc, append-nil, arith}
 use Rattle.std.specs.Vec.Iter.{into_iter_items}
 use Rattle.std.specs.FinMap as map
 use Rattle.canvas_model.specs.Ids.{id_cmp}
@@ -6,7 +6,8 @@ use Rattle.canvas_model.specs.Document.{place_of}
 use Rattle.canvas_doc.specs.Spots.{AreSpots}
 use Rattle.canvas_doc.proofs.Maps.{ids_total}
 use Rattle.canvas_doc.proofs.Searched.{front_sorted}
-use Rattle.canvas_doc.proofs.Appended.{no_spots, nothing_left}
+use Rattle.canvas_doc.specs.Known.{IsRow}
+use Rattle.canvas_doc.proofs.Appended.{all_front, no_spots, nothing_left}
 use Rattle.canvas_doc.proofs.rows.rows_and_spots.Goals as goal
 
 pub loop-id-init : goal.loop-id-init
@@ -21,7 +22,12 @@ append-requires-clause-sorted g c =
     let at = c.loop-id in
     let steps = c.in-Some.ensures.steps.0 in
     let all = append_assoc at.rows ((c.in-Some.id, c.in-Some.object) ∷ []) (into_iter_items c.next.new.self) ∙ ap (λ l. at.rows ++ l) (sym steps) ∙ at.invariant.0 ∙ c.into_iter-id-iterator.ensures.into_iter_gives.0 in
-    front_sorted ids_total (at.rows ++ (c.in-Some.id, c.in-Some.object) ∷ []) (into_iter_items c.next.new.self) (subst (λ es. T (map.is_sorted id_cmp es)) (sym all) c.requires)
+    front_sorted ids_total (at.rows ++ (c.in-Some.id, c.in-Some.object) ∷ []) (into_iter_items c.next.new.self) (subst (λ es. T (map.is_sorted id_cmp es)) (sym all) c.requires.sorted)
+
+pub append-requires-clause-known : goal.append-requires-clause-known
+append-requires-clause-known g c =
+    let at = c.loop-id in
+    all_front IsRow at.rows (into_iter_items at.id-iterator) (subst (All IsRow) (sym (at.invariant.0 ∙ c.into_iter-id-iterator.ensures.into_iter_gives.0)) c.requires.known)
 
 pub append-requires-clause-spots : goal.append-requires-clause-spots
 append-requires-clause-spots g c = c.loop-id.invariant.1

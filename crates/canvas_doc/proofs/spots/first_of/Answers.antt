@@ -1,4 +1,4 @@
-use Rattle.std.proofs.Common.{Some, None, sym, ap, subst}
+use Rattle.std.proofs.Common.{sym, subst}
 use Rattle.std.specs.Option.{option_copied}
 use Rattle.std.specs.FinMap as map
 use Rattle.canvas_model.specs.Ids.{id_cmp}

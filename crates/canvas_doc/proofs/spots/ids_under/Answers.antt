@@ -18,7 +18,7 @@ loop-spot-preserved g c =
       step.2,
       omega arith,
       omega (arith, step.0),
-      pass_more (λ s. s.0 ≡ c.args.parent) c.args.spots.now c.start-first.result inv.0 x inv.4 step.1 (not_other x.0 c.args.parent c.ne.result c.ne.ensures c.if-ne.false),
+      pass_more (λ s. s.parent ≡ c.args.parent) c.args.spots.now c.start-first.result inv.0 x inv.4 step.1 (not_other x.parent c.args.parent c.ne.result c.ne.ensures c.if-ne.false),
       ids_more c.args.spots.now c.start-first.result inv.0 c.loop-spot.ids.items c.push.new.self.items x inv.5 step.1 c.in_ok-push.ensures.items,
     )
 
@@ -28,7 +28,7 @@ returns-then-ne g c d are =
     let x = c.in-Some.spot.now in
     let step = rest_step c.args.spots.now c.loop-spot.rest c.next.new.self inv.0 x inv.1 c.in-Some.ensures.steps in
     children_are d c.args.spots.now are c.args.parent c.start-first.result inv.0 c.start-first.ensures inv.2 inv.3 inv.4
-    (λ s lt same. told_other x.0 c.args.parent c.ne.result c.ne.ensures c.if-ne.true (ap (λ y. y.0) (sym (step.1 s)) ∙ same)) c.loop-spot.ids.items inv.5
+    (λ s lt same. told_other x.parent c.args.parent c.ne.result c.ne.ensures c.if-ne.true (ap (λ y. y.parent) (sym (step.1 s)) ∙ same)) c.loop-spot.ids.items inv.5
 
 pub returns : goal.returns
 returns g c d are =

@@ -1,4 +1,4 @@
-use Rattle.std.proofs.Common.{◌≡◌, ◌∙◌, Some, None, suc, true, false, sym, ap, subst, arith}
+use Rattle.std.proofs.Common.{◌≡◌, ◌∙◌, Some, None, suc, sym, ap, subst, arith}
 use Rattle.std.specs.Option.{option_copied, option_map}
 use Rattle.std.specs.FinMap as map
 use Rattle.canvas_model.specs.Ids.{id_cmp}
@@ -23,7 +23,7 @@ loop-spot-preserved g c =
       step.2,
       omega arith,
       passed_more (map.from_sorted {R = id_cmp} c.args.rows.now) c.args.spots.now c.requires.spots c.args.parent (option_copied c.args.after) c.args.except inv.0 x inv.3 step.1
-          (λ under other after. other (not_other x.1 c.args.except c.ne-in-Some.result c.ne-in-Some.ensures c.if-ne-2.false)),
+          (λ under other after. other (not_other x.id c.args.except c.ne-in-Some.result c.ne-in-Some.ensures c.if-ne-2.false)),
     )
 
 pub loop-spot-preserved-else-is_after : goal.loop-spot-preserved-else-is_after
@@ -31,13 +31,13 @@ loop-spot-preserved-else-is_after g c =
     let inv = c.loop-spot.invariant in
     let x = c.in-Some.spot.now in
     let step = rest_step c.args.spots.now c.loop-spot.rest c.next.new.self inv.0 x inv.1 c.in-Some.ensures.steps in
-    let at : Some c.in_ok-pos.pos.now ≡ pos_at (place_of (map.from_sorted {R = id_cmp} c.args.rows.now)) x.1 = sym (ap option_copied c.in_ok-pos.was) ∙ c.pos_of.ensures c.requires.sorted in (
+    let at : Some c.in_ok-pos.pos.now ≡ pos_at (place_of (map.from_sorted {R = id_cmp} c.args.rows.now)) x.id = sym (ap option_copied c.in_ok-pos.was) ∙ c.pos_of.ensures c.requires.sorted in (
       suc inv.0,
       step.2,
       omega arith,
       passed_more (map.from_sorted {R = id_cmp} c.args.rows.now) c.args.spots.now c.requires.spots c.args.parent (option_copied c.args.after) c.args.except inv.0 x inv.3 step.1
           (λ under other after.
-          let yes = c.is_after.ensures.1 (subst (IsAfter (option_copied c.args.after)) (position_told (place_of (map.from_sorted {R = id_cmp} c.args.rows.now) x.1) c.in_ok-pos.pos.now at) after) in
+          let yes = c.is_after.ensures.1 (subst (IsAfter (option_copied c.args.after)) (position_told (place_of (map.from_sorted {R = id_cmp} c.args.rows.now) x.id) c.in_ok-pos.pos.now at) after) in
           let no = c.if-is_after.false in cc),
     )
 
@@ -48,7 +48,7 @@ returns-then-ne g c =
     let step = rest_step c.args.spots.now c.loop-spot.rest c.next.new.self inv.0 x inv.1 c.in-Some.ensures.steps in
     let from = (passed_first (map.from_sorted {R = id_cmp} c.args.rows.now) c.args.spots.now c.requires.spots c.args.parent (option_copied c.args.after) c.args.except c.args.first c.requires.first).1 in
     none_next (map.from_sorted {R = id_cmp} c.args.rows.now) c.args.spots.now c.requires.spots c.args.parent (option_copied c.args.after) c.args.except inv.0 inv.3 (λ k y low lt. from k y (omega (arith, low)) lt)
-    (λ y lt same. told_other x.0 c.args.parent c.ne.result c.ne.ensures c.if-ne.true (ap (λ z. z.0) (sym (step.1 y)) ∙ same))
+    (λ y lt same. told_other x.parent c.args.parent c.ne.result c.ne.ensures c.if-ne.true (ap (λ z. z.parent) (sym (step.1 y)) ∙ same))
 
 pub returns-in_err-pos : goal.returns-in_err-pos
 returns-in_err-pos g c =
@@ -63,9 +63,9 @@ returns-then-is_after g c =
     let inv = c.loop-spot.invariant in
     let x = c.in-Some.spot.now in
     let step = rest_step c.args.spots.now c.loop-spot.rest c.next.new.self inv.0 x inv.1 c.in-Some.ensures.steps in
-    let at : Some c.in_ok-pos.pos.now ≡ pos_at (place_of (map.from_sorted {R = id_cmp} c.args.rows.now)) x.1 = sym (ap option_copied c.in_ok-pos.was) ∙ c.pos_of.ensures c.requires.sorted in
+    let at : Some c.in_ok-pos.pos.now ≡ pos_at (place_of (map.from_sorted {R = id_cmp} c.args.rows.now)) x.id = sym (ap option_copied c.in_ok-pos.was) ∙ c.pos_of.ensures c.requires.sorted in
     next_here (map.from_sorted {R = id_cmp} c.args.rows.now) c.args.spots.now c.requires.spots c.args.parent (option_copied c.args.after) c.args.except inv.0 x c.in_ok-pos.pos.now inv.3 step.0 step.1
-    (not_other x.0 c.args.parent c.ne.result c.ne.ensures c.if-ne.false) (told_other x.1 c.args.except c.ne-in-Some.result c.ne-in-Some.ensures c.if-ne-2.true) at (c.is_after.ensures.0 c.if-is_after.true)
+    (not_other x.parent c.args.parent c.ne.result c.ne.ensures c.if-ne.false) (told_other x.id c.args.except c.ne-in-Some.result c.ne-in-Some.ensures c.if-ne-2.true) at (c.is_after.ensures.0 c.if-is_after.true)
 
 pub returns : goal.returns
 returns g c =
