@@ -9,6 +9,7 @@ use Rattle.std.proofs.lemmas.List.Concat.{get_or-flat_map}
 use Rattle.canvas_blocks.specs.Blocks.{flat, IsAt, IsEdge, NoneEmpty}
 use Rattle.canvas_blocks.proofs.Flat.{parted, parted_set, inserted, removed, replaced, got, got_next, dropped, without_empty, last_pushed, split_same}
 use Rattle.canvas_blocks.proofs.Within.{each-insert, each-set}
+use Rattle.canvas_blocks.proofs.Ended.{upto_next}
 
 no_items : {T : Type 0} (xs : List T) → length xs ≡ 0 → xs ≡ []
 no_items [] e = refl
@@ -171,14 +172,7 @@ module _ {T A : Type 0} where
               go (c ∷ cs) (suc k) pos = let h = go cs k pos in omega (arith, h)
 
           taken_more : length (flat (take (suc i) bs)) ≡ length (flat (take i bs)) + length v.items
-          taken_more = go bs i lt is
-            where
-              go : (cs : List (Vec T A)) (i : ℕ) → i < length cs → v ≡ get_or cs i v → length (flat (take (suc i) cs)) ≡ length (flat (take i cs)) + length v.items
-              go [] i lt is = absurd (omega arith)
-              go (c ∷ cs) zero lt is = length-append c.items [] ∙ ap (λ (u : Vec T A). length u.items + 0) (sym is) ∙ omega arith
-              go (c ∷ cs) (suc i) lt is =
-                  length-append c.items (flat (take (suc i) cs)) ∙ ap (λ k. length c.items + k) (go cs i (omega arith) is)
-                  ∙ let e : length (c.items ++ flat (take i cs)) ≡ length c.items + length (flat (take i cs)) = length-append c.items (flat (take i cs)) in omega (arith, e)
+          taken_more = upto_next bs i v lt ∙ ap (λ (u : Vec T A). length (flat (take i bs)) + length u.items) (sym is)
 
       pub edge_in_block : IsEdge answers (flat bs) n
       edge_in_block = record {
@@ -189,19 +183,7 @@ module _ {T A : Type 0} where
         after = fails_after;
       }
 
--- the first blocks have no more items than all
-pub blocks_within : {T A : Type 0} (bs cs : List (Vec T A)) → cs ≡ bs → (k : ℕ) → length (flat (take k cs)) ≤ length (flat bs)
-blocks_within {T} {A} bs cs same k = subst (λ (cs : List (Vec T A)). length (flat (take k cs)) ≤ length (flat bs)) (sym same) (go bs k)
-  where
-    go : (bs : List (Vec T A)) (k : ℕ) → length (flat (take k bs)) ≤ length (flat bs)
-    go bs zero = omega arith
-    go [] (suc k) = omega arith
-    go (b ∷ bs) (suc k) =
-        let rest = go bs k in
-        let e : length (b.items ++ flat (take k bs)) ≡ length b.items + length (flat (take k bs)) = length-append b.items (flat (take k bs)) in
-        let f : length (b.items ++ flat bs) ≡ length b.items + length (flat bs) = length-append b.items (flat bs) in
-        omega (arith, rest, e, f)
-
+-- a block that isn't empty has one item at least
 pub one_more : {T A : Type 0} (bs : List (Vec T A)) (i : ℕ) → NoneEmpty bs → i < length bs → length (flat (take i bs)) + 1 ≤ length (flat bs)
 one_more [] i none lt = absurd (omega arith)
 one_more (b ∷ bs) zero none lt =

@@ -27,3 +27,8 @@ pub record IsEdge {T : Type 0} (answers : T → Bool → Type 0) (xs : List T) (
 abbrev pub IsFoundAt : {T A : Type 0} → List (Vec T A) → ℕ → Option (ℕ × ℕ) → Type 0
 IsFoundAt bs index None = length (flat bs) ≤ index
 IsFoundAt bs index (Some at) = IsAt bs index at.0 at.1
+
+-- a number for each block: how many items stand up to its end
+pub record AreEnds {T A : Type 0} (bs : List (Vec T A)) (ends : List ℕ) : Type 0 where
+  pub as_many : length ends ≡ length bs
+  pub counted : (at d : ℕ) → at < length bs → slice_index_or ends at d ≡ length (flat (take (at + 1) bs))

@@ -11,20 +11,21 @@ use std::alloc::{AllocError, Allocator, Global};
 use std::marker::Model;
 
 mod blocks;
+mod ends;
 mod iter;
 
-use blocks::{
-    block_edge, count, edge, first_item, insert_in, locate, push_to, remove_from, replace_in,
-};
+use blocks::{block_edge, edge, first_item, insert_in, locate, push_to, remove_from, replace_in};
+use ends::start;
 pub use iter::Iter;
 
 /// A list in blocks of at most 512 items, which a contract sees as the plain list. A block that grows beyond that is split in
-/// two, and one that is left without items is taken out; blocks aren't joined. What finds an index adds up the lengths of the
-/// blocks before it; `after_edge` and the iterators from the beginning don't.
+/// two, and one that is left without items is taken out; blocks aren't joined. An index is found by bisection through the numbers
+/// of items up to the end of each block; an insertion and a removal alter those numbers from their block on.
 #[derive(Debug, Drop)]
 pub struct BlockList<T, A: Allocator = Global> {
     len: usize,
     blocks: Vec<Vec<T, A>, A>,
+    ends: Vec<usize, A>,
 }
 
 impl<T, A: Allocator> Model for BlockList<T, A> {
@@ -35,21 +36,24 @@ impl<T, A: Allocator> Model for BlockList<T, A> {
 
     ghost coded = { coded_list T.code };
 
-    ghost use Rattle.canvas_blocks.specs.Blocks.{flat, NoneEmpty};
+    ghost use Rattle.canvas_blocks.specs.Blocks.{flat, NoneEmpty, AreEnds};
 
     ghost view = { λ l. flat l.blocks.items };
 
-    ghost invariant = { λ l. record { len : l.len ≡ length (flat l.blocks.items); fits : l.len < 18446744073709551616; none_empty : NoneEmpty l.blocks.items } };
+    ghost invariant = { λ l. record { len : l.len ≡ length (flat l.blocks.items); fits : l.len < 18446744073709551616; none_empty : NoneEmpty l.blocks.items; ends : AreEnds l.blocks.items l.ends.items } };
 }
 
 impl<T, A: Allocator> BlockList<T, A> {
     /// The empty list. Takes no memory.
     pub fn new(alloc: A) -> Self
+    where
+        A: Copy,
         ensures { result ≡ [] }
     {
         BlockList {
             len: 0,
             blocks: Vec::new(alloc),
+            ends: Vec::new(alloc),
         }
     }
 
@@ -72,7 +76,7 @@ impl<T, A: Allocator> BlockList<T, A> {
     pub fn get(&self, index: usize) -> Option<&T>
         ensures { option_copied result ≡ slice_get self.now index }
     {
-        let (block, offset) = locate(&self.blocks, index)?;
+        let (block, offset) = locate(&self.blocks, &self.ends, index)?;
         Some(&self.blocks[block][offset])
     }
 
@@ -88,7 +92,7 @@ impl<T, A: Allocator> BlockList<T, A> {
         }
         // The first item of this block passes.
         let block = end - 1;
-        count(&self.blocks[..block]) + 1 + edge(&self.blocks[block][1..], &before)
+        start(&self.ends, block) + 1 + edge(&self.blocks[block][1..], &before)
     }
 
     /// The item at such an index, or none at the end of the list.
@@ -114,7 +118,7 @@ impl<T, A: Allocator> BlockList<T, A> {
     pub fn iter_from(&self, index: usize) -> Iter<'_, T, A>
         ensures { result ≡ drop index self.now }
     {
-        match locate(&self.blocks, index) {
+        match locate(&self.blocks, &self.ends, index) {
             Some((block, offset)) => Iter::new(
                 &self.blocks[block][offset..],
                 &self.blocks[block + 1..],
@@ -140,7 +144,7 @@ impl<T, A: Allocator> BlockList<T, A> {
         ensures items { self.new ≡ remove self.old index }
     {
         self.len -= 1;
-        remove_from(&mut self.blocks, index)
+        remove_from(&mut self.blocks, &mut self.ends, index)
     }
 }
 
@@ -152,7 +156,7 @@ impl<T: Drop, A: Allocator + Copy> BlockList<T, A> {
         ensures item { result ≡ slice_index_or self.old index result }
         ensures items { self.new ≡ slice_set self.old index item }
     {
-        replace_in(&mut self.blocks, index, item)
+        replace_in(&mut self.blocks, &self.ends, index, item)
     }
 
     /// Adds an item at the end. Fails only where memory is refused, or where the list has `usize::MAX` items, which no memory
@@ -164,7 +168,7 @@ impl<T: Drop, A: Allocator + Copy> BlockList<T, A> {
         let Some(len) = self.len.checked_add(1) else {
             return Err(AllocError);
         };
-        push_to(&mut self.blocks, item)?;
+        push_to(&mut self.blocks, &mut self.ends, item)?;
         self.len = len;
         Ok(())
     }
@@ -179,7 +183,7 @@ impl<T: Drop, A: Allocator + Copy> BlockList<T, A> {
         let Some(len) = self.len.checked_add(1) else {
             return Err(AllocError);
         };
-        insert_in(&mut self.blocks, index, item)?;
+        insert_in(&mut self.blocks, &mut self.ends, index, item)?;
         self.len = len;
         Ok(())
     }
