@@ -1,5 +1,5 @@
 -- Documents of which one object, or some, were changed.
-use Rattle.std.proofs.Common.{◌≡◌, ℕ, ◌+◌, ◌<◌, true, false, cond, List, [], ◌∷◌, length, take, drop, get_or, Option, Some, None, ap, sym, ◌∙◌, zero, suc, arith}
+use Rattle.std.proofs.Common.{◌≡◌, ℕ, ◌+◌, true, false, cond, List, [], ◌∷◌, ◌++◌, drop, Option, Some, None, ap, sym, ◌∙◌, zero, suc, arith}
 use Rattle.std.specs.List.{list_any}
 use Rattle.std.specs.Option.{option_map}
 use Rattle.std.specs.FinMap as map
@@ -7,14 +7,13 @@ use Rattle.std.specs.Prelude.{slice_get}
 use Rattle.std.proofs.lemmas.Option.{none-some, same_Some}
 use Rattle.canvas_model.specs.declared.ObjId.{ObjId}
 use Rattle.canvas_model.specs.declared.Kind.{Kind}
-use Rattle.canvas_model.specs.Ids.{root}
 use Rattle.canvas_model.specs.Value.{Value}
 use Rattle.canvas_model.specs.Document.{Doc, Place, Name, live, revise, without, new_object, with_place, with_prop}
 use Rattle.canvas_model.specs.Change.{Change}
 use Rattle.canvas_model.specs.Overlay.{lay, over}
 use Rattle.canvas_model.specs.View.{moves_it, sets_it, deletes_it, placed, valued, added}
 use Rattle.canvas_doc.proofs.Laid.{rewritten}
-use Rattle.canvas_doc.proofs.Without.{without_more}
+use Rattle.canvas_doc.proofs.Without.{without_next}
 use Rattle.canvas_model.proofs.Ids.{dead_none}
 
 module _ (d : Doc) (staying : List Change) (id : ObjId) where
@@ -43,8 +42,8 @@ module _ (d : Doc) (staying : List Change) (id : ObjId) where
       is ∙ sym (ap (λ x. revise d id (added staying id kind place x)) none ∙ ap (λ b. revise d id (cond b None (Some (new_object kind (Some place))))) kept)
 
 -- one more object taken away
-pub one_more : (d n m : Doc) (ids : List ObjId) (i : ℕ) → i < length ids → n ≡ without d (take i ids) → m ≡ map.remove n (get_or ids i root) → m ≡ without d (take (i + 1) ids)
-one_more d n m ids i lt so_far now = now ∙ ap (λ n. map.remove n (get_or ids i root)) so_far ∙ without_more d ids i root lt
+pub one_more : (d n m : Doc) (ids : List ObjId) (id : ObjId) → n ≡ without d ids → m ≡ map.remove n id → m ≡ without d (ids ++ id ∷ [])
+one_more d n m ids id so_far now = now ∙ ap (λ n. map.remove n id) so_far ∙ without_next d ids id
 
 -- one more of the changes that wait laid over it
 pub laid_next : (d n : Doc) (changes : List Change) (i : ℕ) (x : Change) → slice_get changes i ≡ Some x → n ≡ lay d x → over n (drop (i + 1) changes) ≡ over d (drop i changes)

@@ -1,5 +1,4 @@
 pub mod Changed
-pub mod Tests
 pub mod Followed
 pub mod Roots
 pub mod Keeping

@@ -156,7 +156,7 @@ fn remove_each<A: Allocator>(view: &mut Shown<A>, ids: &[ObjId]) -> u64
     ensures count { IsRise (length ids.now) view.old.changes.count view.new.changes.count result }
 {
     let mut made = 0;
-    for id in ids {
+    for id in ids.iter().rev() {
         if *id != ObjId::ROOT {
             view.remove(*id);
             made += 1;

@@ -1,10 +1,11 @@
 -- Documents of which one object after another was removed.
-use Rattle.std.proofs.Common.{◌≡◌, ℕ, ◌+◌, ◌<◌, Bool, true, false, cond, ◌||◌, List, [], ◌∷◌, length, get_or, take, None, refl, sym, ap, ◌∙◌}
+use Rattle.std.proofs.Common.{◌≡◌, Bool, true, false, cond, ◌||◌, List, [], ◌∷◌, ◌++◌, ◌-◌, ◌<◌, None, length, reverse, refl, sym, ap, ◌∙◌, arith}
 use Rattle.std.specs.Prelude.{not}
-use Rattle.std.specs.List.{list_any}
+use Rattle.std.specs.List.{Contains, list_any}
 use Rattle.std.specs.FinMap as map
-use Rattle.std.proofs.lemmas.List.{take_more}
+use Rattle.std.proofs.lemmas.List.{get_or-reverse, length-reverse}
 use Rattle.std.proofs.lemmas.List.Folds.{list_any-append}
+use Rattle.std.proofs.lemmas.List.Sorted.{IsPermutation-reverse, list_any-IsPermutation}
 use Rattle.canvas_model.specs.declared.ObjId.{ObjId}
 use Rattle.canvas_model.specs.Ids.{id_cmp, same_id}
 use Rattle.canvas_model.specs.Document.{Doc, without}
@@ -29,10 +30,24 @@ both false true x y = refl
 both false false x y = refl
 
 -- one more removed
-pub without_more : (d : Doc) (ids : List ObjId) (i : ℕ) (e : ObjId) → i < length ids → map.remove (without d (take i ids)) (get_or ids i e) ≡ without d (take (i + 1) ids)
-without_more d ids i e lt = map.same_map ids_total exact_ids _ _ (λ q.
-    get_removed ids_total exact_ids (without d (take i ids)) (get_or ids i e) q
-    ∙ ap (λ r. cond (is_other id_cmp (get_or ids i e) q) r None) (get_without d (take i ids) q)
-    ∙ both (list_any (same_id q) (take i ids)) (same_id q (get_or ids i e)) (map.get d q) None
-    ∙ sym (ap (λ b. cond (not b) (map.get d q) None) (ap (list_any (same_id q)) (take_more ids i e lt) ∙ list_any-append (same_id q) (take i ids) (get_or ids i e ∷ [])))
-    ∙ sym (get_without d (take (i + 1) ids) q))
+pub without_next : (d : Doc) (ids : List ObjId) (e : ObjId) → map.remove (without d ids) e ≡ without d (ids ++ e ∷ [])
+without_next d ids e = map.same_map ids_total exact_ids _ _ (λ q.
+    get_removed ids_total exact_ids (without d ids) e q
+    ∙ ap (λ r. cond (is_other id_cmp e q) r None) (get_without d ids q)
+    ∙ both (list_any (same_id q) ids) (same_id q e) (map.get d q) None
+    ∙ sym (ap (λ b. cond (not b) (map.get d q) None) (list_any-append (same_id q) ids (e ∷ [])))
+    ∙ sym (get_without d (ids ++ e ∷ []) q))
+
+-- the order in which they are removed doesn't matter
+pub without_reverse : (d : Doc) (ids : List ObjId) → without d (reverse ids) ≡ without d ids
+without_reverse d ids = map.same_map ids_total exact_ids _ _ (λ q.
+    get_without d (reverse ids) q
+    ∙ ap (λ b. cond (not b) (map.get d q) None) (sym (list_any-IsPermutation (same_id q) ids (reverse ids) (IsPermutation-reverse ids)))
+    ∙ sym (get_without d ids q))
+
+-- what the ids in the other order contain, they contain
+pub contains_reverse : (ids : List ObjId) (id : ObjId) → Contains (reverse ids) id → Contains ids id
+contains_reverse ids id found = (length ids - 1 - found.0, omega (arith, found.1, length-reverse ids), sym (get_or-reverse ids found.0 id (within found.1)) ∙ found.2)
+  where
+    within : found.0 < length (reverse ids) → found.0 < length ids
+    within lt = omega (arith, lt, length-reverse ids)

@@ -285,7 +285,8 @@ impl<A: Allocator> Doc<A> {
         requires not_root { Contains ids.now root → ⊥ }
         ensures { self.new ≡ without self.old ids.now }
     {
-        for id in ids {
+        // The last one first, so that few blocks stand behind each.
+        for id in ids.iter().rev() {
             self.remove(*id);
         }
     }
