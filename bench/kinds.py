@@ -119,6 +119,18 @@ def deletion(count):
     return log
 
 
+def half_deletion(count):
+    """Of two pages the one that was made first is deleted; all ids of the other are greater."""
+    log = Log()
+    page, _ = log.fill(count // 2, 100)
+    removed = sum(log.used)
+    log.fill(count // 2, 100)
+    log.begin()
+    log.add(f"1 delete {page}")
+    log.operations = removed
+    return log
+
+
 def chain(count):
     log = Log()
     log.begin()
@@ -164,6 +176,7 @@ KINDS = [
     Kind("move", "moves among 100 siblings", lambda n: moves(n, 100)),
     Kind("moveall", "moves among n siblings", lambda n: moves(n, n)),
     Kind("delete", "one deletion of all objects", deletion),
+    Kind("deletehalf", "one deletion of the older half", half_deletion),
     Kind("chain", "creations, each under the last", chain),
     Kind("chaindelete", "one deletion of such a chain", chain_deletion),
     Kind("chainmove", "100 moves to a chain's end or back", chain_moves),
