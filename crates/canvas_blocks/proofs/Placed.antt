@@ -1,15 +1,24 @@
 -- Items of lists in blocks.
-use Rattle.std.proofs.Common.{◌≡◌, ℕ, suc, zero, ◌+◌, ◌-◌, ◌<◌, ◌≤◌, inl, inr, Bool, true, false, List, [], ◌∷◌, ◌++◌, Vec, length, get_or, set, take, drop, Option, refl, sym, ap, subst, ◌∙◌, arith, length-append, length-drop, length-set, length-take-le, take-append-drop, get_or-drop}
+use Rattle.std.proofs.Common.{◌≡◌, ℕ, suc, zero, ◌+◌, ◌-◌, ◌<◌, ◌≤◌, inl, inr, Bool, true, false, List, [], ◌∷◌, ◌++◌, Vec, length, get_or, set, take, drop, refl, sym, ap, subst, ◌∙◌, arith, length-append, length-drop, length-set, length-take-le, take-append-drop, get_or-drop}
 use Rattle.std.specs.List.{insert, remove, slice_get}
 use Rattle.std.proofs.lemmas.Bool.{cases_lt}
-use Rattle.std.specs.Prelude.{IfSome, Some}
+use Rattle.std.specs.Prelude.{Some}
 use Rattle.std.proofs.lemmas.List.{get_or_read, take_rest}
 use Rattle.std.proofs.lemmas.Option.{slice_get-get_or}
 use Rattle.std.proofs.lemmas.List.Concat.{get_or-flat_map}
-use Rattle.canvas_blocks.specs.Blocks.{flat, IsAt, IsEdge, NoneEmpty}
-use Rattle.canvas_blocks.proofs.Flat.{parted, parted_set, inserted, removed, replaced, got, got_next, dropped, without_empty, last_pushed, split_same}
+use Rattle.canvas_blocks.specs.Blocks.{flat, index_of, IsEdge, IsIn, NoneEmpty}
+use Rattle.canvas_blocks.proofs.Flat.{parted, parted_set, inserted, removed, replaced, got, dropped, without_empty, last_pushed, split_same}
 use Rattle.canvas_blocks.proofs.Within.{each-insert, each-set}
-use Rattle.canvas_blocks.proofs.Ended.{upto_next}
+use Rattle.canvas_blocks.proofs.Sized.{upto_next}
+
+-- the item at this index of all is the one at this offset of this block
+pub record IsAt {T A : Type 0} (bs : List (Vec T A)) (index block offset : ℕ) : Type 0 where
+  pub block_in : block < length bs
+  pub offset_in : (d : Vec T A) → offset < length (get_or bs block d).items
+  pub is : length (flat (take block bs)) + offset ≡ index
+
+pub at_index : {T A : Type 0} (bs : List (Vec T A)) (b o : ℕ) → IsIn bs b o → IsAt bs (index_of bs b o) b o
+at_index bs b o there = record { block_in = there.block_in; offset_in = there.offset_in; is = refl }
 
 no_items : {T : Type 0} (xs : List T) → length xs ≡ 0 → xs ≡ []
 no_items [] e = refl
@@ -183,19 +192,6 @@ module _ {T A : Type 0} where
         after = fails_after;
       }
 
--- a block that isn't empty has one item at least
-pub one_more : {T A : Type 0} (bs : List (Vec T A)) (i : ℕ) → NoneEmpty bs → i < length bs → length (flat (take i bs)) + 1 ≤ length (flat bs)
-one_more [] i none lt = absurd (omega arith)
-one_more (b ∷ bs) zero none lt =
-    let long = none 0 b (omega arith) (omega arith) in
-    let e : length (b.items ++ flat bs) ≡ length b.items + length (flat bs) = length-append b.items (flat bs) in
-    omega (arith, long, e)
-one_more (b ∷ bs) (suc i) none lt =
-    let rest = one_more bs i (λ k d low l. none (suc k) d (omega arith) (omega arith)) (omega arith) in
-    let e : length (b.items ++ flat (take i bs)) ≡ length b.items + length (flat (take i bs)) = length-append b.items (flat (take i bs)) in
-    let f : length (b.items ++ flat bs) ≡ length b.items + length (flat bs) = length-append b.items (flat bs) in
-    omega (arith, rest, e, f)
-
 -- ---- what the functions answer
 module _ {T A : Type 0} (bs cs : List (Vec T A)) (same : cs ≡ bs) (now : List T) (view : flat bs ≡ now) where
   at_in : (n b j : ℕ) → IsAt cs n b j → IsAt bs n b j
@@ -215,9 +211,6 @@ module _ {T A : Type 0} (bs cs : List (Vec T A)) (same : cs ≡ bs) (now : List 
       ∙ ap (λ l. drop j v.items ++ flat (drop (b + 1) l)) dsame
       ∙ ap (λ k. drop j v.items ++ flat (drop k bs)) one
       ∙ sym (rest_is bs n b j (at_in n b j at) v is) ∙ ap (λ l. drop n l) view
-
-  pub found_within : (n b j : ℕ) → IsAt cs n b j → (v : Vec T A) → v ≡ get_or bs b v → n < length (flat bs)
-  found_within n b j at v is = index_within bs n b j (at_in n b j at) v is
 
   module _ (answers : T → Bool → Type 0) (none_empty : NoneEmpty bs) (end : ℕ)
       (before : (b : Vec T A) (d : T) → 0 < end → answers (get_or (get_or cs (end - 1) b).items 0 d) true)
@@ -245,24 +238,3 @@ module _ {T A : Type 0} (bs cs : List (Vec T A)) (same : cs ≡ bs) (now : List 
           let e : length ys ≡ length v.items - 1 = ap length cut ∙ length-drop 1 v.items in
           let long : 0 < length v.items = subst (λ (u : Vec T A). 0 < length u.items) (sym is) (none_empty (end - 1) v (omega arith) (omega arith)) in
           omega (arith, e, long, edge.within)
-
-      module _ where
-        -- the item after the edge: in the block, or the first of the next ones
-        pub item_after : (x : T) → x ≡ get_or v.items (1 + r) x → 1 + r < length v.items → Some x ≡ slice_get now (length (flat (take (end - 1) bs)) + (1 + r))
-        item_after x read inside =
-            ap Some read ∙ sym (slice_get-get_or v.items (1 + r) x inside)
-            ∙ ap (λ (u : Vec T A). slice_get u.items (1 + r)) is
-            ∙ sym (got (λ (b : Vec T A). b.items) bs (end - 1) (1 + r) _ v v (omega arith) refl (subst (λ (u : Vec T A). 1 + r < length u.items) is inside))
-            ∙ ap (λ l. slice_get l (length (flat (take (end - 1) bs)) + (1 + r))) view
-
-        pub item_next : (res : Option T) (ds : List (Vec T A)) → ds ≡ bs → res ≡ slice_get (flat (take (length ds - end) (drop end ds))) 0 → length v.items ≤ 1 + r → res ≡ slice_get now (length (flat (take (end - 1) bs)) + (1 + r))
-        item_next res ds dsame got_it at_end =
-            let all : 1 + r ≡ length v.items = omega (arith, fits) in
-            got_it ∙ ap (λ l. slice_get (flat l) 0) (take_rest ds end) ∙ ap (λ l. slice_get (flat (drop end l)) 0) dsame
-            ∙ ap (λ k. slice_get (flat (drop k bs)) 0) (sym next_is)
-            ∙ sym (got_next (λ (b : Vec T A). b.items) bs (end - 1) (1 + r) _ v v (omega arith) refl (all ∙ ap (λ (u : Vec T A). length u.items) is))
-            ∙ ap (λ l. slice_get l (length (flat (take (end - 1) bs)) + (1 + r))) view
-
--- what was located
-pub located : {T A : Type 0} (bs cs : List (Vec T A)) → cs ≡ bs → (n : ℕ) (r : Option (ℕ × ℕ)) (at : ℕ × ℕ) → r ≡ Some at → IfSome r (λ at. IsAt cs n at.0 at.1) → IsAt bs n at.0 at.1
-located bs cs same n r at is h = subst (λ cs. IsAt cs n at.0 at.1) same (subst (λ r. IfSome r (λ at. IsAt cs n at.0 at.1)) is h)

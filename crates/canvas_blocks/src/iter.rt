@@ -1,5 +1,5 @@
 // The items of a list in blocks, one after another.
-ghost use Rattle.std.specs.Prelude.{◌≡◌, ◌++◌, length};
+ghost use Rattle.std.specs.Prelude.{◌≡◌, ◌≤◌, ◌++◌, length};
 ghost use Rattle.std.specs.Iterator.{YieldsFirstRef, item_count};
 ghost use Rattle.canvas_blocks.specs.Blocks.{flat, NoneEmpty};
 
@@ -12,11 +12,13 @@ use std::marker::Model;
 pub struct Iter<'a, T, A: Allocator = Global> {
     first: &'a [T],
     others: &'a [Vec<T, A>],
-    len: usize,
+    // At least so many, and at most.
+    least: usize,
+    most: usize,
 }
 
 impl<'a, T, A: Allocator> Model for Iter<'a, T, A> {
-    ghost use Rattle.std.specs.Prelude.{◌≡◌, List, ◌++◌, length};
+    ghost use Rattle.std.specs.Prelude.{◌≤◌, List, ◌++◌, length};
     ghost use Rattle.std.specs.Coded.{coded_list};
 
     ghost Value = { List T };
@@ -27,16 +29,22 @@ impl<'a, T, A: Allocator> Model for Iter<'a, T, A> {
 
     ghost view = { λ i. i.first.now ++ flat i.others.now };
 
-    ghost invariant = { λ i. record { none_empty : NoneEmpty i.others.now; len : i.len ≡ length (i.first.now ++ flat i.others.now) } };
+    ghost invariant = { λ i. record { none_empty : NoneEmpty i.others.now; least : i.least ≤ length (i.first.now ++ flat i.others.now); most : length (i.first.now ++ flat i.others.now) ≤ i.most } };
 }
 
 impl<'a, T, A: Allocator> Iter<'a, T, A> {
-    pub(crate) fn new(first: &'a [T], others: &'a [Vec<T, A>], len: usize) -> Self
+    pub(crate) fn new(first: &'a [T], others: &'a [Vec<T, A>], least: usize, most: usize) -> Self
         requires none_empty { NoneEmpty others.now }
-        requires len { len ≡ length (first.now ++ flat others.now) }
+        requires least { least ≤ length (first.now ++ flat others.now) }
+        requires most { length (first.now ++ flat others.now) ≤ most }
         ensures { result ≡ first.now ++ flat others.now }
     {
-        Iter { first, others, len }
+        Iter {
+            first,
+            others,
+            least,
+            most,
+        }
     }
 }
 
@@ -50,19 +58,21 @@ impl<'a, T, A: Allocator> Iterator for Iter<'a, T, A> {
     fn next(&mut self) -> Option<&'a T> {
         if let Some((item, rest)) = self.first.split_first() {
             self.first = rest;
-            self.len -= 1;
+            self.least = self.least.saturating_sub(1);
+            self.most -= 1;
             return Some(item);
         }
         let (block, others) = self.others.split_first()?;
         let (item, rest) = block.split_first()?;
         self.first = rest;
         self.others = others;
-        self.len -= 1;
+        self.least = self.least.saturating_sub(1);
+        self.most -= 1;
         Some(item)
     }
 
     fn size_hint(&self) -> (usize, Option<usize>) {
-        (self.len, Some(self.len))
+        (self.least, Some(self.most))
     }
 }
 

@@ -99,12 +99,12 @@ fn growths(alloc: Global, asked: Asked) -> Result<Option<u64>, Fail> {
 }
 
 // Beside the change, its item in the list of those that wait, and the view: a move and a deletion grow the counts by object once, a set
-// and a clear the counts by property four times.
+// and a clear the counts by property three times.
 #[test]
 fn edits_with_growths_refused(rt: HostRuntime) -> Result<(), Fail> {
     assert_eq!(rt; growths(rt.alloc(), Asked::Create)?, Some(4));
-    assert_eq!(rt; growths(rt.alloc(), Asked::Set)?, Some(10));
-    assert_eq!(rt; growths(rt.alloc(), Asked::Clear)?, Some(7));
+    assert_eq!(rt; growths(rt.alloc(), Asked::Set)?, Some(9));
+    assert_eq!(rt; growths(rt.alloc(), Asked::Clear)?, Some(6));
     assert_eq!(rt; growths(rt.alloc(), Asked::Move)?, Some(4));
     assert_eq!(rt; growths(rt.alloc(), Asked::Delete)?, Some(2));
     Ok(())

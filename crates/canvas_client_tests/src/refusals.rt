@@ -118,7 +118,7 @@ fn received_with_growths_refused(rt: HostRuntime) -> Result<(), Fail> {
                 version: 4,
                 done: 0,
             },
-            11,
+            9,
         ),
     ] {
         assert_eq!(rt; growths(alloc, steps, sent)?, Some(want));

@@ -10,9 +10,6 @@ module _ {K X : Type 0} where
   copied_more xs ys zs i x o lt is so_far same new =
       new ∙ ap (λ (l : List (K × X)). l ++ (x.0, o) ∷ []) so_far ∙ ap (λ (v : X). take i xs ++ (x.0, v) ∷ []) same ∙ ap (λ (e : K × X). take i xs ++ e ∷ []) is ∙ sym (take_more xs i x lt)
 
-  pub copied_both : (xs ys zs : List (K × X)) (i : ℕ) (x : K × X) (k : K) (o : X) → i < length xs → x ≡ get_or xs i x → ys ≡ take i xs → k ≡ x.0 → o ≡ x.1 → zs ≡ ys ++ (k, o) ∷ [] → zs ≡ take (i + 1) xs
-  copied_both xs ys zs i x k o lt is so_far same_key same new = copied_more xs ys zs i x o lt is so_far same (new ∙ ap (λ (k : K). ys ++ (k, o) ∷ []) same_key)
-
   pub same_more : (xs ys : List (K × X)) (i : ℕ) (x y : K × X) → i < length xs → i < length ys → x ≡ get_or xs i x → y ≡ get_or ys i y → x ≡ y → take i xs ≡ take i ys → take (i + 1) xs ≡ take (i + 1) ys
   same_more xs ys i x y lt lt2 is is2 same so_far =
       take_more xs i x lt ∙ ap (λ (l : List (K × X)). l ++ get_or xs i x ∷ []) so_far ∙ ap (λ (e : K × X). take i ys ++ e ∷ []) (sym is ∙ same ∙ is2) ∙ sym (take_more ys i y lt2)

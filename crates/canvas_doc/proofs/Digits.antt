@@ -56,11 +56,3 @@ module _ (p : Places) (parent : ObjId) (pos : Pos) (id : ObjId) (s : Spot) (plac
     | Equal ↦ λ e. sym (lower ∙ ap (λ r. is_lt (ordering_then r (id_cmp s.id id))) (larger e))
     | Greater ↦ λ e. refl
   ]
-
--- where they are the same, the positions decide
-pub before_tied : (p : Places) (parent : ObjId) (pos : Pos) (id : ObjId) (s : Spot) (digits : Ordering) → ordering_then (id_cmp s.parent parent) digits ≡ Equal → is_lower (pos_at p s.id) s.id pos id ≡ is_before p parent pos id s
-before_tied p parent pos id s digits = elim (id_cmp s.parent parent) as (λ r. ordering_then r digits ≡ Equal → is_lower (pos_at p s.id) s.id pos id ≡ match_ordering r true (is_lower (pos_at p s.id) s.id pos id) false) [
-  | Less ↦ λ e. absurd (let f : Less ≡ Equal = e in cc)
-  | Equal ↦ λ e. refl
-  | Greater ↦ λ e. absurd (let f : Greater ≡ Equal = e in cc)
-]

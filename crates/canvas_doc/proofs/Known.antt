@@ -11,7 +11,7 @@ use Rattle.canvas_model.specs.declared.Kind.{Kind}
 use Rattle.canvas_model.specs.declared.Kind.TheVariants.{Document}
 use Rattle.canvas_model.specs.Ids.{id_cmp, root, IsId}
 use Rattle.canvas_model.specs.Value.{Value}
-use Rattle.canvas_model.specs.Document.{Doc, Name, Object, Place, name_cmp, new_object, blank, with_place, with_prop}
+use Rattle.canvas_model.specs.Document.{Doc, Name, Object, Place, name_cmp, new_object, blank, with_prop}
 use Rattle.canvas_value.specs.Props.{IsProp}
 use Rattle.canvas_doc.specs.Sorted.{is_other}
 use Rattle.canvas_doc.specs.Known.{IsPlace, IsObject, HasObjects, IsRow}
@@ -47,10 +47,6 @@ module _ {K X : Type 0} {R : K → K → Ordering} (o : IsTotalOrder R) (exact :
 -- a new object at this place, or nowhere
 pub new_known : (kind : Kind) (place : Option Place) → ((p : Place) → place ≡ Some p → IsPlace p) → IsObject (new_object kind place)
 new_known kind place known = record { place = known; props = each_empty names_total exact_names (λ name value. IsProp (name, value)) }
-
--- the same object at another place
-pub moved_known : (p : Place) (o : Object) → IsPlace p → IsObject o → IsObject (with_place p o)
-moved_known p o there known = record { place = λ q e. subst IsPlace (some_is p q e) there; props = known.props }
 
 -- an object of these properties
 pub made_known : (kind : Kind) (place : Option Place) (es : List (Name × Value)) → T (map.is_sorted name_cmp es) → ((p : Place) → place ≡ Some p → IsPlace p) → All IsProp es

@@ -15,8 +15,11 @@ mod Told
 mod Digits
 mod Spotted
 mod Placing
+mod Cuts
 mod Walked
 mod Nearest
 mod Appended
 mod Revised
+mod Replaced
+mod Putting
 mod Known

@@ -1,6 +1,6 @@
 -- The spots of a document of which one object was added or removed.
-use Rattle.std.proofs.Common.{◌≡◌, ◌≢◌, ◌⊎◌, inl, inr, ℕ, suc, zero, ◌+◌, ◌-◌, ◌<◌, ◌≤◌, true, false, cond, List, [], ◌∷◌, length, get_or, set, set-set, Option, Some, None, T, refl, sym, ap, subst, ◌∙◌, arith}
-use Rattle.std.specs.Prelude.{is_some, not}
+use Rattle.std.proofs.Common.{◌≡◌, ◌≢◌, ◌⊎◌, inl, inr, ℕ, suc, zero, ◌+◌, ◌-◌, ◌<◌, ◌≤◌, true, false, cond, List, [], ◌∷◌, length, get_or, set, set-set, Some, None, T, refl, sym, ap, subst, ◌∙◌, arith}
+use Rattle.std.specs.Prelude.{not}
 use Rattle.std.specs.List.{Contains, insert, remove}
 use Rattle.std.specs.Option.{option_and_then, option_map, option_map_or}
 use Rattle.std.specs.List.Sorted.{IsStrictlySortedBy}
@@ -16,7 +16,7 @@ use Rattle.canvas_model.specs.declared.ObjId.{ObjId}
 use Rattle.canvas_model.specs.declared.Kind.{Kind}
 use Rattle.canvas_model.specs.declared.Kind.TheVariants.{Document}
 use Rattle.canvas_model.specs.Ids.{id_cmp, root, same_id}
-use Rattle.canvas_model.specs.Document.{Doc, IsDocument, Object, Place, blank, new_object, place_of}
+use Rattle.canvas_model.specs.Document.{Doc, Object, Place, blank, new_object, place_of}
 use Rattle.canvas_doc.specs.Sorted.{is_other, IsPairAt}
 use Rattle.canvas_doc.specs.declared.spots.Spot.{Spot}
 use Rattle.canvas_doc.specs.Spots.{AreSpots, IsCut, Places, is_before, new_spot, spot_cmp}
@@ -30,21 +30,10 @@ use Rattle.canvas_doc.proofs.Spotted.{spots_with, spots_without, cut_below, cut_
 pub any_spot : Spot
 any_spot = new_spot root (record { parent = root; pos = [] })
 
-placed_as : Option Object → Option Place
-placed_as = option_and_then (λ o. o.place)
-
 -- one object more
 module _ (es fs : List (ObjId × Object)) (d : Doc) (id : ObjId) (kind : Kind) (s : Place) (o : Object) (sorted : T (map.is_sorted id_cmp es)) (view : map.from_sorted es ≡ d) (bare : o ≡ new_object kind (Some s)) (is : fs ≡ map.put id_cmp id o es) where
   now_is : map.from_sorted {R = id_cmp} fs ≡ map.insert d id (new_object kind (Some s))
   now_is = more_inserted es fs d id kind s o sorted view bare is
-
-  pub put_spots : map.get d id ≡ None → (spots : List Spot) → AreSpots (place_of (map.from_sorted es)) spots → (i : ℕ) → IsCut (place_of (map.from_sorted es)) s.parent s.pos id spots i → AreSpots (place_of (map.from_sorted fs)) (insert spots i (new_spot id s))
-  unfolding placed_as
-  put_spots free spots are i cut =
-      spots_with (place_of (map.from_sorted es)) (place_of (map.from_sorted fs)) spots are id
-      (λ x ne. ap placed_as (ap (λ d. map.get d x) now_is ∙ get_other d id (new_object kind (Some s)) x ne ∙ sym (ap (λ d. map.get d x) view)))
-      (ap placed_as (ap (λ d. map.get d id) view ∙ free)) s
-      (ap placed_as (ap (λ d. map.get d id) now_is ∙ get_same d id (new_object kind (Some s)))) i cut
 
 -- one object less
 module _ (es fs : List (ObjId × Object)) (d : Doc) (id : ObjId) (sorted : T (map.is_sorted id_cmp es)) (view : map.from_sorted es ≡ d) (kept : fs ≡ where_key id_cmp (is_other id_cmp id) es) where
@@ -53,13 +42,6 @@ module _ (es fs : List (ObjId × Object)) (d : Doc) (id : ObjId) (sorted : T (ma
 
   stays : (y : ObjId) → y ≢ id → cond (is_other id_cmp id y) (map.get d y) None ≡ map.get d y
   stays y ne = ap (λ b. cond (not b) (map.get d y) None) (differ y id ne)
-
-  pub removed_spots : (spots : List Spot) → AreSpots (place_of (map.from_sorted es)) spots → (i : ℕ) (x : Spot) → i < length spots → x ≡ get_or spots i x → x.id ≡ id → AreSpots (place_of (map.from_sorted fs)) (remove spots i)
-  unfolding placed_as
-  removed_spots spots are i x lt at of_id =
-      spots_without (place_of (map.from_sorted es)) (place_of (map.from_sorted fs)) spots are id
-      (λ y ne. ap placed_as (left_get y ∙ stays y ne ∙ sym (ap (λ d. map.get d y) view)))
-      (ap placed_as (left_get id ∙ ap (λ r. cond (not (is_eq r)) (map.get d id) None) (tied_itself ids_total id))) i x lt at of_id
 
 -- where the spot of an object stands
 module _ (p : Places) (spots : List Spot) (are : AreSpots p spots) (id : ObjId) (place : Place) (stands : p id ≡ Some place) (i : ℕ) (cut : IsCut p place.parent place.pos id spots i) where
@@ -94,15 +76,6 @@ module _ (p : Places) (spots : List Spot) (are : AreSpots p spots) (id : ObjId) 
 module _ (es : List (ObjId × Object)) (sorted : T (map.is_sorted id_cmp es)) (id : ObjId) (i : ℕ) (found : IsPairAt id_cmp es id i) where
   pub found_is : (d : ObjId × Object) → map.get (map.from_sorted {R = id_cmp} es) id ≡ Some (get_or es i d).1
   found_is d = map.get-from_sorted id_cmp es id sorted ∙ found.found d
-
-  pub stands_somewhere : IsDocument (map.from_sorted es) → id ≢ root → (s : Place) × (place_of (map.from_sorted es) id ≡ Some s)
-  stands_somewhere document ne = document.others id ne (ap is_some (found_is (id, new_object Document None)))
-
--- an object that was taken out again
-pub taken_back : {X : Type 0} (xs : List X) (i : ℕ) (x : X) → i ≤ length xs → remove (insert xs i x) i ≡ xs
-taken_back xs zero x le = refl
-taken_back [] (suc i) x le = absurd (omega arith)
-taken_back (y ∷ xs) (suc i) x le = ap (λ l. y ∷ l) (taken_back xs i x (omega arith))
 
 -- an object that was replaced twice
 pub twice : (es fs gs : List (ObjId × Object)) (id : ObjId) (i : ℕ) (e : ObjId × Object) (b o : Object) → IsPairAt id_cmp es id i → e ≡ get_or es i e → fs ≡ set es i (id, b) → gs ≡ set fs i (id, o) → gs ≡ set es i (e.0, o)

@@ -7,16 +7,15 @@ use Rattle.std.specs.FinMap as map
 use Rattle.std.specs.FinMap.Entries.{where_key}
 use Rattle.std.proofs.lemmas.Map.Views.{Contains-from_any}
 use Rattle.canvas_model.specs.declared.ObjId.{ObjId}
-use Rattle.canvas_model.specs.Ids.{id_cmp, root, same_id, IsId}
-use Rattle.canvas_model.specs.Document.{Doc, Object, Place, place_of, revise, without, IsDocument}
-use Rattle.canvas_doc.specs.Sorted.{is_other, IsPairAt, IsGapAt}
-use Rattle.canvas_doc.proofs.Maps.{exact_ids, ids_total, get_is, put_sorted, put_inserts, differ, same_exact}
-use Rattle.canvas_doc.proofs.Kept.{get_removed, nothing_removed, kept_sorted, kept_is, removed_is}
-use Rattle.canvas_doc.proofs.Rooted.{dead_there, document_put, document_set}
-use Rattle.std.proofs.lemmas.List.{set-get_or}
+use Rattle.canvas_model.specs.Ids.{id_cmp, root, same_id}
+use Rattle.canvas_model.specs.Document.{Doc, Object, Place, place_of, without, IsDocument}
+use Rattle.canvas_doc.specs.Sorted.{is_other, IsPairAt}
+use Rattle.canvas_doc.proofs.Maps.{exact_ids, ids_total, get_is, put_inserts, differ, same_exact}
+use Rattle.canvas_doc.proofs.Kept.{get_removed, kept_sorted, removed_is}
+use Rattle.canvas_doc.proofs.Rooted.{dead_there, document_set}
 use Rattle.canvas_doc.proofs.Searched.{set_puts}
-use Rattle.canvas_doc.specs.Known.{IsObject, HasObjects}
-use Rattle.canvas_doc.proofs.Known.{row_put, rows_kept}
+use Rattle.canvas_doc.specs.Known.{HasObjects}
+use Rattle.canvas_doc.proofs.Known.{rows_kept}
 
 -- a document of which some objects but not the root were removed
 document_kept : (p : ObjId → Bool) (d n : Doc) → ((q : ObjId) → map.get n q ≡ cond (p q) (map.get d q) None) → p root ≡ true → IsDocument d → IsDocument n
@@ -65,18 +64,6 @@ module _ (es fs : List (ObjId × Object)) (d : Doc) (ids : List ObjId) (sorted :
     | false ↦ λ e. refl
   ] refl
 
-  pub without_sorted : T (map.is_sorted id_cmp fs)
-  without_sorted = kept_sorted id_cmp (stays ids) es fs sorted kept
-
-  pub without_is : map.from_sorted fs ≡ without d ids
-  without_is = kept_is ids_total exact_ids (stays ids) es fs d (without d ids) sorted kept view get_without
-
-  pub without_document : (Contains ids root → ⊥) → IsDocument d → IsDocument (map.from_sorted {R = id_cmp} fs)
-  without_document absent h = subst IsDocument (sym without_is) (document_kept (stays ids) d (without d ids) get_without (root_stays absent) h)
-
-  pub without_known : HasObjects d → HasObjects (map.from_sorted {R = id_cmp} fs)
-  without_known h = subst HasObjects (sym without_is) (rows_kept (stays ids) d (without d ids) get_without h)
-
 -- the pairs of which one has another object
 module _ (f : Object → Object) (es fs : List (ObjId × Object)) (d : Doc) (id : ObjId) (i : ℕ) (e : ObjId × Object) (o : Object) (sorted : T (map.is_sorted id_cmp es)) (view : map.from_sorted es ≡ d) (same : fs ≡ es) (found : IsPairAt id_cmp fs id i) (is : e ≡ get_or es i e) (changed : o ≡ f e.1) where
   found_in : IsPairAt id_cmp es id i
@@ -94,29 +81,6 @@ module _ (f : Object → Object) (es fs : List (ObjId × Object)) (d : Doc) (id 
   pub inserted : map.from_sorted (slice_set es i (e.0, o)) ≡ map.insert d id (f e.1)
   inserted = put_inserts ids_total es _ d id (f e.1) sorted view changed_pairs
 
-  pub changed_sorted : T (map.is_sorted id_cmp (slice_set es i (e.0, o)))
-  changed_sorted = put_sorted ids_total es _ id (f e.1) sorted changed_pairs
-
-  pub changed_is : map.from_sorted (slice_set es i (e.0, o)) ≡ revise d id (option_map f (map.get d id))
-  changed_is = inserted ∙ sym (ap (λ x. revise d id (option_map f x)) there)
-
-  pub changed_known : IsId id → IsObject o → HasObjects d → HasObjects (map.from_sorted {R = id_cmp} (slice_set es i (e.0, o)))
-  changed_known is known h = subst HasObjects (sym inserted) (row_put d id (f e.1) h is (subst IsObject changed known))
-
-  -- it stands somewhere, and isn't the root
-  pub moved_document : (place : Place) → (f e.1).place ≡ Some place → id ≢ root → IsDocument d → IsDocument (map.from_sorted {R = id_cmp} (slice_set es i (e.0, o)))
-  moved_document place stands ne h = subst IsDocument (sym inserted) (document_put d id (f e.1) place stands (λ e. ne (sym e)) h)
-
   -- its kind and its place are as before
   pub set_document : (f e.1).kind ≡ e.1.kind → (f e.1).place ≡ e.1.place → IsDocument d → IsDocument (map.from_sorted {R = id_cmp} (slice_set es i (e.0, o)))
   set_document kind place h = subst IsDocument (sym inserted) (document_set d id e.1 (f e.1) there kind place h)
-
--- the pairs of which one was written back as it was
-pub written_back : (es : List (ObjId × Object)) (i : ℕ) (e : ObjId × Object) (o : Object) → e ≡ get_or es i e → o ≡ e.1 → slice_set es i (e.0, o) ≡ es
-written_back es i e o is same = ap (λ o. slice_set es i (e.0, o)) same ∙ ap (slice_set es i) is ∙ set-get_or es i e
-
--- a change of what isn't there changes nothing
-pub not_changed : (f : Object → Object) (es fs : List (ObjId × Object)) (d : Doc) (id : ObjId) (i : ℕ) → T (map.is_sorted id_cmp es) → map.from_sorted es ≡ d → fs ≡ es → IsGapAt id_cmp fs id i → d ≡ revise d id (option_map f (map.get d id))
-not_changed f es fs d id i sorted view same gap =
-    let none : map.get d id ≡ None = get_is es d id sorted view ∙ ap (map.find id_cmp id) (sym same) ∙ gap.absent in
-    nothing_removed ids_total exact_ids d id none ∙ sym (ap (λ x. revise d id (option_map f x)) none)

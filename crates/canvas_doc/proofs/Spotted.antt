@@ -138,16 +138,6 @@ turned Less b = refl
 turned Equal b = refl
 turned Greater b = refl
 
-turned_none : (a : Ordering) → match_ordering a true false false ≡ is_lt a
-turned_none Less = refl
-turned_none Equal = refl
-turned_none Greater = refl
-
-first_first : (a b : Ordering) → ordering_then a b ≡ Less → is_lt a ≡ false → a ≡ Equal
-first_first Less b e n = absurd (let f : true ≡ false = n in cc)
-first_first Equal b e n = refl
-first_first Greater b e n = absurd (let f : Greater ≡ Less = e in cc)
-
 third_ties : (a b c : Ordering) → ordering_then a (ordering_then b c) ≡ Equal → c ≡ Equal
 third_ties Equal Equal c e = e
 third_ties Equal Less c e = absurd (let f : Less ≡ Equal = e in cc)
@@ -208,7 +198,7 @@ key_at p s place e = ap (λ (o : Option Place). (s.parent, (option_map_or (λ (x
 
 module _ (p q : Places) (spots : List Spot) (are : AreSpots p spots) (id : ObjId) (others : (x : ObjId) → x ≢ id → q x ≡ p x) where
   -- none of them is of an object that stands nowhere
-  other_than : p id ≡ None → (s : Spot) → Contains spots s → s.id ≢ id
+  pub other_than : p id ≡ None → (s : Spot) → Contains spots s → s.id ≢ id
   other_than nowhere s inside same =
       let there = placed p spots are s inside in
       let f : None ≡ Some there.0 = sym nowhere ∙ ap p (sym same) ∙ there.1 in cc

@@ -1,9 +1,8 @@
 -- Documents of which one object after another was removed.
-use Rattle.std.proofs.Common.{◌≡◌, Bool, true, false, cond, ◌||◌, List, [], ◌∷◌, ◌++◌, ◌-◌, ◌<◌, None, length, reverse, refl, sym, ap, ◌∙◌, arith}
+use Rattle.std.proofs.Common.{◌≡◌, Bool, true, false, cond, ◌||◌, List, [], ◌∷◌, ◌++◌, None, reverse, refl, sym, ap, ◌∙◌}
 use Rattle.std.specs.Prelude.{not}
-use Rattle.std.specs.List.{Contains, list_any}
+use Rattle.std.specs.List.{list_any}
 use Rattle.std.specs.FinMap as map
-use Rattle.std.proofs.lemmas.List.{get_or-reverse, length-reverse}
 use Rattle.std.proofs.lemmas.List.Folds.{list_any-append}
 use Rattle.std.proofs.lemmas.List.Sorted.{IsPermutation-reverse, list_any-IsPermutation}
 use Rattle.canvas_model.specs.declared.ObjId.{ObjId}
@@ -44,10 +43,3 @@ without_reverse d ids = map.same_map ids_total exact_ids _ _ (λ q.
     get_without d (reverse ids) q
     ∙ ap (λ b. cond (not b) (map.get d q) None) (sym (list_any-IsPermutation (same_id q) ids (reverse ids) (IsPermutation-reverse ids)))
     ∙ sym (get_without d ids q))
-
--- what the ids in the other order contain, they contain
-pub contains_reverse : (ids : List ObjId) (id : ObjId) → Contains (reverse ids) id → Contains ids id
-contains_reverse ids id found = (length ids - 1 - found.0, omega (arith, found.1, length-reverse ids), sym (get_or-reverse ids found.0 id (within found.1)) ∙ found.2)
-  where
-    within : found.0 < length (reverse ids) → found.0 < length ids
-    within lt = omega (arith, lt, length-reverse ids)

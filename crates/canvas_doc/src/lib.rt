@@ -35,9 +35,11 @@ pub use object::Object;
 pub use objects::Objects;
 pub use place::Place;
 use place::know_id;
-use rows::{Rows, copy_rows, gap_of, object_of, row_of, rows_and_spots, same_rows};
+use rows::{Rows, copy_rows, object_of, put_row, replace_row, rows_and_spots, same_rows, take_row};
 use sorted::is_sorted;
-use spots::{Spot, Spots, copy_spots, cut, first_of, ids_under, next_from, spot_of, stands_there};
+use spots::{
+    Spots, copy_spots, from_cut, ids_under, move_spot, next_of, put_spot, stands_there, take_spot,
+};
 
 /// A document: its live objects by their ids. The root, `ObjId::ROOT`, is always live, a `Document` without a place;
 /// every other live object has a place, whose parent may be any id.
@@ -91,13 +93,9 @@ impl<A: Allocator + Copy> Doc<A> {
         ensures err { OnErr result (self.new ≡ self.old) }
     {
         let alloc = self.rows.allocator();
-        let spot = Spot::new(id, &place);
-        let at = cut(&self.rows, &self.spots, place.parent, &place.pos, id);
-        let row = gap_of(&self.rows, id);
-        self.rows
-            .insert(row, (id, Object::new(alloc, kind, Some(place))))?;
-        if self.spots.insert(at, spot).is_err() {
-            self.rows.remove(row);
+        put_row(&mut self.rows, id, Object::new(alloc, kind, Some(place)))?;
+        if put_spot(&self.rows, &mut self.spots, id).is_err() {
+            take_row(&mut self.rows, id);
             return Err(AllocError);
         }
         Ok(())
@@ -123,16 +121,14 @@ impl<A: Allocator + Copy> Doc<A> {
         requires { id ≢ root }
         ensures { self.new ≡ revise self.old id (option_map (with_place place) (map.get self.old id)) }
     {
-        if let Ok(row) = row_of(&self.rows, id) {
-            let to = cut(&self.rows, &self.spots, place.parent, &place.pos, id);
-            let from = spot_of(&self.rows, &self.spots, id);
-            let to = if from < to { to - 1 } else { to };
-            self.spots.move_to(from, to, Spot::new(id, &place));
-            let bare = Object::new(self.rows.allocator(), Kind::Document, None);
-            let mut object = self.rows.replace(row, (id, bare)).1;
-            object.put_place(place);
-            let _ = self.rows.replace(row, (id, object));
+        if object_of(&self.rows, id).is_none() {
+            return;
         }
+        move_spot(&self.rows, &mut self.spots, id, &place);
+        let bare = Object::new(self.rows.allocator(), Kind::Document, None);
+        let mut object = replace_row(&mut self.rows, id, bare);
+        object.put_place(place);
+        let _ = replace_row(&mut self.rows, id, object);
     }
 
     /// Gives a property of an object this value, or takes the property away where there is none. Where the object isn't live,
@@ -146,14 +142,14 @@ impl<A: Allocator + Copy> Doc<A> {
         ensures ok { OnOk result (self.new ≡ revise self.old id (option_map (with_prop name value) (map.get self.old id))) }
         ensures err { OnErr result (self.new ≡ self.old) }
     {
-        if let Ok(row) = row_of(&self.rows, id) {
-            let bare = Object::new(self.rows.allocator(), Kind::Document, None);
-            let mut object = self.rows.replace(row, (id, bare)).1;
-            let done = object.put_prop(name, value);
-            let _ = self.rows.replace(row, (id, object));
-            done?;
+        if object_of(&self.rows, id).is_none() {
+            return Ok(());
         }
-        Ok(())
+        let bare = Object::new(self.rows.allocator(), Kind::Document, None);
+        let mut object = replace_row(&mut self.rows, id, bare);
+        let done = object.put_prop(name, value);
+        let _ = replace_row(&mut self.rows, id, object);
+        done
     }
 }
 
@@ -239,8 +235,7 @@ impl<A: Allocator> Doc<A> {
     pub fn taken<B: Allocator>(&self, parent: ObjId, pos: &Pos<B>, except: ObjId) -> bool
         ensures { IsTrue result ↔ IsTaken self.now parent except pos.now }
     {
-        let first = cut(&self.rows, &self.spots, parent, pos, ObjId::ROOT);
-        let mut rest = self.spots.iter_from(first);
+        let mut rest = from_cut(&self.rows, &self.spots, parent, pos, ObjId::ROOT);
         while let Some(spot) = rest.next() {
             if !stands_there(&self.rows, spot, parent, pos) {
                 return false;
@@ -262,8 +257,7 @@ impl<A: Allocator> Doc<A> {
     ) -> Option<&'a Pos<A>>
         ensures { IsNext self.now parent except (option_copied after.entry) (option_copied result) }
     {
-        let first = first_of(&self.rows, &self.spots, parent, after);
-        next_from(&self.rows, &self.spots, first, parent, after, except)
+        next_of(&self.rows, &self.spots, parent, after, except)
     }
 
     /// Removes an object, which must not be the root; what lies below it stays. Where it isn't live, nothing changes.
@@ -271,10 +265,9 @@ impl<A: Allocator> Doc<A> {
         requires { id ≢ root }
         ensures { self.new ≡ map.remove self.old id }
     {
-        if let Ok(row) = row_of(&self.rows, id) {
-            let spot = spot_of(&self.rows, &self.spots, id);
-            self.spots.remove(spot);
-            self.rows.remove(row);
+        if self.has(id) {
+            take_spot(&self.rows, &mut self.spots, id);
+            take_row(&mut self.rows, id);
         }
     }
 
@@ -285,7 +278,7 @@ impl<A: Allocator> Doc<A> {
         requires not_root { Contains ids.now root → ⊥ }
         ensures { self.new ≡ without self.old ids.now }
     {
-        // The last one first, so that few blocks stand behind each.
+        // The last one first, so that few rows of a block stand behind each.
         for id in ids.iter().rev() {
             self.remove(*id);
         }

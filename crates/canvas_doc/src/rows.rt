@@ -1,50 +1,22 @@
 // The live objects in the order of their ids.
-ghost use Rattle.std.specs.Prelude.{All, ◌≡◌, ◌↔◌, ◌++◌, ◌∷◌, [], false, IsTrue, IfOk, IfErr, OnOk, Some, T};
+ghost use Rattle.std.specs.Prelude.{All, ◌≡◌, ◌↔◌, ◌++◌, ◌∷◌, [], true, false, IsTrue, IfOk, OnOk, OnErr, Some, T};
 ghost use Rattle.std.specs.Option.{option_copied};
 ghost use Rattle.std.specs.FinMap as map;
+ghost use Rattle.std.specs.FinMap.Entries.{where_key};
 ghost use Rattle.canvas_model.specs.Document.{live, place_of};
 ghost use Rattle.canvas_model.specs.Ids.{id_cmp};
 ghost use Rattle.canvas_doc.specs.Known.{IsRow};
-ghost use Rattle.canvas_doc.specs.Sorted.{IsPairAt, IsGapAt};
+ghost use Rattle.canvas_doc.specs.Sorted.{is_other};
 ghost use Rattle.canvas_doc.specs.Spots.{AreSpots, is_lesser};
 
 use crate::object::same_object;
-use crate::spots::{Spot, Spots, cut};
+use crate::spots::{Spots, add_spot};
 use crate::{ObjId, Object};
 use canvas_blocks::BlockList;
 use std::alloc::{AllocError, Allocator};
 
 /// The live objects with their ids, in id order.
 pub type Rows<A> = BlockList<(ObjId, Object<A>), A>;
-
-/// The index of the object's row, or the one where it would go.
-pub fn row_of<A: Allocator>(rows: &Rows<A>, id: ObjId) -> Result<usize, usize>
-    requires { T (map.is_sorted id_cmp rows.now) }
-    ensures found { IfOk result (λ i. IsPairAt id_cmp rows.now id i) }
-    ensures absent { IfErr result (λ i. IsGapAt id_cmp rows.now id i) }
-{
-    let at = rows.edge(
-        |row: &(ObjId, Object<A>)| -> bool
-            ensures { result ≡ is_lesser id row.now.0 }
-        { row.0 < id },
-    );
-    match rows.get(at) {
-        Some(row) => { if row.0 == id { Ok(at) } else { Err(at) } }
-        None => Err(at),
-    }
-}
-
-/// The index where the row of an object goes that isn't live.
-pub fn gap_of<A: Allocator>(rows: &Rows<A>, id: ObjId) -> usize
-    requires sorted { T (map.is_sorted id_cmp rows.now) }
-    requires gone { live (map.from_sorted rows.now) id ≡ false }
-    ensures { IsGapAt id_cmp rows.now id result }
-{
-    match row_of(rows, id) {
-        Ok(row) => row,
-        Err(row) => row,
-    }
-}
 
 /// The object, if it is live.
 pub fn object_of<A: Allocator>(rows: &Rows<A>, id: ObjId) -> Option<&Object<A>>
@@ -56,6 +28,58 @@ pub fn object_of<A: Allocator>(rows: &Rows<A>, id: ObjId) -> Option<&Object<A>>
         { row.0 < id },
     )?;
     if row.0 == id { Some(&row.1) } else { None }
+}
+
+/// Adds the row of an object that isn't live. Where memory is refused, nothing has changed.
+pub fn put_row<A: Allocator + Copy>(
+    rows: &mut Rows<A>,
+    id: ObjId,
+    object: Object<A>,
+) -> Result<(), AllocError>
+    requires sorted { T (map.is_sorted id_cmp rows.old) }
+    requires gone { live (map.from_sorted rows.old) id ≡ false }
+    ensures ok { OnOk result (rows.new ≡ map.put id_cmp id object rows.old) }
+    ensures err { OnErr result (rows.new ≡ rows.old) }
+{
+    rows.insert_at_edge(
+        |row: &(ObjId, Object<A>)| -> bool
+            ensures { result ≡ is_lesser id row.now.0 }
+        { row.0 < id },
+        (id, object),
+    )
+}
+
+/// Puts an object in place of a live one, and gives that one back.
+pub fn replace_row<A: Allocator + Copy>(
+    rows: &mut Rows<A>,
+    id: ObjId,
+    object: Object<A>,
+) -> Object<A>
+    requires sorted { T (map.is_sorted id_cmp rows.old) }
+    requires live { live (map.from_sorted rows.old) id ≡ true }
+    ensures object { map.find id_cmp id rows.old ≡ Some result }
+    ensures rows { rows.new ≡ map.put id_cmp id object rows.old }
+{
+    let old = rows.replace_value_at_edge(
+        |row: &(ObjId, Object<A>)| -> bool
+            ensures { result ≡ is_lesser id row.now.0 }
+        { row.0 < id },
+        object,
+    );
+    old.unwrap()
+}
+
+/// Takes the row of a live object out.
+pub fn take_row<A: Allocator>(rows: &mut Rows<A>, id: ObjId)
+    requires sorted { T (map.is_sorted id_cmp rows.old) }
+    requires live { live (map.from_sorted rows.old) id ≡ true }
+    ensures { rows.new ≡ where_key id_cmp (is_other id_cmp id) rows.old }
+{
+    let _ = rows.remove_at_edge(
+        |row: &(ObjId, Object<A>)| -> bool
+            ensures { result ≡ is_lesser id row.now.0 }
+        { row.0 < id },
+    );
 }
 
 /// The rows of these objects, whose ids rise strictly, and their spots. Fails only where memory is refused.
@@ -107,10 +131,7 @@ fn append_spot<A: Allocator + Copy>(
     ensures { OnOk result (AreSpots (place_of (map.from_sorted (rows.now ++ (id, object.now) ∷ []))) spots.new) }
 {
     match object.place() {
-        Some(place) => {
-            let at = cut(rows, spots, place.parent, &place.pos, id);
-            spots.insert(at, Spot::new(id, place))
-        }
+        Some(place) => add_spot(rows, spots, id, place),
         None => Ok(()),
     }
 }

@@ -1,6 +1,7 @@
 // The objects that stand somewhere, in the order of their parents, positions and ids: of each its spot. It has the first digits of
 // the position, so that most comparisons of two spots needn't look a position up.
-ghost use Rattle.std.specs.Prelude.{◌≡◌, ◌↔◌, ◌<◌, IsTrue, IfOk, Some, T, length, slice_index_or};
+ghost use Rattle.std.specs.Prelude.{◌≡◌, ◌≢◌, ◌↔◌, IsTrue, IfOk, OnOk, OnErr, Some, T, drop};
+ghost use Rattle.std.specs.List.{Contains, insert};
 ghost use Rattle.std.specs.Option.{option_copied};
 ghost use Rattle.std.specs.FinMap as map;
 ghost use Rattle.canvas_model.specs.Ids.{id_cmp};
@@ -10,12 +11,12 @@ ghost use Rattle.canvas_model.specs.Order.{IsAfter};
 ghost use Rattle.canvas_model.specs.Sibling.{IsNext};
 ghost use Rattle.canvas_pos.specs.Digits.{first_digits};
 ghost use Rattle.canvas_doc.specs.Known.{HasObjects};
-ghost use Rattle.canvas_doc.specs.Spots.{AreSpots, IsCut, IsFirst, IsStart, is_before, is_lesser, is_lower, new_spot, parent_at, pos_at, spot_at};
+ghost use Rattle.canvas_doc.specs.Spots.{AreSpots, IsCut, IsFirst, IsStart, Places, is_before, is_lesser, is_lower, new_spot, parent_at, pos_at, spot_at};
 
 use crate::ObjId;
 use crate::place::Place;
 use crate::rows::{Rows, object_of};
-use canvas_blocks::BlockList;
+use canvas_blocks::{BlockList, Iter};
 use canvas_pos::{Pos, digit_order};
 use std::alloc::{AllocError, Allocator};
 use std::cmp::Ordering;
@@ -53,21 +54,21 @@ pub fn pos_of<A: Allocator>(rows: &Rows<A>, id: ObjId) -> Option<&Pos<A>>
     Some(&place.pos)
 }
 
-/// Where the spot of an object with this parent, position and id stands or would go.
-pub fn cut<A: Allocator, B: Allocator>(
+/// The spots from the place on where the one of this parent, position and id stands or would go.
+pub fn from_cut<'a, A: Allocator, B: Allocator>(
     rows: &Rows<A>,
-    spots: &Spots<A>,
+    spots: &'a Spots<A>,
     parent: ObjId,
     pos: &Pos<B>,
     id: ObjId,
-) -> usize
+) -> Iter<'a, Spot, A>
     requires sorted { T (map.is_sorted id_cmp rows.now) }
     requires known { HasObjects (map.from_sorted rows.now) }
     requires spots { AreSpots (place_of (map.from_sorted rows.now)) spots.now }
-    ensures { IsCut (place_of (map.from_sorted rows.now)) parent pos.now id spots.now result }
+    ensures { (i : _) × IsCut (place_of (map.from_sorted rows.now)) parent pos.now id spots.now i × (result ≡ drop i spots.now) }
 {
     let digits = pos.first_digits();
-    spots.edge(
+    spots.iter_from_edge(
         |spot: &Spot| -> bool
             ensures { T (map.is_sorted id_cmp rows.entry.now) → HasObjects (map.from_sorted rows.entry.now) → digits ≡ first_digits pos.entry.now
                 → spot_at (place_of (map.from_sorted rows.entry.now)) spot.now.id ≡ Some spot.now
@@ -76,15 +77,141 @@ pub fn cut<A: Allocator, B: Allocator>(
     )
 }
 
-/// Where the spots under this parent begin.
-pub fn start<A: Allocator>(spots: &Spots<A>, parent: ObjId) -> usize
-    ensures { IsStart parent spots.now result }
+/// The spots from those under this parent on.
+pub fn from_start<A: Allocator>(spots: &Spots<A>, parent: ObjId) -> Iter<'_, Spot, A>
+    ensures { (i : _) × IsStart parent spots.now i × (result ≡ drop i spots.now) }
 {
-    spots.edge(
+    spots.iter_from_edge(
         |spot: &Spot| -> bool
             ensures { result ≡ is_lesser parent spot.now.parent }
         { spot.parent < parent },
     )
+}
+
+/// The spots from the place on where the search for the least position greater than `after` under this parent begins.
+pub fn from_first<'a, A: Allocator, B: Allocator>(
+    rows: &Rows<A>,
+    spots: &'a Spots<A>,
+    parent: ObjId,
+    after: Option<&Pos<B>>,
+) -> Iter<'a, Spot, A>
+    requires sorted { T (map.is_sorted id_cmp rows.now) }
+    requires known { HasObjects (map.from_sorted rows.now) }
+    requires spots { AreSpots (place_of (map.from_sorted rows.now)) spots.now }
+    ensures { (i : _) × IsFirst (place_of (map.from_sorted rows.now)) parent (option_copied after.entry) spots.now i × (result ≡ drop i spots.now) }
+{
+    match after {
+        Some(low) => from_cut(rows, spots, parent, low, ObjId::ROOT),
+        None => from_start(spots, parent),
+    }
+}
+
+/// Adds the spot of an object that stands at this place. Where memory is refused, nothing has changed.
+pub fn add_spot<A: Allocator + Copy>(
+    rows: &Rows<A>,
+    spots: &mut Spots<A>,
+    id: ObjId,
+    place: &Place<A>,
+) -> Result<(), AllocError>
+    requires sorted { T (map.is_sorted id_cmp rows.now) }
+    requires known { HasObjects (map.from_sorted rows.now) }
+    requires spots { (s : Spot) → Contains spots.old s → spot_at (place_of (map.from_sorted rows.now)) s.id ≡ Some s }
+    ensures ok { OnOk result ((i : _) × IsCut (place_of (map.from_sorted rows.now)) place.now.parent place.now.pos id spots.old i × (spots.new ≡ insert spots.old i (new_spot id place.now))) }
+    ensures err { OnErr result (spots.new ≡ spots.old) }
+{
+    let pos = &place.pos;
+    let digits = pos.first_digits();
+    let parent = place.parent;
+    spots.insert_at_edge(
+        |spot: &Spot| -> bool
+            ensures { T (map.is_sorted id_cmp rows.entry.now) → HasObjects (map.from_sorted rows.entry.now) → digits ≡ first_digits pos.entry.now
+                → spot_at (place_of (map.from_sorted rows.entry.now)) spot.now.id ≡ Some spot.now
+                → result ≡ is_before (place_of (map.from_sorted rows.entry.now)) parent pos.entry.now id spot.now }
+        { stands_before(rows, spot, parent, digits, pos, id) },
+        Spot::new(id, place),
+    )
+}
+
+/// Adds the spot of a live object that has none yet, where it stands somewhere. Where memory is refused, nothing has changed.
+pub fn put_spot<A: Allocator + Copy>(
+    rows: &Rows<A>,
+    spots: &mut Spots<A>,
+    id: ObjId,
+) -> Result<(), AllocError>
+    requires sorted { T (map.is_sorted id_cmp rows.now) }
+    requires known { HasObjects (map.from_sorted rows.now) }
+    requires spots { AreSpots (place_of (map.remove (map.from_sorted rows.now) id)) spots.old }
+    ensures ok { OnOk result (AreSpots (place_of (map.from_sorted rows.now)) spots.new) }
+    ensures err { OnErr result (spots.new ≡ spots.old) }
+{
+    match place_in(rows, id) {
+        Some(place) => add_spot(rows, spots, id, place),
+        None => Ok(()),
+    }
+}
+
+/// Takes the spot of an object out that stands somewhere.
+pub fn take_spot<A: Allocator>(rows: &Rows<A>, spots: &mut Spots<A>, id: ObjId)
+    requires sorted { T (map.is_sorted id_cmp rows.now) }
+    requires known { HasObjects (map.from_sorted rows.now) }
+    requires spots { AreSpots (place_of (map.from_sorted rows.now)) spots.old }
+    ensures { AreSpots (place_of (map.remove (map.from_sorted rows.now) id)) spots.new }
+{
+    if let Some(place) = place_in(rows, id) {
+        let pos = &place.pos;
+        let digits = pos.first_digits();
+        let parent = place.parent;
+        let _ = spots.remove_at_edge(
+            |spot: &Spot| -> bool
+                ensures { T (map.is_sorted id_cmp rows.entry.now) → HasObjects (map.from_sorted rows.entry.now) → digits ≡ first_digits pos.entry.now
+                    → spot_at (place_of (map.from_sorted rows.entry.now)) spot.now.id ≡ Some spot.now
+                    → result ≡ is_before (place_of (map.from_sorted rows.entry.now)) parent pos.entry.now id spot.now }
+            { stands_before(rows, spot, parent, digits, pos, id) },
+        );
+    }
+}
+
+/// Moves the spot of an object that stands somewhere to another place.
+pub fn move_spot<A: Allocator + Copy>(
+    rows: &Rows<A>,
+    spots: &mut Spots<A>,
+    id: ObjId,
+    place: &Place<A>,
+)
+    requires sorted { T (map.is_sorted id_cmp rows.now) }
+    requires known { HasObjects (map.from_sorted rows.now) }
+    requires spots { AreSpots (place_of (map.from_sorted rows.now)) spots.old }
+    requires stands { (parent : _) × (parent_at (place_of (map.from_sorted rows.now)) id ≡ Some parent) }
+    ensures { (p : Places) → ((q : _) → q ≢ id → p q ≡ place_of (map.from_sorted rows.now) q) → p id ≡ Some place.now → AreSpots p spots.new }
+{
+    if let Some(old) = place_in(rows, id) {
+        let old_pos = &old.pos;
+        let old_digits = old_pos.first_digits();
+        let old_parent = old.parent;
+        let pos = &place.pos;
+        let digits = pos.first_digits();
+        let parent = place.parent;
+        spots.move_to_edge(
+            |spot: &Spot| -> bool
+                ensures { T (map.is_sorted id_cmp rows.entry.now) → HasObjects (map.from_sorted rows.entry.now) → old_digits ≡ first_digits old_pos.entry.now
+                    → spot_at (place_of (map.from_sorted rows.entry.now)) spot.now.id ≡ Some spot.now
+                    → result ≡ is_before (place_of (map.from_sorted rows.entry.now)) old_parent old_pos.entry.now id spot.now }
+            { stands_before(rows, spot, old_parent, old_digits, old_pos, id) },
+            |spot: &Spot| -> bool
+                ensures { T (map.is_sorted id_cmp rows.entry.now) → HasObjects (map.from_sorted rows.entry.now) → digits ≡ first_digits pos.entry.now
+                    → spot_at (place_of (map.from_sorted rows.entry.now)) spot.now.id ≡ Some spot.now
+                    → result ≡ is_before (place_of (map.from_sorted rows.entry.now)) parent pos.entry.now id spot.now }
+            { stands_before(rows, spot, parent, digits, pos, id) },
+            Spot::new(id, place),
+        );
+    }
+}
+
+// Where the object stands, if it is live and stands somewhere.
+fn place_in<A: Allocator>(rows: &Rows<A>, id: ObjId) -> Option<&Place<A>>
+    ensures { T (map.is_sorted id_cmp rows.now) → option_copied result ≡ place_of (map.from_sorted rows.now) id }
+{
+    object_of(rows, id)?.place()
 }
 
 // Whether an object's spot stands before the one of this parent, position and id; `digits` are the position's first ones. The
@@ -129,24 +256,6 @@ fn stands_lower<A: Allocator, B: Allocator>(
     }
 }
 
-/// The index of the spot of an object that stands somewhere.
-pub fn spot_of<A: Allocator>(rows: &Rows<A>, spots: &Spots<A>, id: ObjId) -> usize
-    requires sorted { T (map.is_sorted id_cmp rows.now) }
-    requires spots { AreSpots (place_of (map.from_sorted rows.now)) spots.now }
-    requires known { HasObjects (map.from_sorted rows.now) }
-    requires stands { (parent : _) × (parent_at (place_of (map.from_sorted rows.now)) id ≡ Some parent) }
-    ensures bound { result < length spots.now }
-    ensures spot { (d : _) → (slice_index_or spots.now result d).id ≡ id }
-{
-    match object_of(rows, id) {
-        Some(object) => match object.place() {
-            Some(place) => cut(rows, spots, place.parent, &place.pos, id),
-            None => 0,
-        },
-        None => 0,
-    }
-}
-
 /// Whether the spot is under this parent at this position.
 pub fn stands_there<A: Allocator, B: Allocator>(
     rows: &Rows<A>,
@@ -165,39 +274,20 @@ pub fn stands_there<A: Allocator, B: Allocator>(
     }
 }
 
-/// Where the search for the least position greater than `after` under this parent begins.
-pub fn first_of<A: Allocator, B: Allocator>(
-    rows: &Rows<A>,
-    spots: &Spots<A>,
-    parent: ObjId,
-    after: Option<&Pos<B>>,
-) -> usize
-    requires sorted { T (map.is_sorted id_cmp rows.now) }
-    requires known { HasObjects (map.from_sorted rows.now) }
-    requires spots { AreSpots (place_of (map.from_sorted rows.now)) spots.now }
-    ensures { IsFirst (place_of (map.from_sorted rows.now)) parent (option_copied after.entry) spots.now result }
-{
-    match after {
-        Some(low) => cut(rows, spots, parent, low, ObjId::ROOT),
-        None => start(spots, parent),
-    }
-}
-
-/// The least position greater than `after` among the children of `parent` other than `except`, where the search begins here.
-pub fn next_from<'a, A: Allocator, B: Allocator>(
+/// The least position greater than `after` among the children of `parent` other than `except`.
+pub fn next_of<'a, A: Allocator, B: Allocator>(
     rows: &'a Rows<A>,
     spots: &Spots<A>,
-    first: usize,
     parent: ObjId,
     after: Option<&Pos<B>>,
     except: ObjId,
 ) -> Option<&'a Pos<A>>
     requires sorted { T (map.is_sorted id_cmp rows.now) }
+    requires known { HasObjects (map.from_sorted rows.now) }
     requires spots { AreSpots (place_of (map.from_sorted rows.now)) spots.now }
-    requires first { IsFirst (place_of (map.from_sorted rows.now)) parent (option_copied after) spots.now first }
     ensures { IsNext (map.from_sorted rows.now) parent except (option_copied after.entry) (option_copied result) }
 {
-    let mut rest = spots.iter_from(first);
+    let mut rest = from_first(rows, spots, parent, after);
     while let Some(spot) = rest.next() {
         if spot.parent != parent {
             return None;
@@ -231,8 +321,7 @@ pub fn ids_under<A: Allocator, B: Allocator>(
     ensures { (d : _) → AreSpots (place_of d) spots.now → IfOk result (λ ids. AreChildren d parent ids.items) }
 {
     let mut ids = Vec::new(alloc);
-    let first = start(spots, parent);
-    let mut rest = spots.iter_from(first);
+    let mut rest = from_start(spots, parent);
     while let Some(spot) = rest.next() {
         if spot.parent != parent {
             return Ok(ids);

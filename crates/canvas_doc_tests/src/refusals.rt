@@ -235,9 +235,9 @@ fn answer_has_growths(alloc: Global, question: Question, growths: u64) -> Result
 }
 
 const ANSWERS: [(Question, u64); 5] = [
-    (Question::Blank, 3),
+    (Question::Blank, 2),
     (Question::Children, 1),
-    (Question::Copy, 12),
+    (Question::Copy, 10),
     (Question::ChangeCopy, 2),
     (Question::ObjectCopy, 3),
 ];

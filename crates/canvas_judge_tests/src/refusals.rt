@@ -166,9 +166,9 @@ fn judgements(rt: HostRuntime) -> Result<(), Fail> {
 #[test]
 fn parts(rt: HostRuntime) -> Result<(), Fail> {
     for (question, growths) in [
-        (Question::Opening, 3),
+        (Question::Opening, 2),
         (Question::Below, 3),
-        (Question::StateCopy, 10),
+        (Question::StateCopy, 8),
     ] {
         assert!(rt; answer_has_growths(rt.alloc(), Next::Join, question, growths)?);
     }

@@ -1,5 +1,5 @@
 -- Counts that were raised or lowered by one.
-use Rattle.std.proofs.Common.{◌≡◌, ℕ, ◌+◌, Bool, true, false, cond, Option, Some, refl, sym, ap, ◌∙◌, arith}
+use Rattle.std.proofs.Common.{◌≡◌, ℕ, ◌+◌, ◌<◌, Bool, true, false, cond, Option, Some, None, refl, sym, ap, ◌∙◌, arith}
 use Rattle.std.specs.Prelude.{◌&&◌, not}
 use Rattle.std.specs.Option.{unwrap_or}
 use Rattle.std.specs.BTreeMap.{BTreeMap, Updates, is_at}
@@ -9,6 +9,15 @@ use Rattle.canvas_model.specs.declared.ObjId.{ObjId}
 use Rattle.canvas_model.specs.Ids.{id_cmp, root, same_id}
 use Rattle.canvas_model.proofs.Ids.{id_itself, id_total, same_id_true}
 use Rattle.canvas_pending.specs.Tallied.{Tally, HasNoZero, IsOneMore, is_it, of_objects}
+
+-- a count above 0 is found, and one that is 0 is not
+pub counted : (o : Option ℕ) → 0 < unwrap_or o 0 → o ≡ Some (unwrap_or o 0)
+counted None some = absurd (omega arith)
+counted (Some n) some = refl
+
+pub not_counted : (o : Option ℕ) → (o ≡ Some 0 → ⊥) → unwrap_or o 0 ≡ 0 → o ≡ None
+not_counted None some none = refl
+not_counted (Some n) some none = absurd (some (ap Some none))
 
 -- g has the count w where the test passes, and the counts of f elsewhere
 module _ {K : Type 0} (test : K → Bool) (f g : Tally K) (w : Option ℕ) (now : (k : K) → g k ≡ cond (test k) w (f k)) where

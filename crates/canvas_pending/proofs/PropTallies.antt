@@ -1,17 +1,17 @@
 -- Tallies of properties, of which one has another count.
-use Rattle.std.proofs.Common.{◌≡◌, ℕ, ◌+◌, Bool, true, false, cond, List, get_or, Some, None, T, refl, sym, ap, subst, ◌∙◌}
-use Rattle.std.specs.Prelude.{◌&&◌, not, slice_set}
-use Rattle.std.specs.List.{remove}
-use Rattle.std.specs.Option.{unwrap_or}
+use Rattle.std.proofs.Common.{◌≡◌, ℕ, ◌+◌, ◌<◌, Bool, true, false, cond, List, Some, None, T, refl, sym, ap, subst, ◌∙◌, arith}
+use Rattle.std.specs.Prelude.{◌&&◌, not}
+use Rattle.std.specs.List.{insert, remove}
 use Rattle.std.specs.FinMap as map
 use Rattle.std.specs.FinMap.Entries.{find-put, find-where_key, is_sorted-put, is_sorted-where_key, where_key}
 use Rattle.std.specs.Map.{count_at}
 use Rattle.std.specs.Cmp.{IsTotalOrder}
-use Rattle.std.specs.Ordering.{eq_by_cmp, is_eq, ordering_then}
+use Rattle.std.specs.Ordering.{eq_by_cmp, is_eq, is_lt, ordering_then}
 use Rattle.std.specs.declared.cmp.Ordering.{Ordering}
 use Rattle.std.specs.declared.cmp.Ordering.TheVariants.{Less, Equal, Greater}
 use Rattle.std.proofs.lemmas.Cmp.{on_total, then_total}
 use Rattle.std.proofs.lemmas.Map.Lookups.{CmpEqualImpliesEq, exact_pairs}
+use Rattle.canvas_blocks.specs.Blocks.{IsEdge}
 use Rattle.canvas_model.specs.declared.ObjId.{ObjId}
 use Rattle.canvas_model.specs.Ids.{id_cmp, same_id}
 use Rattle.canvas_model.specs.Document.{Name, name_cmp}
@@ -21,9 +21,10 @@ use Rattle.canvas_model.proofs.Fields.{name_itself, same_name_true}
 use Rattle.canvas_doc.specs.Sorted.{IsPairAt, is_other}
 use Rattle.canvas_doc.proofs.Maps.{exact_ids, ids_total}
 use Rattle.canvas_doc.proofs.Props.{exact_names, names_total}
-use Rattle.canvas_doc.proofs.Searched.{set_puts, taken_out}
+use Rattle.canvas_doc.proofs.Searched.{taken_out}
 use Rattle.canvas_pending.specs.Tallied.{HasNoZero, IsOneMore, is_prop, of_props, prop_cmp}
-use Rattle.canvas_pending.proofs.Counts.{lowered, no_zero, raised}
+use Rattle.canvas_pending.proofs.Counts.{counted, lowered, no_zero, not_counted, raised}
+use Rattle.canvas_pending.proofs.Edges.{gap_there, pair_there}
 
 pub props_total : IsTotalOrder prop_cmp
 props_total = then_total (on_total (λ k. k.0) ids_total) (on_total (λ k. k.1) names_total)
@@ -78,23 +79,10 @@ module _ (id : ObjId) (name : Name) where
           turned true = refl
           turned false = refl
 
-    -- the tally of the property is written anew, or taken out
+    -- the tally of the property is taken out
     module _ (i : ℕ) (at : IsPairAt prop_cmp es (id, name) i) where
-      pub replaced : (n : ℕ) → fs ≡ slice_set es i ((id, name), n) → fs ≡ map.put prop_cmp (id, name) n es
-      replaced n is =
-          is ∙ ap (λ k. slice_set es i (k, n)) (sym (exact_props (get_or es i ((id, name), n)).0 (id, name) (at.tied ((id, name), n))))
-          ∙ set_puts props_total es sorted (id, name) i at.in_range at.tied ((id, name), n) n
-
       pub without : fs ≡ remove es i → fs ≡ where_key prop_cmp (is_other prop_cmp (id, name)) es
       without is = taken_out props_total es es sorted refl (id, name) fs i at is
-
-  -- a count that was found, or not
-  module _ (es : List ((ObjId × Name) × ℕ)) where
-    was_found : (n : ℕ) → of_props es (id, name) ≡ Some n → (k : ObjId × Name) → is_prop id name k ≡ true → count_at (of_props es) k ≡ n
-    was_found n is k e = ap (count_at (of_props es)) (prop_itself k e) ∙ ap (λ o. unwrap_or o 0) is
-
-    was_absent : of_props es (id, name) ≡ None → (k : ObjId × Name) → is_prop id name k ≡ true → count_at (of_props es) k ≡ 0
-    was_absent is k e = ap (count_at (of_props es)) (prop_itself k e) ∙ ap (λ o. unwrap_or o 0) is
 
   module _ (es fs : List ((ObjId × Name) × ℕ)) (sorted : T (map.is_sorted prop_cmp es)) where
     -- with another count
@@ -102,20 +90,35 @@ module _ (id : ObjId) (name : Name) where
       pub put_no_zero : (Some n ≡ Some 0 → ⊥) → HasNoZero (of_props es) → HasNoZero (of_props fs)
       put_no_zero = no_zero (is_prop id name) (of_props es) (of_props fs) (Some n) (put_count es fs sorted n is)
 
-      pub raised_absent : of_props es (id, name) ≡ None → n ≡ 1 → IsOneMore (is_prop id name) (of_props es) (of_props fs)
-      raised_absent none up = raised (is_prop id name) (of_props es) (of_props fs) (Some n) (put_count es fs sorted n is) 0 (was_absent es none) up
-
-      module _ (count : ℕ) (there : of_props es (id, name) ≡ Some count) where
-        pub raised_found : n ≡ count + 1 → IsOneMore (is_prop id name) (of_props es) (of_props fs)
-        raised_found = raised (is_prop id name) (of_props es) (of_props fs) (Some n) (put_count es fs sorted n is) count (was_found es count there)
-
-        pub lowered_found : count ≡ n + 1 → IsOneMore (is_prop id name) (of_props fs) (of_props es)
-        lowered_found = lowered (is_prop id name) (of_props es) (of_props fs) (Some n) (put_count es fs sorted n is) count (was_found es count there)
-
     -- without the tally
     module _ (is : fs ≡ where_key prop_cmp (is_other prop_cmp (id, name)) es) where
       pub less_no_zero : HasNoZero (of_props es) → HasNoZero (of_props fs)
       less_no_zero = no_zero (is_prop id name) (of_props es) (of_props fs) None (less_count es fs sorted is) (λ e. absurd (cc))
 
-      pub lowered_away : of_props es (id, name) ≡ Some 1 → IsOneMore (is_prop id name) (of_props fs) (of_props es)
-      lowered_away there = lowered (is_prop id name) (of_props es) (of_props fs) None (less_count es fs sorted is) 1 (was_found es 1 there) refl
+-- a property that had this count
+module _ (id : ObjId) (name : Name) (es : List ((ObjId × Name) × ℕ)) (sorted : T (map.is_sorted prop_cmp es)) (count : ℕ) (told : count ≡ count_at (of_props es) (id, name)) where
+  was_told : (k : ObjId × Name) → is_prop id name k ≡ true → count_at (of_props es) k ≡ count
+  was_told k e = ap (count_at (of_props es)) (prop_itself id name k e) ∙ sym told
+
+  -- it has another one, or none any more
+  module _ (fs : List ((ObjId × Name) × ℕ)) where
+    pub raised_to : (n : ℕ) → fs ≡ map.put prop_cmp (id, name) n es → n ≡ count + 1 → IsOneMore (is_prop id name) (of_props es) (of_props fs)
+    raised_to n is = raised (is_prop id name) (of_props es) (of_props fs) (Some n) (put_count id name es fs sorted n is) count was_told
+
+    pub lowered_to : (n : ℕ) → fs ≡ map.put prop_cmp (id, name) n es → count ≡ n + 1 → IsOneMore (is_prop id name) (of_props fs) (of_props es)
+    lowered_to n is = lowered (is_prop id name) (of_props es) (of_props fs) (Some n) (put_count id name es fs sorted n is) count was_told
+
+    pub lowered_out : fs ≡ where_key prop_cmp (is_other prop_cmp (id, name)) es → count ≡ 1 → IsOneMore (is_prop id name) (of_props fs) (of_props es)
+    lowered_out is = lowered (is_prop id name) (of_props es) (of_props fs) None (less_count id name es fs sorted is) count was_told
+
+  -- at the edge its tally is put in, or taken out
+  module _ (i : ℕ) (edge : IsEdge (λ e b. b ≡ is_lt (prop_cmp e.0 (id, name))) es i) where
+    pub put_in : HasNoZero (of_props es) → (copy : Name) → copy ≡ name → count ≡ 0 → insert es i ((id, copy), 1) ≡ map.put prop_cmp (id, name) 1 es
+    put_in some copy same none =
+        ap (λ (n : Name). insert es i ((id, n), 1)) same
+        ∙ (gap_there props_total es sorted (id, name) i edge (not_counted (of_props es (id, name)) (some (id, name)) (sym told ∙ none))).put_there 1
+
+    pub taken_out_there : count ≡ 1 → remove es i ≡ where_key prop_cmp (is_other prop_cmp (id, name)) es
+    taken_out_there one =
+        let some : 0 < count_at (of_props es) (id, name) = omega (arith, told, one) in
+        without id name es (remove es i) sorted i (pair_there props_total es sorted (id, name) i edge (count_at (of_props es) (id, name)) (counted (of_props es (id, name)) some)) refl

@@ -10,7 +10,6 @@ use Rattle.canvas_model.specs.declared.ObjId.{ObjId}
 use Rattle.canvas_model.specs.Ids.{id_cmp, root, same_id}
 use Rattle.canvas_model.specs.Document.{Name, name_cmp}
 use Rattle.canvas_model.specs.View.{same_name}
-use Rattle.canvas_doc.specs.Sorted.{IsPairAt}
 
 -- the count of each key, if it has one
 abbrev pub Tally : Type 0 → Type 0
@@ -47,7 +46,3 @@ prop_cmp = then_cmp (on (λ k. k.0) id_cmp) (on (λ k. k.1) name_cmp)
 -- counts by property
 abbrev pub of_props : List ((ObjId × Name) × ℕ) → Tally (ObjId × Name)
 of_props tallies k = map.find prop_cmp k tallies
-
--- the property's tally is the one at this index, and has this count
-abbrev pub IsCountAt : List ((ObjId × Name) × ℕ) → ObjId × Name → ℕ → ℕ → Type 0
-IsCountAt tallies k i n = IsPairAt prop_cmp tallies k i × (of_props tallies k ≡ Some n)

@@ -1,11 +1,10 @@
 // How many changes are of a property of an object: counts by id and name.
-ghost use Rattle.std.specs.Prelude.{◌≡◌, ◌<◌, ℕ, List, true, IfOk, IfErr, OnOk, OnErr, T};
+ghost use Rattle.std.specs.Prelude.{◌≡◌, ◌<◌, ℕ, List, true, OnOk, OnErr, T};
 ghost use Rattle.std.specs.FinMap as map;
 ghost use Rattle.std.specs.Map.{count_at};
 ghost use Rattle.std.specs.Ordering.{is_lt};
 ghost use Rattle.canvas_model.specs.declared.ObjId.{ObjId as Id};
-ghost use Rattle.canvas_doc.specs.Sorted.{IsGapAt};
-ghost use Rattle.canvas_pending.specs.Tallied.{HasNoZero, IsCountAt, IsOneMore, is_prop, of_props, prop_cmp};
+ghost use Rattle.canvas_pending.specs.Tallied.{HasNoZero, IsOneMore, is_prop, of_props, prop_cmp};
 
 use canvas_blocks::BlockList;
 use canvas_doc::{Name, ObjId};
@@ -30,41 +29,25 @@ fn compare<A: Allocator, B: Allocator>(
     }
 }
 
-// The index and the count of the property, or the index where it would go.
-fn find<A: Allocator, B: Allocator>(
-    props: &Props<A>,
-    id: ObjId,
-    name: &Name<B>,
-) -> Result<(usize, u64), usize>
-    requires { T (map.is_sorted prop_cmp props.now) }
-    ensures found { IfOk result (λ at. IsCountAt props.now (id, name.now) at.0 at.1) }
-    ensures absent { IfErr result (λ i. IsGapAt prop_cmp props.now (id, name.now) i) }
-{
-    let at = props.edge(
-        |tally: &((ObjId, Name<A>), u64)| -> bool
-            ensures { result ≡ is_lt (prop_cmp tally.now.0 (id, name.entry.now)) }
-        { compare(&tally.0, id, name).is_lt() },
-    );
-    match props.get(at) {
-        Some(tally) => {
-            if compare(&tally.0, id, name).is_eq() {
-                Ok((at, tally.1))
-            } else {
-                Err(at)
-            }
-        }
-        None => Err(at),
-    }
-}
-
 /// How often the property was counted.
 pub fn count<A: Allocator, B: Allocator>(props: &Props<A>, id: ObjId, name: &Name<B>) -> u64
     requires { T (map.is_sorted prop_cmp props.now) }
     ensures { result ≡ count_at (of_props props.now) (id, name.now) }
 {
-    match find(props, id, name) {
-        Ok((_, count)) => count,
-        Err(_) => 0,
+    let tally = props.after_edge(
+        |tally: &((ObjId, Name<A>), u64)| -> bool
+            ensures { result ≡ is_lt (prop_cmp tally.now.0 (id, name.entry.now)) }
+        { compare(&tally.0, id, name).is_lt() },
+    );
+    match tally {
+        Some(tally) => {
+            if compare(&tally.0, id, name).is_eq() {
+                tally.1
+            } else {
+                0
+            }
+        }
+        None => 0,
     }
 }
 
@@ -81,17 +64,34 @@ pub fn raise<A: Allocator + Copy>(
     ensures sorted { T (map.is_sorted prop_cmp props.new) }
     ensures no_zero { HasNoZero (of_props props.new) }
 {
-    let name = name.copy_in(props.allocator())?;
-    match find(props, id, &name) {
-        Ok((at, count)) => {
-            let Some(more) = count.checked_add(1) else {
-                return Err(AllocError);
-            };
-            let _ = props.replace(at, ((id, name), more));
-            Ok(())
-        }
-        Err(at) => props.insert(at, ((id, name), 1)),
+    let key = (id, name.copy_in(props.allocator())?);
+    let Some(more) = count(props, id, name).checked_add(1) else {
+        return Err(AllocError);
+    };
+    if more == 1 {
+        return props.insert_at_edge(
+            |tally: &((ObjId, Name<A>), u64)| -> bool
+                ensures { result ≡ is_lt (prop_cmp tally.now.0 (id, name.entry.now)) }
+            { compare(&tally.0, id, name).is_lt() },
+            (key, 1),
+        );
     }
+    put_count(props, id, name, more);
+    Ok(())
+}
+
+// Gives the property, which was counted, this count.
+fn put_count<A: Allocator + Copy>(props: &mut Props<A>, id: ObjId, name: &Name<A>, count: u64)
+    requires sorted { T (map.is_sorted prop_cmp props.old) }
+    requires counted { 0 < count_at (of_props props.old) (id, name.now) }
+    ensures { props.new ≡ map.put prop_cmp (id, name.now) count props.old }
+{
+    let _ = props.replace_value_at_edge(
+        |tally: &((ObjId, Name<A>), u64)| -> bool
+            ensures { result ≡ is_lt (prop_cmp tally.now.0 (id, name.entry.now)) }
+        { compare(&tally.0, id, name).is_lt() },
+        count,
+    );
 }
 
 /// Counts the property once less; it must have been counted. Takes no memory.
@@ -103,12 +103,14 @@ pub fn lower<A: Allocator + Copy>(props: &mut Props<A>, id: ObjId, name: Name<A>
     ensures sorted { T (map.is_sorted prop_cmp props.new) }
     ensures no_zero { HasNoZero (of_props props.new) }
 {
-    let Ok((at, count)) = find(props, id, &name) else {
+    let count = count(props, id, &name);
+    if count > 1 {
+        put_count(props, id, &name, count - 1);
         return;
-    };
-    if count == 1 {
-        props.remove(at);
-    } else {
-        let _ = props.replace(at, ((id, name), count - 1));
     }
+    let _ = props.remove_at_edge(
+        |tally: &((ObjId, Name<A>), u64)| -> bool
+            ensures { result ≡ is_lt (prop_cmp tally.now.0 (id, name)) }
+        { compare(&tally.0, id, &name).is_lt() },
+    );
 }

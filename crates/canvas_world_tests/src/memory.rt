@@ -166,7 +166,7 @@ const OF_NODES: [Case; 8] = [
         lines: &[],
         step: AddNode,
         answer: Answer::NodeIs(1),
-        growths: 4,
+        growths: 3,
     },
     Case {
         name: "a second node",
@@ -174,7 +174,7 @@ const OF_NODES: [Case; 8] = [
         lines: &[],
         step: AddNode,
         answer: Answer::NodeIs(2),
-        growths: 3,
+        growths: 2,
     },
     Case {
         name: "a join that is asked for",
@@ -198,7 +198,7 @@ const OF_NODES: [Case; 8] = [
         lines: &[],
         step: Edit(2, Wish::Set(LEFT, 7)),
         answer: Answer::EditIs(1),
-        growths: 10,
+        growths: 9,
     },
     Case {
         name: "a move",
@@ -301,7 +301,7 @@ const DELIVERED: [Case; 4] = [
         ],
         step: Deliver(11),
         answer: Answer::Delivered(Received::Took),
-        growths: 13,
+        growths: 11,
     },
 ];
 
@@ -400,7 +400,7 @@ const OF_THE_SERVER: [Case; 4] = [
         lines: &[],
         step: Copy(1),
         answer: Answer::MessageIs(10),
-        growths: 9,
+        growths: 7,
     },
     Case {
         name: "a restart that loses an edit",
@@ -412,7 +412,7 @@ const OF_THE_SERVER: [Case; 4] = [
         ],
         step: Restart(5),
         answer: Answer::VersionIs(5),
-        growths: 10,
+        growths: 8,
     },
 ];
 

@@ -6,33 +6,36 @@ use Rattle.canvas_doc.proofs.spots.ids_under.Goals as goal
 
 pub loop-spot-init : goal.loop-spot-init
 loop-spot-init g c =
+    let at = c.from_start-rest.ensures in
     let none : length c.new-ids.result.items ≡ 0 = ap length c.new-ids.ensures.items in
-    (c.start-first.result, c.iter_from-rest.ensures, omega arith, c.start-first.ensures.within, (λ k d low lt. absurd (omega arith)), record { long = omega (arith, none); each = λ k r s lt. absurd (omega (arith, none)) })
+    (at.0, at.1, at.0, at.2, omega arith, at.1.within, (λ k d low lt. absurd (omega arith)), record { long = omega (arith, none); each = λ k r s lt. absurd (omega (arith, none)) })
 
 pub loop-spot-preserved : goal.loop-spot-preserved
 loop-spot-preserved g c =
     let inv = c.loop-spot.invariant in
     let x = c.in-Some.spot.now in
-    let step = rest_step c.args.spots.now c.loop-spot.rest c.next.new.self inv.0 x inv.1 c.in-Some.ensures.steps in (
-      suc inv.0,
+    let step = rest_step c.args.spots.now c.loop-spot.rest c.next.new.self inv.2 x inv.3 c.in-Some.ensures.steps in (
+      inv.0,
+      inv.1,
+      suc inv.2,
       step.2,
       omega arith,
       omega (arith, step.0),
-      pass_more (λ s. s.parent ≡ c.args.parent) c.args.spots.now c.start-first.result inv.0 x inv.4 step.1 (not_other x.parent c.args.parent c.ne.result c.ne.ensures c.if-ne.false),
-      ids_more c.args.spots.now c.start-first.result inv.0 c.loop-spot.ids.items c.push.new.self.items x inv.5 step.1 c.in_ok-push.ensures.items,
+      pass_more (λ s. s.parent ≡ c.args.parent) c.args.spots.now inv.0 inv.2 x inv.6 step.1 (not_other x.parent c.args.parent c.ne.result c.ne.ensures c.if-ne.false),
+      ids_more c.args.spots.now inv.0 inv.2 c.loop-spot.ids.items c.push.new.self.items x inv.7 step.1 c.in_ok-push.ensures.items,
     )
 
 pub returns-then-ne : goal.returns-then-ne
 returns-then-ne g c d are =
     let inv = c.loop-spot.invariant in
     let x = c.in-Some.spot.now in
-    let step = rest_step c.args.spots.now c.loop-spot.rest c.next.new.self inv.0 x inv.1 c.in-Some.ensures.steps in
-    children_are d c.args.spots.now are c.args.parent c.start-first.result inv.0 c.start-first.ensures inv.2 inv.3 inv.4
-    (λ s lt same. told_other x.parent c.args.parent c.ne.result c.ne.ensures c.if-ne.true (ap (λ y. y.parent) (sym (step.1 s)) ∙ same)) c.loop-spot.ids.items inv.5
+    let step = rest_step c.args.spots.now c.loop-spot.rest c.next.new.self inv.2 x inv.3 c.in-Some.ensures.steps in
+    children_are d c.args.spots.now are c.args.parent inv.0 inv.2 inv.1 inv.4 inv.5 inv.6
+    (λ s lt same. told_other x.parent c.args.parent c.ne.result c.ne.ensures c.if-ne.true (ap (λ y. y.parent) (sym (step.1 s)) ∙ same)) c.loop-spot.ids.items inv.7
 
 pub returns : goal.returns
 returns g c d are =
     let inv = c.loop-spot.invariant in
-    let past = rest_done c.args.spots.now c.loop-spot.rest inv.0 inv.1 c.in_default.ensures.steps.0 in
-    children_are d c.args.spots.now are c.args.parent c.start-first.result inv.0 c.start-first.ensures inv.2 inv.3 inv.4
-    (λ s lt same. omega (arith, past)) c.loop-spot.ids.items inv.5
+    let past = rest_done c.args.spots.now c.loop-spot.rest inv.2 inv.3 c.in_default.ensures.steps.0 in
+    children_are d c.args.spots.now are c.args.parent inv.0 inv.2 inv.1 inv.4 inv.5 inv.6
+    (λ s lt same. omega (arith, past)) c.loop-spot.ids.items inv.7

@@ -1,56 +1,44 @@
-use Rattle.std.proofs.Common.{◌≡◌, ◌+◌, ◌-◌, ◌∙◌, Some, ap, arith}
-use Rattle.std.specs.Option.{unwrap_or}
-use Rattle.canvas_doc.specs.Sorted.{IsGapAt}
-use Rattle.canvas_pending.specs.Tallied.{IsCountAt, prop_cmp}
-use Rattle.canvas_pending.proofs.PropTallies.{less_no_zero, less_sorted, lowered_away, lowered_found, prop_it, put_no_zero, put_sorted, replaced, without}
+use Rattle.std.proofs.Common.{◌≡◌, ◌-◌, ◌∙◌, rules, arith}
+use Rattle.canvas_pending.specs.Tallied.{prop_cmp}
+use Rattle.canvas_pending.proofs.Edges.{edge_by}
+use Rattle.canvas_pending.proofs.PropTallies.{less_no_zero, less_sorted, lowered_out, lowered_to, prop_it, put_no_zero, put_sorted, taken_out_there}
 use Rattle.canvas_pending.proofs.props.lower.Goals as goal
 
-pub returns-in_default-clause-lowered : goal.returns-in_default-clause-lowered
-returns-in_default-clause-lowered g c =
-    let gap : IsGapAt prop_cmp c.args.props.now (c.args.id, c.args.name) c.in_default.field-0 = c.in_default.ensures.absent in
-    let none = ap (λ o. unwrap_or o 0) gap.absent in
+pub returns-then-count-gt1-clause-lowered : goal.returns-then-count-gt1-clause-lowered
+returns-then-count-gt1-clause-lowered g c =
+    lowered_to c.args.id c.args.name c.args.props.now c.requires.sorted c.count-count.result c.count-count.ensures c.put_count.new.props (c.count-count.result - 1) c.put_count.ensures (omega arith)
+
+pub returns-then-count-gt1-clause-sorted : goal.returns-then-count-gt1-clause-sorted
+returns-then-count-gt1-clause-sorted g c = put_sorted c.args.id c.args.name c.args.props.now c.put_count.new.props c.requires.sorted (c.count-count.result - 1) c.put_count.ensures
+
+pub returns-then-count-gt1-clause-no_zero : goal.returns-then-count-gt1-clause-no_zero
+returns-then-count-gt1-clause-no_zero g c =
+    put_no_zero c.args.id c.args.name c.args.props.now c.put_count.new.props c.requires.sorted (c.count-count.result - 1) c.put_count.ensures
+    (λ e. let none_left : c.count-count.result - 1 ≡ 0 = cc in absurd (omega (arith, none_left))) c.requires.no_zero
+
+pub returns-clause-lowered : goal.returns-clause-lowered
+returns-clause-lowered g c =
+    let es = c.args.props.now in
+    let at = c.remove_at_edge.ensures in
     let some = c.requires.counted (c.args.id, c.args.name) (prop_it c.args.id c.args.name) in
-    absurd (omega (arith, none, some))
+    let one : c.count-count.result ≡ 1 = omega (arith, some, c.count-count.ensures) in
+    let gone = at.3 ∙ taken_out_there c.args.id c.args.name es c.requires.sorted c.count-count.result c.count-count.ensures at.0 (edge_by prop_cmp es (c.args.id, c.args.name) at.1 (λ e b called. search rules)) one in
+    lowered_out c.args.id c.args.name es c.requires.sorted c.count-count.result c.count-count.ensures c.remove_at_edge.new.self gone one
 
-pub returns-then-count-eq1-clause-lowered : goal.returns-then-count-eq1-clause-lowered
-returns-then-count-eq1-clause-lowered g c =
-    let at : IsCountAt c.args.props.now (c.args.id, c.args.name) c.in-Ok.at c.in-Ok.count = c.in-Ok.ensures.found in
-    let gone = without c.args.id c.args.name c.args.props.now c.remove.new.self c.requires.sorted c.in-Ok.at at.0 c.remove.ensures.items in
-    lowered_away c.args.id c.args.name c.args.props.now c.remove.new.self c.requires.sorted gone (at.1 ∙ ap Some c.if-count-eq1.true)
-
-pub returns-then-count-eq1-clause-sorted : goal.returns-then-count-eq1-clause-sorted
-returns-then-count-eq1-clause-sorted g c =
-    let at : IsCountAt c.args.props.now (c.args.id, c.args.name) c.in-Ok.at c.in-Ok.count = c.in-Ok.ensures.found in
-    let gone = without c.args.id c.args.name c.args.props.now c.remove.new.self c.requires.sorted c.in-Ok.at at.0 c.remove.ensures.items in
-    less_sorted c.args.id c.args.name c.args.props.now c.remove.new.self c.requires.sorted gone
-
-pub returns-then-count-eq1-clause-no_zero : goal.returns-then-count-eq1-clause-no_zero
-returns-then-count-eq1-clause-no_zero g c =
-    let at : IsCountAt c.args.props.now (c.args.id, c.args.name) c.in-Ok.at c.in-Ok.count = c.in-Ok.ensures.found in
-    let gone = without c.args.id c.args.name c.args.props.now c.remove.new.self c.requires.sorted c.in-Ok.at at.0 c.remove.ensures.items in
-    less_no_zero c.args.id c.args.name c.args.props.now c.remove.new.self c.requires.sorted gone c.requires.no_zero
-
-pub returns-else-count-eq1-clause-lowered : goal.returns-else-count-eq1-clause-lowered
-returns-else-count-eq1-clause-lowered g c =
-    let at : IsCountAt c.args.props.now (c.args.id, c.args.name) c.in-Ok.at c.in-Ok.count = c.in-Ok.ensures.found in
-    let put = replaced c.args.id c.args.name c.args.props.now c.replace.new.self c.requires.sorted c.in-Ok.at at.0 (c.in-Ok.count - 1) c.replace.ensures.items in
-    let is = ap (λ o. unwrap_or o 0) at.1 in
+pub returns-clause-sorted : goal.returns-clause-sorted
+returns-clause-sorted g c =
+    let es = c.args.props.now in
+    let at = c.remove_at_edge.ensures in
     let some = c.requires.counted (c.args.id, c.args.name) (prop_it c.args.id c.args.name) in
-    let down : c.in-Ok.count ≡ c.in-Ok.count - 1 + 1 = omega (arith, is, some) in
-    lowered_found c.args.id c.args.name c.args.props.now c.replace.new.self c.requires.sorted (c.in-Ok.count - 1) put c.in-Ok.count at.1 down
+    let one : c.count-count.result ≡ 1 = omega (arith, some, c.count-count.ensures) in
+    let gone = at.3 ∙ taken_out_there c.args.id c.args.name es c.requires.sorted c.count-count.result c.count-count.ensures at.0 (edge_by prop_cmp es (c.args.id, c.args.name) at.1 (λ e b called. search rules)) one in
+    less_sorted c.args.id c.args.name es c.remove_at_edge.new.self c.requires.sorted gone
 
-pub returns-else-count-eq1-clause-sorted : goal.returns-else-count-eq1-clause-sorted
-returns-else-count-eq1-clause-sorted g c =
-    let at : IsCountAt c.args.props.now (c.args.id, c.args.name) c.in-Ok.at c.in-Ok.count = c.in-Ok.ensures.found in
-    let put = replaced c.args.id c.args.name c.args.props.now c.replace.new.self c.requires.sorted c.in-Ok.at at.0 (c.in-Ok.count - 1) c.replace.ensures.items in
-    put_sorted c.args.id c.args.name c.args.props.now c.replace.new.self c.requires.sorted (c.in-Ok.count - 1) put
-
-pub returns-else-count-eq1-clause-no_zero : goal.returns-else-count-eq1-clause-no_zero
-returns-else-count-eq1-clause-no_zero g c =
-    let at : IsCountAt c.args.props.now (c.args.id, c.args.name) c.in-Ok.at c.in-Ok.count = c.in-Ok.ensures.found in
-    let put = replaced c.args.id c.args.name c.args.props.now c.replace.new.self c.requires.sorted c.in-Ok.at at.0 (c.in-Ok.count - 1) c.replace.ensures.items in
-    let is = ap (λ o. unwrap_or o 0) at.1 in
+pub returns-clause-no_zero : goal.returns-clause-no_zero
+returns-clause-no_zero g c =
+    let es = c.args.props.now in
+    let at = c.remove_at_edge.ensures in
     let some = c.requires.counted (c.args.id, c.args.name) (prop_it c.args.id c.args.name) in
-    let not_one = c.if-count-eq1.false in
-    put_no_zero c.args.id c.args.name c.args.props.now c.replace.new.self c.requires.sorted (c.in-Ok.count - 1) put
-    (λ e. let none_left : c.in-Ok.count - 1 ≡ 0 = cc in absurd (omega (arith, is, some, not_one, none_left))) c.requires.no_zero
+    let one : c.count-count.result ≡ 1 = omega (arith, some, c.count-count.ensures) in
+    let gone = at.3 ∙ taken_out_there c.args.id c.args.name es c.requires.sorted c.count-count.result c.count-count.ensures at.0 (edge_by prop_cmp es (c.args.id, c.args.name) at.1 (λ e b called. search rules)) one in
+    less_no_zero c.args.id c.args.name es c.remove_at_edge.new.self c.requires.sorted gone c.requires.no_zero
