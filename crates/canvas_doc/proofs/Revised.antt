@@ -12,7 +12,7 @@ use Rattle.canvas_model.specs.Document.{Doc, Object, Place, place_of, without, I
 use Rattle.canvas_doc.specs.Sorted.{is_other, IsPairAt}
 use Rattle.canvas_doc.proofs.Maps.{exact_ids, ids_total, get_is, put_inserts, differ, same_exact}
 use Rattle.canvas_doc.proofs.Kept.{get_removed, kept_sorted, removed_is}
-use Rattle.canvas_doc.proofs.Rooted.{dead_there, document_set}
+use Rattle.canvas_doc.proofs.Rooted.{dead_there}
 use Rattle.canvas_doc.proofs.Searched.{set_puts}
 use Rattle.canvas_doc.specs.Known.{HasObjects}
 use Rattle.canvas_doc.proofs.Known.{rows_kept}
@@ -80,7 +80,3 @@ module _ (f : Object → Object) (es fs : List (ObjId × Object)) (d : Doc) (id 
 
   pub inserted : map.from_sorted (slice_set es i (e.0, o)) ≡ map.insert d id (f e.1)
   inserted = put_inserts ids_total es _ d id (f e.1) sorted view changed_pairs
-
-  -- its kind and its place are as before
-  pub set_document : (f e.1).kind ≡ e.1.kind → (f e.1).place ≡ e.1.place → IsDocument d → IsDocument (map.from_sorted {R = id_cmp} (slice_set es i (e.0, o)))
-  set_document kind place h = subst IsDocument (sym inserted) (document_set d id e.1 (f e.1) there kind place h)

@@ -1,7 +1,7 @@
 use Rattle.std.proofs.Common.{◌∙◌, refl, ap, subst, arith}
 use Rattle.std.specs.Option.{option_map}
 use Rattle.std.specs.FinMap as map
-use Rattle.canvas_model.specs.Document.{IsDocument, place_of, with_place}
+use Rattle.canvas_model.specs.Document.{IsDocument, Object, place_of, with_place}
 use Rattle.canvas_doc.specs.Known.{HasObjects}
 use Rattle.canvas_doc.proofs.Replaced.{back_is, back_known, back_moved, back_sorted, lives_as, not_replaced, others_stay, out_lives, out_sorted, stands_now}
 use Rattle.canvas_doc.proofs.Doc.put_place.Goals as goal
@@ -28,15 +28,15 @@ invariant_of-self g c =
     let out = c.replace_row-object.ensures.rows in
     let found = c.replace_row-object.ensures.object in
     let back = c.replace_row.ensures.rows in
-    let moved = c.put_place.ensures.moved in
+    let stands = ap (λ (o : Object). o.place) c.put_place.ensures.moved in
     record {
-      sorted = back_sorted c.self.inside.rows c.replace_row-object.new.rows c.args.id c.new-bare.result c.self.invariant.sorted out (with_place c.args.place) c.replace_row.new.rows c.args.self.now c.replace_row-object.result c.put_place.new.self c.self.view_is found back moved;
-      document = back_moved c.self.inside.rows c.replace_row-object.new.rows c.args.id c.new-bare.result c.self.invariant.sorted out (with_place c.args.place) c.replace_row.new.rows c.args.self.now c.replace_row-object.result c.put_place.new.self c.self.view_is found back moved c.args.place refl c.requires (subst IsDocument c.self.view_is c.self.invariant.document);
-      known = back_known c.self.inside.rows c.replace_row-object.new.rows c.args.id c.new-bare.result c.self.invariant.sorted out (with_place c.args.place) c.replace_row.new.rows c.args.self.now c.replace_row-object.result c.put_place.new.self c.self.view_is found back moved (omega arith, omega arith) c.put_place.ensures.known (subst HasObjects c.self.view_is c.self.invariant.known);
+      sorted = back_sorted c.self.inside.rows c.replace_row-object.new.rows c.args.id c.new-bare.result c.self.invariant.sorted out c.replace_row.new.rows c.args.self.now c.replace_row-object.result c.put_place.new.self c.self.view_is found back;
+      document = back_moved c.self.inside.rows c.replace_row-object.new.rows c.args.id c.new-bare.result c.self.invariant.sorted out c.replace_row.new.rows c.args.self.now c.replace_row-object.result c.put_place.new.self c.self.view_is found back c.args.place stands c.requires (subst IsDocument c.self.view_is c.self.invariant.document);
+      known = back_known c.self.inside.rows c.replace_row-object.new.rows c.args.id c.new-bare.result c.self.invariant.sorted out c.replace_row.new.rows c.args.self.now c.replace_row-object.result c.put_place.new.self c.self.view_is found back (omega arith, omega arith) c.put_place.ensures.known (subst HasObjects c.self.view_is c.self.invariant.known);
       spots = c.move_spot.ensures (place_of (map.from_sorted c.replace_row.new.rows))
-          (others_stay c.self.inside.rows c.replace_row-object.new.rows c.args.id c.new-bare.result c.self.invariant.sorted out (with_place c.args.place) c.replace_row.new.rows c.args.self.now c.replace_row-object.result c.put_place.new.self c.self.view_is found back moved)
-          (stands_now c.self.inside.rows c.replace_row-object.new.rows c.args.id c.new-bare.result c.self.invariant.sorted out (with_place c.args.place) c.replace_row.new.rows c.args.self.now c.replace_row-object.result c.put_place.new.self c.self.view_is found back moved c.args.place refl);
+          (others_stay c.self.inside.rows c.replace_row-object.new.rows c.args.id c.new-bare.result c.self.invariant.sorted out c.replace_row.new.rows c.args.self.now c.replace_row-object.result c.put_place.new.self c.self.view_is found back c.args.place stands)
+          (stands_now c.self.inside.rows c.replace_row-object.new.rows c.args.id c.new-bare.result c.self.invariant.sorted out c.replace_row.new.rows c.args.self.now c.replace_row-object.result c.put_place.new.self c.self.view_is found back c.args.place stands);
     }
 
 pub returns : goal.returns
-returns g c = back_is c.self.inside.rows c.replace_row-object.new.rows c.args.id c.new-bare.result c.self.invariant.sorted c.replace_row-object.ensures.rows (with_place c.args.place) c.replace_row.new.rows c.args.self.now c.replace_row-object.result c.put_place.new.self c.self.view_is c.replace_row-object.ensures.object c.replace_row.ensures.rows c.put_place.ensures.moved
+returns g c = back_is c.self.inside.rows c.replace_row-object.new.rows c.args.id c.new-bare.result c.self.invariant.sorted c.replace_row-object.ensures.rows c.replace_row.new.rows c.args.self.now c.replace_row-object.result c.put_place.new.self c.self.view_is c.replace_row-object.ensures.object c.replace_row.ensures.rows (with_place c.args.place) c.put_place.ensures.moved
