@@ -8,11 +8,20 @@ use canvas_judge::Entry;
 use std::marker::Model;
 
 /// That an entry is published: the entry, its version, and the history that it ends.
-#[derive(Drop)]
 pub struct Receipt<N: RoomName> {
     entry: Entry,
     version: u64,
     front: Front<N>,
+}
+
+impl<N: RoomName> Drop for Receipt<N> {
+    fn drop(self) {
+        let Receipt {
+            entry: _,
+            version: _,
+            front: _,
+        } = self;
+    }
 }
 
 impl<N: RoomName> Model for Receipt<N> {

@@ -21,13 +21,24 @@ use std::marker::Model;
 ///
 /// What its waiting edits create is its own, each object once, and never the root; without an id nothing waits. It makes at most
 /// 2^62 edits.
-#[derive(Drop)]
 pub struct Client<A: Allocator = Global> {
     pub(crate) id: Option<u32>,
     pub(crate) counter: u32,
     pub(crate) version: u64,
     pub(crate) acknowledged: u64,
     pub(crate) merged: Merged<A>,
+}
+
+impl<A: Allocator> Drop for Client<A> {
+    fn drop(self) {
+        let Client {
+            id: _,
+            counter: _,
+            version: _,
+            acknowledged: _,
+            merged: _,
+        } = self;
+    }
 }
 
 impl<A: Allocator> Model for Client<A> {

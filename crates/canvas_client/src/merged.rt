@@ -23,12 +23,22 @@ use std::alloc::{AllocError, Allocator, Global};
 
 /// What a client shows, and its edits that wait, which are laid over it. Each change of the view and of the counts of what waits is
 /// counted, and how many the last taken entry made is kept.
-#[derive(Drop)]
 pub struct Merged<A: Allocator = Global> {
     pub(crate) waiting: Pending<A>,
     pub(crate) counted: Changes,
     pub(crate) shown: Shown<A>,
     pub(crate) last: u64,
+}
+
+impl<A: Allocator> Drop for Merged<A> {
+    fn drop(self) {
+        let Merged {
+            waiting: _,
+            counted: _,
+            shown: _,
+            last: _,
+        } = self;
+    }
 }
 
 impl<A: Allocator> Merged<A> {

@@ -9,9 +9,14 @@ use std::alloc::{AllocError, Allocator, Global};
 use std::marker::Model;
 
 /// What a user asks of a client. It holds no value that is too deep.
-#[derive(Drop)]
 pub struct EditRequest<A: Allocator = Global> {
     variant: EditRequestVariant<A>,
+}
+
+impl<A: Allocator> Drop for EditRequest<A> {
+    fn drop(self) {
+        let EditRequest { variant: _ } = self;
+    }
 }
 
 /// What a request asks for.

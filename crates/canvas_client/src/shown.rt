@@ -11,10 +11,15 @@ use canvas_doc::{Change, Doc, Kind, Name, ObjId, Place, Value};
 use std::alloc::{AllocError, Allocator, Global};
 
 /// A view, with the count of its changes: each call below that changes it counts one.
-#[derive(Drop)]
 pub struct Shown<A: Allocator = Global> {
     pub(crate) doc: Doc<A>,
     pub(crate) changes: Changes,
+}
+
+impl<A: Allocator> Drop for Shown<A> {
+    fn drop(self) {
+        let Shown { doc: _, changes: _ } = self;
+    }
 }
 
 impl<A: Allocator + Copy> Shown<A> {

@@ -47,10 +47,16 @@ use spots::{
 /// The objects stand in blocks in id order, and beside them their spots in the order of parents, positions and ids, each with the
 /// first digits of its position: what is asked of one object or of one place takes the logarithm of their number, and what adds,
 /// moves or removes one moves a block at most.
-#[derive(Debug, Drop)]
+#[derive(Debug)]
 pub struct Doc<A: Allocator = Global> {
     rows: Rows<A>,
     spots: Spots<A>,
+}
+
+impl<A: Allocator> Drop for Doc<A> {
+    fn drop(self) {
+        let Doc { rows: _, spots: _ } = self;
+    }
 }
 
 impl<A: Allocator> Model for Doc<A> {

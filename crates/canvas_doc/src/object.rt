@@ -16,11 +16,21 @@ use std::cmp::Ordering;
 use std::marker::Model;
 
 /// What is kept of a live object: its kind, its place unless it is the root, and its properties.
-#[derive(Debug, Drop)]
+#[derive(Debug)]
 pub struct Object<A: Allocator = Global> {
     kind: Kind,
     place: Option<Place<A>>,
     props: Vec<(Name<A>, Value<A>), A>,
+}
+
+impl<A: Allocator> Drop for Object<A> {
+    fn drop(self) {
+        let Object {
+            kind: _,
+            place: _,
+            props: _,
+        } = self;
+    }
 }
 
 impl<A: Allocator> Model for Object<A> {

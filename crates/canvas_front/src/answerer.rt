@@ -15,11 +15,20 @@ use std::marker::Model;
 use std::sync::Wait;
 
 /// A seat that answers clients, with what it needs to submit. Contracts see it as its seat.
-#[derive(Drop)]
 pub struct SeatAnswerer<N: RoomName, D: Drop, W: Drop> {
     alloc: Global,
     rt: W,
     seat: Seat<N, D>,
+}
+
+impl<N: RoomName, D: Drop, W: Drop> Drop for SeatAnswerer<N, D, W> {
+    fn drop(self) {
+        let SeatAnswerer {
+            alloc: _,
+            rt: _,
+            seat: _,
+        } = self;
+    }
 }
 
 impl<N: RoomName, D: Drop, W: Drop> Model for SeatAnswerer<N, D, W> {
@@ -47,7 +56,12 @@ impl<N: RoomName, D: Drop, W: Drop> SeatAnswerer<N, D, W> {
     pub fn into_seat(self) -> Seat<N, D>
         ensures { result ≡ self }
     {
-        self.seat
+        let SeatAnswerer {
+            alloc: _,
+            rt: _,
+            seat,
+        } = self;
+        seat
     }
 }
 

@@ -16,9 +16,14 @@ use std::marker::Model;
 use std::sync::Wait;
 
 /// A link to a seat in the same process. Contracts see it as its seat.
-#[derive(Drop)]
 pub struct SeatLink<N: RoomName, D: Drop, W: Drop> {
     answerer: SeatAnswerer<N, D, W>,
+}
+
+impl<N: RoomName, D: Drop, W: Drop> Drop for SeatLink<N, D, W> {
+    fn drop(self) {
+        let SeatLink { answerer: _ } = self;
+    }
 }
 
 impl<N: RoomName, D: Drop, W: Drop> Model for SeatLink<N, D, W> {
@@ -48,7 +53,8 @@ impl<N: RoomName, D: Drop, W: Drop> SeatLink<N, D, W> {
     pub fn into_seat(self) -> Seat<N, D>
         ensures { result ≡ self }
     {
-        self.answerer.into_seat()
+        let SeatLink { answerer } = self;
+        answerer.into_seat()
     }
 }
 

@@ -1,5 +1,7 @@
 // Messages between nodes and the server.
-ghost use Rattle.std.specs.Prelude.{◌≡◌, ◌↔◌, IfOk, IsTrue};
+ghost use Rattle.std.specs.Prelude.{◌≡◌, ◌↔◌, ℕ, IfOk, IfSome, IfNone, IsTrue};
+ghost use Rattle.canvas_model.specs.Change as change;
+ghost use Rattle.canvas_model.specs.Receive.{Sends};
 ghost use Rattle.canvas_judge.specs.Reasons.{number_of};
 ghost use Rattle.canvas_judge.specs.Seen.{seen_copy, seen_message};
 
@@ -9,7 +11,7 @@ use std::alloc::{AllocError, Allocator, Global};
 use thiserror::Error;
 
 /// What a node and the server send each other. Contracts see it by `seen_message`.
-#[derive(Debug, Drop)]
+#[derive(Debug)]
 pub enum Message<A: Allocator = Global> {
     /// A node asks for an id.
     Join,
@@ -46,8 +48,33 @@ pub enum Message<A: Allocator = Global> {
     No(NoReason),
 }
 
+impl<A: Allocator> Drop for Message<A> {
+    fn drop(self) {
+        match self {
+            Message::Join => {}
+            Message::Welcome(_) => {}
+            Message::Edit {
+                client: _,
+                seq: _,
+                change: _,
+            } => {}
+            Message::Ask {
+                client: _,
+                version: _,
+            } => {}
+            Message::Entry {
+                version: _,
+                entry: _,
+            } => {}
+            Message::Copy(_) => {}
+            Message::Idle => {}
+            Message::No(_) => {}
+        }
+    }
+}
+
 /// A copy of the server's document for one client.
-#[derive(Debug, Drop)]
+#[derive(Debug)]
 pub struct DocCopy<A: Allocator = Global> {
     /// The version that it is of.
     pub version: u64,
@@ -55,6 +82,16 @@ pub struct DocCopy<A: Allocator = Global> {
     pub done: u64,
     /// The document at that version.
     pub doc: Doc<A>,
+}
+
+impl<A: Allocator> Drop for DocCopy<A> {
+    fn drop(self) {
+        let DocCopy {
+            version: _,
+            done: _,
+            doc: _,
+        } = self;
+    }
 }
 
 /// Why the server doesn't do what a message asks.
@@ -173,6 +210,21 @@ impl<A: Allocator> Message<A> {
             Message::Copy(copy) => Ok(Message::Copy(copy.copy_in(alloc)?)),
             Message::Idle => Ok(Message::Idle),
             Message::No(reason) => Ok(Message::No(*reason)),
+        }
+    }
+
+    /// The client, the number and the change of an Edit. None of any other message.
+    pub fn into_edit(self) -> Option<(u32, u64, Change<A>)>
+        ensures some { IfSome result (λ edit. seen_message self ≡ Sends edit.0 edit.1 edit.2) }
+        ensures none { IfNone result ((client seq : ℕ) (change : change.Change) → seen_message self ≡ Sends client seq change → ⊥) }
+    {
+        match self {
+            Message::Edit {
+                client,
+                seq,
+                change,
+            } => Some((client, seq, change)),
+            _ => None,
         }
     }
 

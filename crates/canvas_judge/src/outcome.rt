@@ -7,7 +7,7 @@ use canvas_model::Reason;
 use std::alloc::{AllocError, Allocator, Global};
 
 /// What became of a request. Contracts see it by `seen_outcome`.
-#[derive(Debug, Drop)]
+#[derive(Debug)]
 pub enum Outcome<A: Allocator = Global> {
     /// A new client got this id.
     Joined(u32),
@@ -26,6 +26,22 @@ pub enum Outcome<A: Allocator = Global> {
         /// Where the object of a refused Move stands, if it has a place. `None` for any other change.
         stands: Option<Place<A>>,
     },
+}
+
+impl<A: Allocator> Drop for Outcome<A> {
+    fn drop(self) {
+        match self {
+            Outcome::Joined(_) => {}
+            Outcome::Created(_) => {}
+            Outcome::WasSet => {}
+            Outcome::Moved(_) => {}
+            Outcome::Removed(_) => {}
+            Outcome::Refused {
+                reason: _,
+                stands: _,
+            } => {}
+        }
+    }
 }
 
 impl<A: Allocator> Outcome<A> {

@@ -16,11 +16,20 @@ const MOST_MESSAGES: u32 = 65;
 /// A link over a WebSocket after its handshake. Each answer ends with its first Welcome, Idle or No, and has 65 messages at most.
 ///
 /// After any error but Refused a rest of the answer may be left unread, so each later round answers Ended.
-#[derive(Drop)]
 pub struct SocketLink<S: Drop, K: Drop> {
     alloc: Global,
     socket: WebSocket<S, K>,
     broken: bool,
+}
+
+impl<S: Drop, K: Drop> Drop for SocketLink<S, K> {
+    fn drop(self) {
+        let SocketLink {
+            alloc: _,
+            socket: _,
+            broken: _,
+        } = self;
+    }
 }
 
 impl<S: Read + Write + Drop, K: MaskKeys + Drop> SocketLink<S, K> {
@@ -35,7 +44,12 @@ impl<S: Read + Write + Drop, K: MaskKeys + Drop> SocketLink<S, K> {
 
     /// The socket.
     pub fn into_socket(self) -> WebSocket<S, K> {
-        self.socket
+        let SocketLink {
+            alloc: _,
+            socket,
+            broken: _,
+        } = self;
+        socket
     }
 
     // Sends a message as one binary message.

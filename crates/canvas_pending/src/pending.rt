@@ -15,10 +15,18 @@ use std::marker::Model;
 
 /// The edits of a client that wait to be judged, the oldest first. Beside them stands for each field how many of them write it, so
 /// that whether one of them does is asked in one look-up. A contract sees them as their list.
-#[derive(Drop)]
 pub struct Pending<A: Allocator = Global> {
     changes: VecDeque<Change<A>, A>,
     tallies: Tallies<A>,
+}
+
+impl<A: Allocator> Drop for Pending<A> {
+    fn drop(self) {
+        let Pending {
+            changes: _,
+            tallies: _,
+        } = self;
+    }
 }
 
 impl<A: Allocator> Model for Pending<A> {

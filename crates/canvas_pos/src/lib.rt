@@ -64,9 +64,14 @@ pub enum PosError {
 /// Where an object stands among its siblings: a fraction strictly between 0 and 1.
 ///
 /// A contract sees it as its bytes.
-#[derive(Drop)]
 pub struct Pos<A: Allocator = Global> {
     bytes: Vec<u8, A>,
+}
+
+impl<A: Allocator> Drop for Pos<A> {
+    fn drop(self) {
+        let Pos { bytes: _ } = self;
+    }
 }
 
 impl<A: Allocator> Model for Pos<A> {

@@ -21,10 +21,15 @@ pub struct Ticket<N: RoomName> {
 }
 
 /// What was told of a request, beside it. Contracts see it as what the seat had seen.
-#[derive(Drop)]
 pub struct Reply<N: RoomName> {
     ticket: Ticket<N>,
     told: Told<N>,
+}
+
+impl<N: RoomName> Drop for Reply<N> {
+    fn drop(self) {
+        let Reply { ticket: _, told: _ } = self;
+    }
 }
 
 impl<N: RoomName> Model for Reply<N> {
@@ -56,10 +61,18 @@ pub enum Slot<N: RoomName> {
 }
 
 /// A slot for each seat of a room, and whether a seat leads: it is to have what waits committed.
-#[derive(Drop)]
 pub struct Mailbox<N: RoomName> {
     slots: Vec<Slot<N>>,
     is_led: bool,
+}
+
+impl<N: RoomName> Drop for Mailbox<N> {
+    fn drop(self) {
+        let Mailbox {
+            slots: _,
+            is_led: _,
+        } = self;
+    }
 }
 
 // A request once more. Fails only where memory is refused.

@@ -20,13 +20,22 @@ use std::sync::{Arc, Mutex, MutexGuard, Wait};
 pub type Lock<K, N, R> = Mutex<Desk<K, N, R>>;
 
 /// A room: the lock round its desk.
-#[derive(Drop)]
 pub struct Room<K: Keeper + Drop, N: RoomName, R: Wait + Drop>
 where
     Board<N>: Absorb<Step<N>, State = [Mark; 0]>,
     Published: Protocol<Board<N>, LinkedList<Mark>>,
 {
     shared: Arc<Mutex<Desk<K, N, R>>, Global>,
+}
+
+impl<K: Keeper + Drop, N: RoomName, R: Wait + Drop> Drop for Room<K, N, R>
+where
+    Board<N>: Absorb<Step<N>, State = [Mark; 0]>,
+    Published: Protocol<Board<N>, LinkedList<Mark>>,
+{
+    fn drop(self) {
+        let Room { shared: _ } = self;
+    }
 }
 
 impl<K: Keeper + Drop, N: RoomName, R: Wait + Drop> Room<K, N, R> {

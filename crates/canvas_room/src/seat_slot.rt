@@ -15,18 +15,35 @@ use std::alloc::{AllocError, Global};
 use std::sync::{Arc, Condvar, Mutex, Wait};
 
 /// The mailbox of a room, and for each seat the call that it waits for there.
-#[derive(Drop)]
 pub struct SharedMailbox<N: RoomName> {
     mailbox: Mutex<Mailbox<N>>,
     calls: Vec<Condvar>,
 }
 
+impl<N: RoomName> Drop for SharedMailbox<N> {
+    fn drop(self) {
+        let SharedMailbox {
+            mailbox: _,
+            calls: _,
+        } = self;
+    }
+}
+
 /// The slot of a seat in the mailbox of its room.
-#[derive(Drop)]
 pub struct SeatSlot<N: RoomName> {
     alloc: Global,
     shared: Arc<SharedMailbox<N>, Global>,
     seat: usize,
+}
+
+impl<N: RoomName> Drop for SeatSlot<N> {
+    fn drop(self) {
+        let SeatSlot {
+            alloc: _,
+            shared: _,
+            seat: _,
+        } = self;
+    }
 }
 
 impl<N: RoomName> SharedMailbox<N> {

@@ -44,10 +44,18 @@ impl Promise<Ended> for KeepsId {
 ///
 /// It does what it is told in order, one after the other. It ends where it is told to stop, where nobody is left who could tell it
 /// anything, and where an exchange fails.
-#[derive(Drop)]
 pub struct ClientNode {
     commands: Sender<Command>,
     thread: PromisedHandle<Ended, KeepsId>,
+}
+
+impl Drop for ClientNode {
+    fn drop(self) {
+        let ClientNode {
+            commands: _,
+            thread: _,
+        } = self;
+    }
 }
 
 impl Model for ClientNode {

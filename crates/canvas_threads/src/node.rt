@@ -179,18 +179,15 @@ fn last_of(alloc: Global, client: &Client) -> Result<Request, AllocError>
     requires { 0 < length client.now.waiting }
     ensures { IfOk result (λ request. IsLastOf client.now (seen_request request)) }
 {
-    match client.message(alloc, client.unacknowledged())? {
-        Message::Edit {
-            client,
-            seq,
-            change,
-        } => Ok(Request::Edit {
-            client,
-            seq,
-            change,
-        }),
-        _ => unreachable!(),
-    }
+    let message = client.message(alloc, client.unacknowledged())?;
+    let Some((client, seq, change)) = message.into_edit() else {
+        unreachable!();
+    };
+    Ok(Request::Edit {
+        client,
+        seq,
+        change,
+    })
 }
 
 // Gives the client these messages of an answer, in their order.

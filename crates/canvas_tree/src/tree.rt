@@ -18,7 +18,7 @@ use std::marker::Model;
 /// A tree that was grown of a document has the root at its top; children stand by position and then
 /// by id, properties by name. A tree in an arena borrows the arena, and so is dropped before the
 /// arena's reset.
-#[derive(Debug, Drop)]
+#[derive(Debug)]
 pub struct Tree<A: Allocator = Global> {
     /// The id of the object at the top.
     pub id: ObjId,
@@ -30,6 +30,18 @@ pub struct Tree<A: Allocator = Global> {
     pub props: Vec<(Name<A>, Value<A>), A>,
     /// The trees below it.
     pub children: Vec<Tree<A>, A>,
+}
+
+impl<A: Allocator> Drop for Tree<A> {
+    fn drop(self) {
+        let Tree {
+            id: _,
+            kind: _,
+            pos: _,
+            props: _,
+            children: _,
+        } = self;
+    }
 }
 
 impl<A: Allocator> Model for Tree<A> {

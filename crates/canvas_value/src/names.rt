@@ -42,9 +42,14 @@ pub enum NameError {
 /// their bytes.
 ///
 /// A contract sees it as its bytes.
-#[derive(Drop)]
 pub struct Name<A: Allocator = Global> {
     bytes: Vec<u8, A>,
+}
+
+impl<A: Allocator> Drop for Name<A> {
+    fn drop(self) {
+        let Name { bytes: _ } = self;
+    }
 }
 
 impl<A: Allocator> Model for Name<A> {

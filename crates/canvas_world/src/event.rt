@@ -7,9 +7,14 @@ use std::alloc::{Allocator, Global};
 use std::marker::Model;
 
 /// What can happen in a world.
-#[derive(Drop)]
 pub struct Event<A: Allocator = Global> {
     variant: EventVariant<A>,
+}
+
+impl<A: Allocator> Drop for Event<A> {
+    fn drop(self) {
+        let Event { variant: _ } = self;
+    }
 }
 
 /// What happens. Nodes, messages and versions count from 1. What needs something that isn't there answers `Nothing`, and then nothing

@@ -29,7 +29,6 @@ pub use event::{Answer, Event, EventVariant};
 use parts::{Letter, Node, numbered};
 
 /// All nodes, the server, and every message ever sent. Every world is good.
-#[derive(Drop)]
 pub struct World<A: Allocator = Global> {
     server: Server<A>,
     log: Vec<Entry<A>, A>,
@@ -37,6 +36,19 @@ pub struct World<A: Allocator = Global> {
     synced: u64,
     letters: Vec<Letter<A>, A>,
     nodes: Vec<Node<A>, A>,
+}
+
+impl<A: Allocator> Drop for World<A> {
+    fn drop(self) {
+        let World {
+            server: _,
+            log: _,
+            askers: _,
+            synced: _,
+            letters: _,
+            nodes: _,
+        } = self;
+    }
 }
 
 impl<A: Allocator> Model for World<A> {

@@ -22,11 +22,20 @@ use std::alloc::{AllocError, Allocator, Global};
 use std::marker::Model;
 
 /// A message that was sent, by whom and to whom: 0 is the server.
-#[derive(Drop)]
 pub struct Letter<A: Allocator = Global> {
     pub from: u64,
     pub to: u64,
     pub message: Message<A>,
+}
+
+impl<A: Allocator> Drop for Letter<A> {
+    fn drop(self) {
+        let Letter {
+            from: _,
+            to: _,
+            message: _,
+        } = self;
+    }
 }
 
 impl<A: Allocator> Model for Letter<A> {
@@ -43,10 +52,18 @@ impl<A: Allocator> Model for Letter<A> {
 }
 
 /// A client, and all edits that it ever made.
-#[derive(Drop)]
 pub struct Node<A: Allocator = Global> {
     pub client: Client<A>,
     pub edits: Vec<Change<A>, A>,
+}
+
+impl<A: Allocator> Drop for Node<A> {
+    fn drop(self) {
+        let Node {
+            client: _,
+            edits: _,
+        } = self;
+    }
 }
 
 impl<A: Allocator> Model for Node<A> {

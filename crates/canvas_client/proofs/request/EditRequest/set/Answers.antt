@@ -1,9 +1,6 @@
 use Rattle.std.proofs.Common.{refl}
 use Rattle.canvas_client.proofs.request.EditRequest.set.Goals as goal
 
-pub same-name : goal.same-name
-same-name g c = refl
-
 pub same-value : goal.same-value
 same-value g c = refl
 
