@@ -31,6 +31,27 @@ pub(crate) struct Node<R: Drop> {
     ghost joined: { IsSome client.id },
 }
 
+// The link over a stream to a server. Device, where the handshake failed; Memory, where memory was refused.
+fn shake_hands<R: RandomSource + AllocGlobal + Clone + Drop>(
+    rt: &R,
+    stream: TcpStream,
+) -> Result<SocketLink<TcpStream, RandomKeys<R>>, Fault>
+    ensures { IfErr result IsMemoryOrDevice }
+{
+    let alloc = rt.alloc();
+    let keys = rt.clone()?;
+    // Each message leaves at once; without this some would wait for an acknowledgement.
+    let _ = stream.set_nodelay(true);
+    let Ok(request) = request_of(alloc, "ws://127.0.0.1/") else {
+        return Err(Fault::Memory);
+    };
+    match client(alloc, keys, request, stream) {
+        Ok((socket, _response)) => Ok(SocketLink::new(alloc, socket)),
+        Err(HandshakeError::Failure(Error::OutOfMemory)) => Err(Fault::Memory),
+        Err(_) => Err(Fault::Device),
+    }
+}
+
 impl<R: RandomSource + AllocGlobal + Clone + Drop> Node<R> {
     /// A client that joins the server at the other end of a stream.
     ///
@@ -40,17 +61,7 @@ impl<R: RandomSource + AllocGlobal + Clone + Drop> Node<R> {
         ensures faults { IfErr result IsMemoryOrDevice }
     {
         let alloc = rt.alloc();
-        // Each message leaves at once; without this some would wait for an acknowledgement.
-        let _ = stream.set_nodelay(true);
-        let Ok(request) = request_of(alloc, "ws://127.0.0.1/") else {
-            return Err(Fault::Memory);
-        };
-        let socket = match client(alloc, rt.clone()?, request, stream) {
-            Ok((socket, _response)) => socket,
-            Err(HandshakeError::Failure(Error::OutOfMemory)) => return Err(Fault::Memory),
-            Err(_) => return Err(Fault::Device),
-        };
-        let mut link = SocketLink::new(alloc, socket);
+        let mut link = shake_hands(rt, stream)?;
         let mut client = Client::new(alloc)?;
         join(&mut client, &mut link)?;
         Ok(Node { client, link })

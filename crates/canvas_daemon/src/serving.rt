@@ -203,8 +203,8 @@ where
     let alloc = rt.alloc();
     // Each answer leaves at once; without this some would wait for an acknowledgement.
     let _ = stream.set_nodelay(true);
+    let mut answerer = SeatAnswerer::new(alloc, rt.clone()?, seat);
     if let Ok(mut socket) = tungstenite::accept(alloc, stream) {
-        let mut answerer = SeatAnswerer::new(alloc, rt.clone()?, seat);
         let _ended = serve_one(alloc, &mut answerer, &mut socket);
     }
     Ok(())
