@@ -1,14 +1,11 @@
 //! A room whose keeper fails.
-ghost use Rattle.std.specs.Prelude.{◌≡◌};
-
-use crate::rooms::{Blank, room_in_memory};
-use crate::seats::{SeatOf, join_by, reads};
+use crate::seats::{join_by, reads};
+use canvas_benches::{Bench, RoomTest, SeatOf, told_in_memory};
 use canvas_board::RoomName;
 use canvas_desk::SubmitError;
 use canvas_journal::Keeper;
-use canvas_shelf::MemShelf;
+use canvas_room::{Room, Seat};
 use std::alloc::Global;
-use std::marker::Brand;
 use std::sync::Wait;
 use std::test::Fail;
 
@@ -24,38 +21,55 @@ fn answers_by<K: Keeper + Drop, N: RoomName, Q: Wait + Drop, W: Wait>(
     (joined, seat.tidy(rt, 0))
 }
 
-// Whether a room whose keeper fails in its second commit answers so, and both seats read what was published.
-fn answers<N: RoomName, R: Wait + Clone + Drop>(
-    rt: &R,
-    alloc: Global,
-    blank: Blank<MemShelf>,
-) -> Result<bool, Fail>
-    requires book { blank.book ≡ N.book }
-    requires opening { blank.opening ≡ N.opening }
-{
-    let (room, mut seats) = blank.open::<N, R>(rt.clone()?)?;
-    let mut one = seats.pop().ok_or("a first seat")?;
-    let mut two = seats.pop().ok_or("a second seat")?;
-    let answers = answers_by(rt, &mut one);
+// Whether a seat is answered so whose keeper fails in its second commit.
+fn is_answered<K: Keeper + Drop, N: RoomName, Q: Wait + Drop, W: Wait>(
+    rt: &W,
+    seat: &mut SeatOf<K, N, Q>,
+) -> bool {
     let failed = Err(SubmitError::Failed);
-    let is_right = answers
+    answers_by(rt, seat)
         == (
             [Ok(Some(1)), Err(SubmitError::Device), failed],
             Err(SubmitError::Failed),
-        );
-    let is_read = reads(alloc, &mut one, 0, &[(0, 0)])? && reads(alloc, &mut two, 0, &[(0, 0)])?;
-    Ok(is_right && is_read && two.joined(1)? && !two.joined(2)? && room.desk(rt).has_failed())
+        )
 }
 
-// The same, where that call of the shelf fails: opening makes 4, and a commit 2.
-fn answers_failing<R: Wait + Clone + Drop>(rt: &R, alloc: Global, call: u64) -> Result<bool, Fail> {
-    let blank = room_in_memory(alloc, 2, call)?;
-    answers::<Brand, _>(rt, alloc, blank)
+// Whether a seat reads the one Join that was published.
+fn reads_first<N: RoomName, D: Drop>(alloc: Global, seat: &mut Seat<N, D>) -> Result<bool, Fail> {
+    Ok(reads(alloc, seat, 0, &[(0, 0)])? && seat.joined(1)? && !seat.joined(2)?)
+}
+
+// Tells whether a room of two whose keeper fails in its second commit answers so, and both seats read what was published.
+#[derive(Clone, Copy)]
+struct Failing;
+
+impl<K: Keeper + Drop> RoomTest<K> for Failing {
+    type Told = bool;
+
+    fn ask<N: RoomName, Q: Wait + Drop, W: Wait>(
+        &self,
+        rt: &W,
+        alloc: Global,
+        room: &Room<K, N, Q>,
+        seats: &mut [SeatOf<K, N, Q>],
+    ) -> Result<bool, Fail> {
+        let [one, two] = seats else {
+            return Ok(false);
+        };
+        let is_right = is_answered(rt, one);
+        let is_read = reads_first(alloc, one)? && reads_first(alloc, two)?;
+        Ok(is_right && is_read && room.desk(rt).has_failed())
+    }
 }
 
 #[test]
 fn fails_once(rt: HostRuntime) -> Result<(), Fail> {
-    assert!(rt; answers_failing(&rt, rt.alloc(), 7)?);
-    assert!(rt; answers_failing(&rt, rt.alloc(), 8)?);
+    for failing in [7, 8] {
+        let bench = Bench { seats: 2, failing };
+        assert!(rt;
+            told_in_memory(rt, rt.alloc(), bench, &Failing)?,
+            "at {failing}"
+        );
+    }
     Ok(())
 }

@@ -6,7 +6,7 @@ mod answers;
 #[cfg(test)]
 mod failing;
 #[cfg(test)]
-mod rooms;
+mod folders;
 #[cfg(test)]
 mod seats;
 #[cfg(test)]

@@ -1,25 +1,23 @@
 //! What one seat does.
-use canvas_board::{Receipt, RoomName, SeatError};
+use canvas_benches::SeatOf;
+use canvas_board::{RoomName, SeatError};
 use canvas_desk::SubmitError;
 use canvas_journal::Keeper;
 use canvas_judge::{Entry, Outcome};
-use canvas_room::{Lock, Seat};
+use canvas_room::Seat;
 use canvas_samples::{new_page, object};
 use canvas_server::Request;
 use std::alloc::Global;
 use std::sync::Wait;
 use std::test::Fail;
 
-/// A seat of a room.
-pub type SeatOf<K, N, Q> = Seat<N, Lock<K, N, Q>>;
-
 /// The request of a client's edit that makes a page with the edit's number as its counter.
 pub fn page(alloc: Global, client: u32, seq: u64) -> Result<Request, Fail> {
-    let id = object(client, (seq % 1000) as u32);
+    let change = new_page(alloc, object(client, (seq % 1000) as u32))?;
     Ok(Request::Edit {
         client,
         seq,
-        change: new_page(alloc, id)?,
+        change,
     })
 }
 
@@ -70,23 +68,60 @@ pub fn reads<N: RoomName, D: Drop>(
     )
 }
 
-// Whether a seat that has learned of a Join's entry reads it, and a copy of the document that has seen it.
+// What the receipt of a Join tells: the id, and the versions before its entry and with it.
+#[derive(Clone, Copy)]
+struct Joined {
+    id: u32,
+    before: u64,
+    version: u64,
+}
+
+// Joins by a seat, and learns of the receipt. None where it gets no id.
+fn join_and_learn<K: Keeper + Drop, N: RoomName, Q: Wait + Drop, W: Wait>(
+    rt: &W,
+    seat: &mut SeatOf<K, N, Q>,
+) -> Option<Joined> {
+    let receipt = seat.submit(rt, &Request::Join).ok()?;
+    let (id, before, version) = (id_in(receipt.entry()), receipt.before(), receipt.version());
+    seat.learn(receipt);
+    Some(Joined {
+        id: id?,
+        before,
+        version,
+    })
+}
+
+// Whether a seat that has learned of a Join reads its entry.
+fn reads_entry<N: RoomName, D: Drop>(
+    alloc: Global,
+    seat: &mut Seat<N, D>,
+    joined: Joined,
+) -> Result<bool, SeatError> {
+    let Some(entries) = seat.tail(alloc, joined.before, 1)? else {
+        return Ok(false);
+    };
+    Ok(entries.first().and_then(id_in) == Some(joined.id))
+}
+
+// Whether a seat that has learned of a Join gives the client a copy of the document that has seen it.
+fn copies<N: RoomName, D: Drop>(
+    alloc: Global,
+    seat: &mut Seat<N, D>,
+    joined: Joined,
+) -> Result<bool, SeatError> {
+    let Some(copy) = seat.copy(alloc, joined.id)? else {
+        return Ok(false);
+    };
+    Ok(copy.version >= joined.version)
+}
+
+// Whether a seat that has learned of a Join reads it in each way.
 fn reads_own<N: RoomName, D: Drop>(
     alloc: Global,
     seat: &mut Seat<N, D>,
-    receipt: Receipt<N>,
-    id: u32,
+    joined: Joined,
 ) -> Result<bool, SeatError> {
-    let (before, version) = (receipt.before(), receipt.version());
-    seat.learn(receipt);
-    let Some(entries) = seat.tail(alloc, before, 1)? else {
-        return Ok(false);
-    };
-    let is_told = entries.first().and_then(id_in) == Some(id);
-    let Some(copy) = seat.copy(alloc, id)? else {
-        return Ok(false);
-    };
-    Ok(is_told && copy.version >= version && seat.joined(id)?)
+    Ok(reads_entry(alloc, seat, joined)? && copies(alloc, seat, joined)? && seat.joined(joined.id)?)
 }
 
 /// Joins, learns of the receipt, and reads the entry: the id, where all of that came about.
@@ -95,10 +130,9 @@ pub fn joins_and_reads<K: Keeper + Drop, N: RoomName, Q: Wait + Drop, W: Wait>(
     alloc: Global,
     mut seat: SeatOf<K, N, Q>,
 ) -> Option<u32> {
-    let receipt = seat.submit(rt, &Request::Join).ok()?;
-    let id = id_in(receipt.entry())?;
-    match reads_own(alloc, &mut seat, receipt, id) {
-        Ok(true) => Some(id),
+    let joined = join_and_learn(rt, &mut seat)?;
+    match reads_own(alloc, &mut seat, joined) {
+        Ok(true) => Some(joined.id),
         _ => None,
     }
 }

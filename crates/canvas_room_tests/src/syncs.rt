@@ -1,9 +1,9 @@
 //! Seats that meet at the lock of their room share a sync.
 ghost use Rattle.std.specs.Prelude.{◌≡◌};
 
-use crate::rooms::{Blank, room_in_memory};
-use crate::seats::{SeatOf, join_by};
+use crate::seats::join_by;
 use crate::threads::apart;
+use canvas_benches::{Bench, BlankMem, SeatOf, room_in_memory};
 use canvas_board::RoomName;
 use canvas_journal::{Journal, Keeper};
 use canvas_room::Room;
@@ -101,30 +101,40 @@ fn sync_count<N: RoomName, Q: Wait + Drop, W: Wait>(
 }
 
 // Whether seats that meet all get an id, at so many entries, by fewer syncs than those.
-fn are_synced_together<N: RoomName + Send + Sync, R: Threads + Wait + Clone + Drop + Send + Sync>(
+fn are_synced_together<N: RoomName + Send + Sync, Q: Wait + Drop + Send, R: Threads + Wait + Sync>(
     rt: &R,
-    blank: Blank<MemShelf>,
+    room: &Room<Journal<MemShelf>, N, Q>,
+    seats: Vec<SeatOf<Journal<MemShelf>, N, Q>>,
+) -> bool {
+    let before = sync_count(rt, room);
+    let is_met = all_meet(rt, room, seats);
+    let is_all = room.desk(rt).version() == SEATS as u64;
+    is_met && is_all && sync_count(rt, room) < before.saturating_add(SEATS)
+}
+
+// The same for the seats of a room that is opened for this.
+fn synced_in<N: RoomName + Send + Sync, R: Threads + Wait + Copy + Send + Sync + Drop>(
+    rt: R,
+    blank: BlankMem,
 ) -> Result<bool, Fail>
     requires book { blank.book ≡ N.book }
     requires opening { blank.opening ≡ N.opening }
 {
-    let (room, seats) = blank.open::<N, R>(rt.clone()?)?;
-    let before = sync_count(rt, &room);
-    let is_met = all_meet(rt, &room, seats);
-    let is_all = room.desk(rt).version() == SEATS as u64;
-    Ok(is_met && is_all && sync_count(rt, &room) < before.saturating_add(SEATS))
+    let (room, seats) = blank.open::<N, R>(rt)?;
+    Ok(are_synced_together(&rt, &room, seats))
 }
 
-fn synced_in_memory<R: Threads + Wait + Clone + Drop + Send + Sync>(
-    rt: &R,
+// The same for a room in memory.
+fn synced_in_memory<R: Threads + Wait + Copy + Send + Sync + Drop>(
+    rt: R,
     alloc: Global,
 ) -> Result<bool, Fail> {
-    let blank = room_in_memory(alloc, SEATS, 0)?;
-    are_synced_together::<Brand, _>(rt, blank)
+    let blank = room_in_memory(alloc, Bench::of(SEATS))?;
+    synced_in::<Brand, _>(rt, blank)
 }
 
 #[test]
 fn share_syncs(rt: HostRuntime) -> Result<(), Fail> {
-    assert!(rt; synced_in_memory(&rt, rt.alloc())?);
+    assert!(rt; synced_in_memory(rt, rt.alloc())?);
     Ok(())
 }

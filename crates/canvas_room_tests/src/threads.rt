@@ -1,13 +1,12 @@
 //! Seats on several threads.
 ghost use Rattle.std.specs.Prelude.{◌≡◌};
 
-use crate::rooms::{Blank, room_in_memory};
-use crate::seats::{SeatOf, join_by, joins_and_reads, reads};
+use crate::seats::{join_by, joins_and_reads, reads};
+use canvas_benches::{Bench, SeatOf, room_in_memory};
 use canvas_board::RoomName;
 use canvas_journal::Keeper;
 use canvas_room::{BlankRoom, Room, Seat};
-use canvas_shelf::MemShelf;
-use std::alloc::Global;
+use std::alloc::{AllocError, Global};
 use std::marker::Brand;
 use std::sync::Wait;
 use std::sync::atomic::{AtomicBool, Ordering};
@@ -33,88 +32,74 @@ pub fn apart<S: Send + Drop, A: Send, B, F: Fn(S) -> A + Sync, G: FnOnce() -> B,
     )
 }
 
-// The ids that two seats get which join on two threads, where each reads its own entry.
-fn join_both<
+// The ids that seats get, each joining and reading its own entry on a thread of its own.
+fn ids_of<
     K: Keeper + Drop + Send,
     N: RoomName + Send + Sync,
     Q: Wait + Drop + Send,
     R: Threads + Wait + Sync,
->(rt: &R, alloc: Global, one: SeatOf<K, N, Q>, two: SeatOf<K, N, Q>) -> (Option<u32>, Option<u32>) {
-    apart(
-        rt,
-        one,
-        &|seat| joins_and_reads(rt, alloc, seat),
-        || joins_and_reads(rt, alloc, two),
-    )
+>(rt: &R, alloc: Global, seats: Vec<SeatOf<K, N, Q>>) -> Result<Vec<Option<u32>>, AllocError> {
+    map_vec(rt, seats, &|seat| joins_and_reads(rt, alloc, seat))
 }
 
-// The same for the seats of a room of two, and the room's version then.
-fn ids_of_two<
+// Whether these are as many ids as there are, from 1 on, each once.
+fn are_first(ids: &[Option<u32>]) -> bool {
+    for (id, _) in (1u32..).zip(ids) {
+        if !ids.contains(&Some(id)) {
+            return false;
+        }
+    }
+    true
+}
+
+// Whether all seats of a room that join at once get the first ids, and how many entries the room then has.
+fn joined_by_all<
+    K: Keeper + Drop + Send,
+    N: RoomName + Send + Sync,
+    Q: Wait + Drop + Send,
+    R: Threads + Wait + Sync,
+>(
+    rt: &R,
+    alloc: Global,
+    room: &Room<K, N, Q>,
+    seats: Vec<SeatOf<K, N, Q>>,
+) -> Result<(bool, u64), Fail> {
+    let ids = ids_of(rt, alloc, seats)?;
+    Ok((are_first(&ids), room.desk(rt).version()))
+}
+
+// The same for the seats of a room that is opened for this.
+fn joined_in<
     N: RoomName + Send + Sync,
     K: Keeper + Drop + Send,
-    R: Threads + Wait + Clone + Drop + Send + Sync,
->(rt: &R, alloc: Global, blank: BlankRoom<K>) -> Result<(Option<u32>, Option<u32>, u64), Fail>
+    R: Threads + Wait + Copy + Send + Sync + Drop,
+>(rt: R, alloc: Global, blank: BlankRoom<K>) -> Result<(bool, u64), Fail>
     requires book { blank.book ≡ N.book }
     requires opening { blank.opening ≡ N.opening }
 {
-    let (room, mut seats) = blank.open::<N, R>(rt.clone()?)?;
-    let one = seats.pop().ok_or("a first seat")?;
-    let two = seats.pop().ok_or("a second seat")?;
-    let (a, b) = join_both(rt, alloc, one, two);
-    Ok((a, b, room.desk(rt).version()))
+    let (room, seats) = blank.open::<N, R>(rt)?;
+    joined_by_all(&rt, alloc, &room, seats)
 }
 
-// Whether these are the ids of the first two clients, and two entries.
-fn are_first_two(ids: (Option<u32>, Option<u32>, u64)) -> bool {
-    matches!(ids, (Some(1), Some(2), 2) | (Some(2), Some(1), 2))
-}
-
-fn two_in_memory<R: Threads + Wait + Clone + Drop + Send + Sync>(
-    rt: &R,
+// The same for a room of so many seats in memory.
+fn joined_at_once<R: Threads + Wait + Copy + Send + Sync + Drop>(
+    rt: R,
     alloc: Global,
-) -> Result<bool, Fail> {
-    let blank = room_in_memory(alloc, 2, 0)?;
-    Ok(are_first_two(ids_of_two::<Brand, _, _>(rt, alloc, blank)?))
+    seats: usize,
+) -> Result<(bool, u64), Fail> {
+    let blank = room_in_memory(alloc, Bench::of(seats))?;
+    joined_in::<Brand, _, _>(rt, alloc, blank)
 }
 
 #[test]
 fn two_seats(rt: HostRuntime) -> Result<(), Fail> {
-    assert!(rt; two_in_memory(&rt, rt.alloc())?);
+    assert_eq!(rt; joined_at_once(rt, rt.alloc(), 2)?, (true, 2));
     Ok(())
-}
-
-// The ids that all seats of a room get, each joining on a thread of its own, and then the room's version.
-fn ids_of_all<
-    N: RoomName + Send + Sync,
-    K: Keeper + Drop + Send,
-    R: Threads + Wait + Clone + Drop + Send + Sync,
->(rt: &R, alloc: Global, blank: BlankRoom<K>) -> Result<(Vec<Option<u32>>, u64), Fail>
-    requires book { blank.book ≡ N.book }
-    requires opening { blank.opening ≡ N.opening }
-{
-    let (room, seats) = blank.open::<N, R>(rt.clone()?)?;
-    let ids = map_vec(rt, seats, &|seat| joins_and_reads(rt, alloc, seat))?;
-    Ok((ids, room.desk(rt).version()))
-}
-
-// Whether eight seats that join at once get the ids from 1 to 8, each once.
-fn are_eight<R: Threads + Wait + Clone + Drop + Send + Sync>(
-    rt: &R,
-    alloc: Global,
-) -> Result<bool, Fail> {
-    let blank = room_in_memory(alloc, 8, 0)?;
-    let (ids, version) = ids_of_all::<Brand, _, _>(rt, alloc, blank)?;
-    for id in 1..9 {
-        if !ids.contains(&Some(id)) {
-            return Ok(false);
-        }
-    }
-    Ok(ids.len() == 8 && version == 8)
 }
 
 #[test]
 fn eight_at_once(rt: HostRuntime) -> Result<(), Fail> {
-    assert!(rt; are_eight(&rt, rt.alloc())?);
+    assert_eq!(rt; joined_at_once(rt, rt.alloc(), 8)?, (true, 8));
     Ok(())
 }
 
@@ -149,19 +134,32 @@ fn holds<K: Keeper + Drop, N: RoomName, Q: Wait + Drop, W: Wait>(
     is_raised(&flags.done) && desk.version() == 1
 }
 
-// Reads each way once the lock is held, and raises the flag then: whether what was read is right.
-fn reads_beside<N: RoomName, D: Drop>(alloc: Global, mut seat: Seat<N, D>, flags: &Flags) -> bool {
-    if !is_raised(&flags.held) {
-        return false;
-    }
+// Whether a seat reads the one Join of its room, each way.
+fn reads_first<N: RoomName, D: Drop>(alloc: Global, seat: &mut Seat<N, D>) -> bool {
     let is_joined = seat.joined(1) == Ok(true);
-    let is_told = reads(alloc, &mut seat, 0, &[(0, 0)]) == Ok(true);
+    let is_told = reads(alloc, seat, 0, &[(0, 0)]) == Ok(true);
     let is_copied = matches!(seat.copy(alloc, 1), Ok(Some(copy)) if copy.version == 1);
-    flags.done.store(true, Ordering::SeqCst);
     is_joined && is_told && is_copied
 }
 
-// Whether a seat reads while this thread holds the room's lock, and whether that was held until then.
+// Reads each way by the first of these seats once the lock is held, and raises the flag then: whether what was read is right.
+fn reads_beside<N: RoomName, D: Drop>(
+    alloc: Global,
+    mut seats: Vec<Seat<N, D>>,
+    flags: &Flags,
+) -> bool {
+    if !is_raised(&flags.held) {
+        return false;
+    }
+    let is_read = match seats.first_mut() {
+        Some(seat) => reads_first(alloc, seat),
+        None => false,
+    };
+    flags.done.store(true, Ordering::SeqCst);
+    is_read
+}
+
+// Whether the first of these seats reads while this thread holds the room's lock, and whether that was held until then.
 fn read_and_hold<
     K: Keeper + Drop + Send,
     N: RoomName + Send + Sync,
@@ -171,46 +169,69 @@ fn read_and_hold<
     rt: &R,
     alloc: Global,
     room: &Room<K, N, Q>,
-    seat: SeatOf<K, N, Q>,
+    seats: Vec<SeatOf<K, N, Q>>,
     flags: &Flags,
 ) -> (bool, bool) {
     apart(
         rt,
-        seat,
-        &|seat| reads_beside(alloc, seat, flags),
+        seats,
+        &|seats| reads_beside(alloc, seats, flags),
         || holds(rt, room, flags),
     )
 }
 
-// The same for the one seat of a room that client 1 has joined.
-fn read_while_held<N: RoomName + Send + Sync, R: Threads + Wait + Clone + Drop + Send + Sync>(
-    rt: &R,
-    alloc: Global,
-    blank: Blank<MemShelf>,
-) -> Result<(bool, bool), Fail>
-    requires book { blank.book ≡ N.book }
-    requires opening { blank.opening ≡ N.opening }
-{
-    let (room, mut seats) = blank.open::<N, R>(rt.clone()?)?;
-    let mut seat = seats.pop().ok_or("a seat")?;
-    join_by(rt, &mut seat)?;
+// Whether the first of these seats joins.
+fn joins_first<K: Keeper + Drop, N: RoomName, Q: Wait + Drop, W: Wait>(
+    rt: &W,
+    seats: &mut [SeatOf<K, N, Q>],
+) -> bool {
+    match seats.first_mut() {
+        Some(seat) => join_by(rt, seat).is_ok(),
+        None => false,
+    }
+}
+
+// Whether a seat that has joined reads while another thread holds the room's lock, and whether that was held until then.
+fn read_while_held<
+    K: Keeper + Drop + Send,
+    N: RoomName + Send + Sync,
+    Q: Wait + Drop + Send,
+    R: Threads + Wait,
+>(rt: &R, alloc: Global, room: &Room<K, N, Q>, mut seats: Vec<SeatOf<K, N, Q>>) -> (bool, bool) {
+    if !joins_first(rt, &mut seats) {
+        return (false, false);
+    }
     let flags = Flags {
         held: AtomicBool::new(false),
         done: AtomicBool::new(false),
     };
-    Ok(read_and_hold(rt, alloc, &room, seat, &flags))
+    read_and_hold(rt, alloc, room, seats, &flags)
 }
 
-fn read_in_memory<R: Threads + Wait + Clone + Drop + Send + Sync>(
-    rt: &R,
+// The same for the seats of a room that is opened for this.
+fn read_in<
+    N: RoomName + Send + Sync,
+    K: Keeper + Drop + Send,
+    R: Threads + Wait + Copy + Send + Sync + Drop,
+>(rt: R, alloc: Global, blank: BlankRoom<K>) -> Result<(bool, bool), Fail>
+    requires book { blank.book ≡ N.book }
+    requires opening { blank.opening ≡ N.opening }
+{
+    let (room, seats) = blank.open::<N, R>(rt)?;
+    Ok(read_while_held(&rt, alloc, &room, seats))
+}
+
+// The same for a room of one seat in memory.
+fn read_in_memory<R: Threads + Wait + Copy + Send + Sync + Drop>(
+    rt: R,
     alloc: Global,
 ) -> Result<(bool, bool), Fail> {
-    let blank = room_in_memory(alloc, 1, 0)?;
-    read_while_held::<Brand, _>(rt, alloc, blank)
+    let blank = room_in_memory(alloc, Bench::of(1))?;
+    read_in::<Brand, _, _>(rt, alloc, blank)
 }
 
 #[test]
 fn reads_wait_for_nobody(rt: HostRuntime) -> Result<(), Fail> {
-    assert_eq!(rt; read_in_memory(&rt, rt.alloc())?, (true, true));
+    assert_eq!(rt; read_in_memory(rt, rt.alloc())?, (true, true));
     Ok(())
 }
