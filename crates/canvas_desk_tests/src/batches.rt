@@ -1,133 +1,123 @@
 //! What a batch is answered, and what it does to the shelf.
-ghost use Rattle.std.specs.Prelude.{◌≡◌};
-ghost use Rattle.canvas_desk_tests.specs.Desks.{first};
-
-use crate::desks::{MemDesk, are_told, calls_of, committed_once, new_desk, pages};
-use canvas_board::{Blank, RoomName};
+use crate::desks::{Calls, DeskTest, MemDesk, are_told, calls_of, calls_since, pages, told_by};
+use canvas_board::RoomName;
 use canvas_desk::SubmitError;
 use canvas_server::Request;
 use std::alloc::Global;
-use std::marker::Brand;
-use std::sync::{Mutex, Wait};
+use std::sync::Wait;
 use std::test::Fail;
 
-// Whether a desk answers edits 1, 2, 2 and 4 of client 1, once it has joined, by receipts 2 and 3, a repeat and a gap, after one append
-// and one sync.
-fn answers_edits<N: RoomName, W: Wait>(
+// Whether these requests are answered so in one batch.
+fn are_answered<N: RoomName, W: Wait>(
     rt: &W,
-    alloc: Global,
-    desk: &mut MemDesk<N, W>,
+    desk: &mut MemDesk<'_, N, W>,
+    requests: &[Request],
+    wanted: &[Result<u64, SubmitError>],
 ) -> Result<bool, Fail> {
-    desk.submit(rt, &Request::Join)?;
-    let before = calls_of(desk);
-    let requests = pages(alloc, 1, &[1, 2, 2, 4])?;
     if requests.len() > 64 {
         return Ok(false);
     }
-    let answers = desk.submit_many(rt, &requests)?;
-    let wanted = [
-        Ok(2),
-        Ok(3),
-        Err(SubmitError::Repeat { done: 2 }),
-        Err(SubmitError::Gap { done: 2 }),
-    ];
-    Ok(are_told(&answers, &wanted) && committed_once(desk, before) && desk.version() == 3)
+    let answers = desk.submit_many(rt, requests)?;
+    Ok(are_told(&answers, wanted))
 }
 
-// Whether a new desk does so.
-fn edits_in_a_batch<N: RoomName, W: Wait>(rt: &W, alloc: Global, blank: Blank) -> Result<bool, Fail>
-    requires book { blank.seen.book ≡ N.book }
-    requires opening { N.opening ≡ first }
-{
-    let shared = Mutex::new(new_desk::<N, W>(rt, alloc, blank, None)?);
-    let mut desk = shared.lock(rt);
-    answers_edits(rt, alloc, &mut desk)
+// A batch of a client's edits with these numbers, once client 1 has joined, and what they are to be answered: the version of each receipt.
+#[derive(Clone, Copy)]
+struct Batch {
+    client: u32,
+    numbers: &'static [u64],
+    answers: &'static [Result<u64, SubmitError>],
+}
+
+impl DeskTest for Batch {
+    // Whether they are answered so, what calls of the shelf they make, and the version then.
+    type Told = (bool, Calls, u64);
+
+    fn ask<N: RoomName, W: Wait>(
+        &self,
+        rt: &W,
+        alloc: Global,
+        desk: &mut MemDesk<'_, N, W>,
+    ) -> Result<(bool, Calls, u64), Fail> {
+        desk.submit(rt, &Request::Join)?;
+        let before = calls_of(desk);
+        let requests = pages(alloc, self.client, self.numbers)?;
+        let is_right = are_answered(rt, desk, &requests, self.answers)?;
+        Ok((is_right, calls_since(desk, before), desk.version()))
+    }
 }
 
 #[test]
 fn one_commit(rt: HostRuntime) -> Result<(), Fail> {
-    assert!(rt; edits_in_a_batch::<Brand, _>(&rt, rt.alloc(), Blank::new())?);
+    let batch = Batch {
+        client: 1,
+        numbers: &[1, 2, 2, 4],
+        answers: &[
+            Ok(2),
+            Ok(3),
+            Err(SubmitError::Repeat { done: 2 }),
+            Err(SubmitError::Gap { done: 2 }),
+        ],
+    };
+    assert_eq!(rt;
+        told_by(&rt, rt.alloc(), None, &batch)?,
+        (true, Calls::OneCommit, 3)
+    );
     Ok(())
-}
-
-// Whether a desk that client 1 has joined refuses two edits of client 2 in one batch, and makes no call of its shelf.
-fn refuses_strangers<N: RoomName, W: Wait>(
-    rt: &W,
-    alloc: Global,
-    desk: &mut MemDesk<N, W>,
-) -> Result<bool, Fail> {
-    desk.submit(rt, &Request::Join)?;
-    let before = calls_of(desk);
-    let requests = pages(alloc, 2, &[1, 2])?;
-    if requests.len() > 64 {
-        return Ok(false);
-    }
-    let answers = desk.submit_many(rt, &requests)?;
-    let wanted = [Err(SubmitError::Stranger), Err(SubmitError::Stranger)];
-    Ok(are_told(&answers, &wanted) && calls_of(desk) == before && desk.version() == 1)
-}
-
-// Whether a new desk does so.
-fn strangers_in_a_batch<N: RoomName, W: Wait>(
-    rt: &W,
-    alloc: Global,
-    blank: Blank,
-) -> Result<bool, Fail>
-    requires book { blank.seen.book ≡ N.book }
-    requires opening { N.opening ≡ first }
-{
-    let shared = Mutex::new(new_desk::<N, W>(rt, alloc, blank, None)?);
-    let mut desk = shared.lock(rt);
-    refuses_strangers(rt, alloc, &mut desk)
 }
 
 #[test]
 fn no_commit(rt: HostRuntime) -> Result<(), Fail> {
-    assert!(rt; strangers_in_a_batch::<Brand, _>(&rt, rt.alloc(), Blank::new())?);
+    let batch = Batch {
+        client: 2,
+        numbers: &[1, 2],
+        answers: &[Err(SubmitError::Stranger), Err(SubmitError::Stranger)],
+    };
+    assert_eq!(rt;
+        told_by(&rt, rt.alloc(), None, &batch)?,
+        (true, Calls::Nothing, 1)
+    );
     Ok(())
 }
 
-// What a desk answers client 1's first edit in two batches, once it has joined, where it answers neither request by request.
-fn failures<N: RoomName, W: Wait>(
+// Why a desk answers these requests not one by one, if it doesn't.
+fn failure<N: RoomName, W: Wait>(
     rt: &W,
-    alloc: Global,
-    desk: &mut MemDesk<N, W>,
-) -> Result<Option<(SubmitError, SubmitError)>, Fail> {
-    desk.submit(rt, &Request::Join)?;
-    let requests = pages(alloc, 1, &[1])?;
+    desk: &mut MemDesk<'_, N, W>,
+    requests: &[Request],
+) -> Option<SubmitError> {
     if requests.len() > 64 {
-        return Ok(None);
+        return None;
     }
-    let Err(first) = desk.submit_many(rt, &requests) else {
-        return Ok(None);
-    };
-    let Err(second) = desk.submit_many(rt, &requests) else {
-        return Ok(None);
-    };
-    Ok(Some((first, second)))
+    desk.submit_many(rt, requests).err()
 }
 
-// What a new desk answers so, of which that call of the shelf fails.
-fn failures_at<N: RoomName, W: Wait>(
-    rt: &W,
-    alloc: Global,
-    blank: Blank,
-    call: u64,
-) -> Result<Option<(SubmitError, SubmitError)>, Fail>
-    requires book { blank.seen.book ≡ N.book }
-    requires opening { N.opening ≡ first }
-{
-    let shared = Mutex::new(new_desk::<N, W>(rt, alloc, blank, Some(call))?);
-    let mut desk = shared.lock(rt);
-    failures(rt, alloc, &mut desk)
+// Client 1's first edit in two batches, once it has joined.
+#[derive(Clone, Copy)]
+struct Failing;
+
+impl DeskTest for Failing {
+    // Why each isn't answered request by request.
+    type Told = [Option<SubmitError>; 2];
+
+    fn ask<N: RoomName, W: Wait>(
+        &self,
+        rt: &W,
+        alloc: Global,
+        desk: &mut MemDesk<'_, N, W>,
+    ) -> Result<[Option<SubmitError>; 2], Fail> {
+        desk.submit(rt, &Request::Join)?;
+        let requests = pages(alloc, 1, &[1])?;
+        Ok([failure(rt, desk, &requests), failure(rt, desk, &requests)])
+    }
 }
 
 #[test]
 fn failed_device(rt: HostRuntime) -> Result<(), Fail> {
-    let failed = Some((SubmitError::Device, SubmitError::Failed));
+    let failed = [Some(SubmitError::Device), Some(SubmitError::Failed)];
     for call in [7, 8] {
         assert_eq!(rt;
-            failures_at::<Brand, _>(&rt, rt.alloc(), Blank::new(), call)?,
+            told_by(&rt, rt.alloc(), Some(call), &Failing)?,
             failed,
             "at {call}"
         );

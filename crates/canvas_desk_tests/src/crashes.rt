@@ -7,16 +7,14 @@ ghost use Rattle.canvas_board.specs.Marks.{Mark, board};
 ghost use Rattle.canvas_desk.specs.Crashes.{FindsSeen};
 ghost use Rattle.canvas_desk.specs.Judging.{IsEntryFor};
 ghost use Rattle.canvas_desk_tests.specs.Crashes.{IsLeftFrom};
-ghost use Rattle.canvas_desk_tests.specs.Desks.{first};
 
-use crate::desks::{MemDesk, new_desk, pages};
-use canvas_board::{Blank, Receipt, RoomName};
+use crate::desks::{DeskTest, MemDesk, pages, told_by};
+use canvas_board::{Receipt, RoomName};
 use canvas_desk::{Desk, SubmitError, found_after_every_crash};
 use canvas_journal::{Keeper, open};
 use canvas_server::Request;
 use std::alloc::Global;
-use std::marker::Brand;
-use std::sync::{Mutex, Wait};
+use std::sync::Wait;
 use std::test::Fail;
 
 // Submits these requests, one after the other, whatever comes of them. What is found after a crash since then, at rest or in one of the calls,
@@ -72,37 +70,49 @@ fn submit_first<K: Keeper, N: RoomName, R: Wait + Drop, W: Wait>(
     Ok(receipt)
 }
 
-// The version of the receipt of a Join, after which client 1 submits edits, and the version that is found after a crash.
-fn found_later<N: RoomName, W: Wait>(
+// Submits a Join and then these edits, one after the other, and gives the version of the Join's receipt.
+fn joined_before<N: RoomName, W: Wait>(
     rt: &W,
+    desk: &mut MemDesk<'_, N, W>,
+    edits: &[Request],
+) -> Result<u64, SubmitError> {
+    let receipt = submit_first(rt, desk, &Request::Join, edits)?;
+    Ok(receipt.version())
+}
+
+// The version that is found after a crash of a desk's shelf.
+fn found_after_crash<N: RoomName, W: Wait>(
     alloc: Global,
-    desk: &mut MemDesk<N, W>,
-) -> Result<(u64, u64), Fail> {
-    let edits = pages(alloc, 1, &[1, 2])?;
-    let receipt = submit_first(rt, desk, &Request::Join, &edits)?;
-    if !desk.has_failed() && edits.len() <= 64 {
-        submit_all(rt, desk, &edits);
-    }
+    desk: &MemDesk<'_, N, W>,
+) -> Result<u64, Fail> {
     let left = desk.keeper().shelf().crash(&[])?;
     match open(alloc, left) {
-        Ok((_journal, _state, version)) => Ok((receipt.version(), version)),
+        Ok((_journal, _state, version)) => Ok(version),
         Err(_) => Err(Fail::from("a shelf that isn't opened")),
     }
 }
 
-// The same of a new desk, a call of whose shelf fails.
-fn found_at<N: RoomName, W: Wait>(
-    rt: &W,
-    alloc: Global,
-    blank: Blank,
-    failing: Option<u64>,
-) -> Result<(u64, u64), Fail>
-    requires book { blank.seen.book ≡ N.book }
-    requires opening { N.opening ≡ first }
-{
-    let shared = Mutex::new(new_desk::<N, W>(rt, alloc, blank, failing)?);
-    let mut desk = shared.lock(rt);
-    found_later(rt, alloc, &mut desk)
+// A Join, after which client 1 submits edits, and then a crash.
+#[derive(Clone, Copy)]
+struct Crashing;
+
+impl DeskTest for Crashing {
+    // The version of the receipt of the Join, and the version that is found after the crash.
+    type Told = (u64, u64);
+
+    fn ask<N: RoomName, W: Wait>(
+        &self,
+        rt: &W,
+        alloc: Global,
+        desk: &mut MemDesk<'_, N, W>,
+    ) -> Result<(u64, u64), Fail> {
+        let edits = pages(alloc, 1, &[1, 2])?;
+        let joined = joined_before(rt, desk, &edits)?;
+        if !desk.has_failed() && edits.len() <= 64 {
+            submit_all(rt, desk, &edits);
+        }
+        Ok((joined, found_after_crash(alloc, desk)?))
+    }
 }
 
 #[test]
@@ -116,7 +126,7 @@ fn found_after_crashes(rt: HostRuntime) -> Result<(), Fail> {
     ];
     for (failing, version) in wanted {
         assert_eq!(rt;
-            found_at::<Brand, _>(&rt, rt.alloc(), Blank::new(), failing)?,
+            told_by(&rt, rt.alloc(), failing, &Crashing)?,
             (1, version),
             "at {failing:?}"
         );

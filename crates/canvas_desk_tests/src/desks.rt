@@ -13,7 +13,8 @@ use canvas_samples::{new_page, object};
 use canvas_server::{Request, Server};
 use canvas_shelf::{Call, MemShelf};
 use std::alloc::Global;
-use std::sync::Wait;
+use std::marker::Brand;
+use std::sync::{Mutex, Wait};
 use std::test::Fail;
 
 /// A desk over a journal on a shelf in memory.
@@ -42,27 +43,25 @@ fn desk_over<'a, K: Keeper + Drop, N: RoomName, W: Wait>(
     requires alive { K.failed keeper ≡ false }
     requires kept { IsTrue (K.honest keeper) → IsKeptAt (K.stands keeper) K.finds (K.left_since keeper (K.moment keeper)) opening }
 {
-    let opening = Opening {
-        state: State::new(alloc)?,
-        version: 0,
-    };
+    let state = State::new(alloc)?;
+    let opening = Opening { state, version: 0 };
     let (publisher, _readers) = open_board::<N, W>(alloc, blank, &opening, 1, rt)?;
     let Opening { state, version } = opening;
     let server = Server::rebuild(alloc, state, version);
     Ok(Desk::new(alloc, server, keeper, publisher, rt))
 }
 
-/// A desk with no entry, over a journal on a shelf of which the call of that number fails.
-pub fn new_desk<'a, N: RoomName, W: Wait>(
+// A desk with no entry, over a journal on this shelf.
+fn desk_on<'a, N: RoomName, W: Wait>(
     rt: &'a W,
     alloc: Global,
     blank: Blank,
-    failing: Option<u64>,
+    shelf: MemShelf,
 ) -> Result<MemDesk<'a, N, W>, Fail>
     requires book { blank.seen.book ≡ N.book }
     requires opening { N.opening ≡ first }
+    requires empty { disk_of shelf ≡ [] }
 {
-    let shelf = empty_shelf(alloc, failing);
     match open(alloc, shelf) {
         Ok((journal, _state, _version)) => {
             desk_over::<Journal<MemShelf>, N, W>(rt, alloc, blank, journal)
@@ -71,13 +70,54 @@ pub fn new_desk<'a, N: RoomName, W: Wait>(
     }
 }
 
+/// What is asked of a desk, which is lent.
+pub trait DeskTest {
+    /// What it tells.
+    type Told;
+
+    /// Asks a desk with no entry.
+    fn ask<N: RoomName, W: Wait>(
+        &self,
+        rt: &W,
+        alloc: Global,
+        desk: &mut MemDesk<'_, N, W>,
+    ) -> Result<Self::Told, Fail>;
+}
+
+// What a test tells of a desk on this shelf.
+fn told_under<N: RoomName, W: Wait, T: DeskTest>(
+    rt: &W,
+    alloc: Global,
+    blank: Blank,
+    shelf: MemShelf,
+    test: &T,
+) -> Result<T::Told, Fail>
+    requires book { blank.seen.book ≡ N.book }
+    requires opening { N.opening ≡ first }
+    requires empty { disk_of shelf ≡ [] }
+{
+    let shared = Mutex::new(desk_on::<N, W>(rt, alloc, blank, shelf)?);
+    test.ask(rt, alloc, &mut shared.lock(rt))
+}
+
+/// What a test tells of a new desk, of whose shelf that call fails, if one is to fail.
+pub fn told_by<W: Wait, T: DeskTest>(
+    rt: &W,
+    alloc: Global,
+    failing: Option<u64>,
+    test: &T,
+) -> Result<T::Told, Fail> {
+    let shelf = empty_shelf(alloc, failing);
+    told_under::<Brand, W, T>(rt, alloc, Blank::new(), shelf, test)
+}
+
 /// The request of a client's edit that makes a page with the edit's number as its counter.
 pub fn page(alloc: Global, client: u32, seq: u64) -> Result<Request, Fail> {
-    let id = object(client, (seq % 1000) as u32);
+    let change = new_page(alloc, object(client, (seq % 1000) as u32))?;
     Ok(Request::Edit {
         client,
         seq,
-        change: new_page(alloc, id)?,
+        change,
     })
 }
 
@@ -85,7 +125,8 @@ pub fn page(alloc: Global, client: u32, seq: u64) -> Result<Request, Fail> {
 pub fn pages(alloc: Global, client: u32, numbers: &[u64]) -> Result<Vec<Request>, Fail> {
     let mut requests = Vec::with_capacity(alloc, numbers.len())?;
     for seq in numbers {
-        requests.push(page(alloc, client, *seq)?)?;
+        let request = page(alloc, client, *seq)?;
+        requests.push(request)?;
     }
     Ok(requests)
 }
@@ -111,12 +152,26 @@ pub fn are_told<N: RoomName>(
 }
 
 /// How many calls were made of a desk's shelf.
-pub fn calls_of<N: RoomName, W: Wait>(desk: &MemDesk<N, W>) -> usize {
+pub fn calls_of<N: RoomName, W: Wait>(desk: &MemDesk<'_, N, W>) -> usize {
     desk.keeper().shelf().calls().len()
 }
 
-/// Whether the calls of a desk's shelf behind so many are one append and one sync.
-pub fn committed_once<N: RoomName, W: Wait>(desk: &MemDesk<N, W>, before: usize) -> bool {
-    let calls = desk.keeper().shelf().calls().get(before..);
-    matches!(calls, Some([Call::Append(1, _), Call::Sync(1)]))
+/// What calls of a shelf come to.
+#[derive(Clone, Copy, Debug, PartialEq, Eq)]
+pub enum Calls {
+    /// There are none.
+    Nothing,
+    /// They are one append and one sync.
+    OneCommit,
+    /// They are others.
+    Others,
+}
+
+/// What the calls of a desk's shelf behind so many come to.
+pub fn calls_since<N: RoomName, W: Wait>(desk: &MemDesk<'_, N, W>, before: usize) -> Calls {
+    match desk.keeper().shelf().calls().get(before..) {
+        Some([]) => Calls::Nothing,
+        Some([Call::Append(1, _), Call::Sync(1)]) => Calls::OneCommit,
+        _ => Calls::Others,
+    }
 }
