@@ -1,7 +1,7 @@
 //! Clients on threads of their own.
 ghost use Rattle.std.specs.Prelude.{◌≡◌};
 
-use crate::rooms::{Blank, blank};
+use canvas_benches::{Bench, SeatOf, room_in_memory};
 use canvas_board::RoomName;
 use canvas_client::{Client, EditRequest};
 use canvas_doc::{Kind, ObjId};
@@ -9,13 +9,46 @@ use canvas_front::SeatLink;
 use canvas_journal::Keeper;
 use canvas_judge::Message;
 use canvas_nodes::{Link, LinkError, join};
-use canvas_room::{Lock, Room, Seat};
+use canvas_room::{BlankRoom, Lock, Room, Seat};
 use canvas_threads::{ClientNode, Command};
 use std::alloc::Global;
 use std::marker::Brand;
 use std::sync::Wait;
 use std::test::Fail;
 use std::thread::{Threads, yield_now};
+
+// What a client is told.
+#[derive(Clone, Copy, PartialEq, Eq)]
+enum Word {
+    // To make a page.
+    Page,
+    // To remove the document, which it refuses.
+    Refused,
+    Exchange,
+    Stop,
+}
+
+fn command(word: Word) -> Command {
+    match word {
+        Word::Page => Command::Edit(EditRequest::create(Kind::Page, ObjId::ROOT, None)),
+        Word::Refused => Command::Edit(EditRequest::delete(ObjId::ROOT)),
+        Word::Exchange => Command::Exchange,
+        Word::Stop => Command::Stop,
+    }
+}
+
+// Tells a client these words. One that was told to stop may have ended before the words behind that.
+fn tell<W: Wait>(rt: &W, node: &ClientNode, words: &[Word]) -> Result<(), Fail> {
+    let mut may_have_ended = false;
+    for word in words {
+        let is_told = node.send(rt, command(*word)).is_ok();
+        if !is_told && !may_have_ended {
+            return Err(Fail::from("a client that can't be told"));
+        }
+        may_have_ended = may_have_ended || *word == Word::Stop;
+    }
+    Ok(())
+}
 
 // Starts a client that has joined over this link.
 fn joined<
@@ -36,50 +69,72 @@ fn joined_at<
     N: RoomName + Send + Sync + 'static,
     R: Threads + Wait + AllocGlobal + Clone + Send + Sync + Drop + 'static,
 >(rt: &R, seat: Seat<N, Lock<K, N, R>>) -> Result<ClientNode, Fail> {
-    joined(rt, SeatLink::new(rt.alloc(), rt.clone()?, seat))
+    let own = rt.clone()?;
+    joined(rt, SeatLink::new(rt.alloc(), own, seat))
 }
 
-// Tells a client something.
-fn tell<W: Wait>(rt: &W, node: &ClientNode, command: Command) -> Result<(), Fail> {
-    match node.send(rt, command) {
-        Ok(()) => Ok(()),
-        Err(_) => Err(Fail::from("a client that can't be told")),
+// Starts a client that has joined at the last of these seats.
+fn joined_last<
+    K: Keeper + Drop + Send + 'static,
+    N: RoomName + Send + Sync + 'static,
+    R: Threads + Wait + AllocGlobal + Clone + Send + Sync + Drop + 'static,
+>(rt: &R, seats: &mut Vec<SeatOf<K, N, R>>) -> Result<ClientNode, Fail> {
+    match seats.pop() {
+        Some(seat) => joined_at(rt, seat),
+        None => Err(Fail::from("no seat")),
     }
 }
 
-// Tells a client to make a page, and to exchange.
-fn page_by<W: Wait>(rt: &W, node: &ClientNode) -> Result<(), Fail> {
-    let page = EditRequest::create(Kind::Page, ObjId::ROOT, None);
-    tell(rt, node, Command::Edit(page))?;
-    tell(rt, node, Command::Exchange)
-}
-
-// Whether a client that makes a page, exchanges and stops is at the version that the room of its seat then has, and nothing waits.
-fn stops_in<
+// The version of a client that has joined at the last of these seats and was told these words, and how many of its edits wait.
+fn versions_after<
+    K: Keeper + Drop + Send + 'static,
     N: RoomName + Send + Sync + 'static,
     R: Threads + Wait + AllocGlobal + Clone + Send + Sync + Drop + 'static,
->(rt: &R, blank: Blank) -> Result<bool, Fail>
+>(rt: &R, seats: &mut Vec<SeatOf<K, N, R>>, words: &[Word]) -> Result<(u64, u64), Fail> {
+    let node = joined_last(rt, seats)?;
+    tell(rt, &node, words)?;
+    let client = node.join(rt)?;
+    Ok((client.version(), client.unacknowledged()))
+}
+
+// What a client at the last of these seats that makes a page, exchanges and stops then has, and the version of its room.
+fn stopped_by<
+    K: Keeper + Drop + Send + 'static,
+    N: RoomName + Send + Sync + 'static,
+    R: Threads + Wait + AllocGlobal + Clone + Send + Sync + Drop + 'static,
+>(
+    rt: &R,
+    room: &Room<K, N, R>,
+    seats: &mut Vec<SeatOf<K, N, R>>,
+) -> Result<((u64, u64), u64), Fail> {
+    let versions = versions_after(rt, seats, &[Word::Page, Word::Exchange, Word::Stop])?;
+    Ok((versions, room.desk(rt).version()))
+}
+
+// The same for the seats of a room that is opened for this.
+fn stopped_in<
+    N: RoomName + Send + Sync + 'static,
+    K: Keeper + Drop + Send + 'static,
+    R: Threads + Wait + AllocGlobal + Clone + Copy + Send + Sync + Drop + 'static,
+>(rt: R, blank: BlankRoom<K>) -> Result<((u64, u64), u64), Fail>
     requires book { blank.book ≡ N.book }
     requires opening { blank.opening ≡ N.opening }
 {
-    let (room, mut seats) = blank.open::<N, R>(rt.clone()?)?;
-    let node = joined_at(rt, seats.pop().ok_or("a seat")?)?;
-    page_by(rt, &node)?;
-    tell(rt, &node, Command::Stop)?;
-    let client = node.join(rt)?;
-    let version = room.desk(rt).version();
-    Ok(version == 2 && client.version() == 2 && client.unacknowledged() == 0)
+    let (room, mut seats) = blank.open::<N, R>(rt)?;
+    stopped_by(&rt, &room, &mut seats)
 }
 
-fn stops<R: Threads + Wait + AllocGlobal + Clone + Send + Sync + Drop + 'static>(
-    rt: &R,
-) -> Result<bool, Fail> {
-    stops_in::<Brand, R>(rt, blank(rt.alloc(), 1, 0)?)
+// The same for a room in memory.
+fn stopped<R: Threads + Wait + AllocGlobal + Clone + Copy + Send + Sync + Drop + 'static>(
+    rt: R,
+) -> Result<((u64, u64), u64), Fail> {
+    let blank = room_in_memory(rt.alloc(), Bench::of(1))?;
+    stopped_in::<Brand, _, _>(rt, blank)
 }
 
 #[test]
 fn edit_exchange_stop(rt: HostRuntime) -> Result<(), Fail> {
-    assert!(rt; stops(&rt)?);
+    assert_eq!(rt; stopped(rt)?, ((2, 0), 2));
     Ok(())
 }
 
@@ -104,36 +159,70 @@ fn agree(one: &Client, two: &Client, version: u64) -> bool {
     are_there && one.unacknowledged() == 0 && one.view().same(two.view())
 }
 
-// Whether two clients that have each made a page agree, once each exchanges again.
-fn agree_in<
+// Whether both clients, once they have ended, agree at this version.
+fn agree_at_end<R: Threads>(
+    rt: &R,
+    one: ClientNode,
+    two: ClientNode,
+    version: u64,
+) -> Result<bool, Fail> {
+    let one = one.join(rt)?;
+    let two = two.join(rt)?;
+    Ok(agree(&one, &two, version))
+}
+
+// Whether two clients have each made a page in a room, and are told to exchange again.
+fn have_paged<K: Keeper + Drop, N: RoomName, Q: Wait + Drop, W: Wait>(
+    rt: &W,
+    room: &Room<K, N, Q>,
+    one: &ClientNode,
+    two: &ClientNode,
+) -> Result<bool, Fail> {
+    tell(rt, one, &[Word::Page, Word::Exchange])?;
+    tell(rt, two, &[Word::Page, Word::Exchange])?;
+    if !comes_to(rt, room, 4) {
+        return Ok(false);
+    }
+    tell(rt, one, &[Word::Exchange])?;
+    tell(rt, two, &[Word::Exchange])?;
+    Ok(true)
+}
+
+// Whether two clients at the last of these seats that have each made a page agree, once each exchanges again.
+fn agree_by<
+    K: Keeper + Drop + Send + 'static,
     N: RoomName + Send + Sync + 'static,
     R: Threads + Wait + AllocGlobal + Clone + Send + Sync + Drop + 'static,
->(rt: &R, blank: Blank) -> Result<bool, Fail>
+>(rt: &R, room: &Room<K, N, R>, seats: &mut Vec<SeatOf<K, N, R>>) -> Result<bool, Fail> {
+    let one = joined_last(rt, seats)?;
+    let two = joined_last(rt, seats)?;
+    Ok(have_paged(rt, room, &one, &two)? && agree_at_end(rt, one, two, 4)?)
+}
+
+// The same for the seats of a room that is opened for this.
+fn agree_in<
+    N: RoomName + Send + Sync + 'static,
+    K: Keeper + Drop + Send + 'static,
+    R: Threads + Wait + AllocGlobal + Clone + Copy + Send + Sync + Drop + 'static,
+>(rt: R, blank: BlankRoom<K>) -> Result<bool, Fail>
     requires book { blank.book ≡ N.book }
     requires opening { blank.opening ≡ N.opening }
 {
-    let (room, mut seats) = blank.open::<N, R>(rt.clone()?)?;
-    let one = joined_at(rt, seats.pop().ok_or("a first seat")?)?;
-    let two = joined_at(rt, seats.pop().ok_or("a second seat")?)?;
-    page_by(rt, &one)?;
-    page_by(rt, &two)?;
-    if !comes_to(rt, &room, 4) {
-        return Ok(false);
-    }
-    tell(rt, &one, Command::Exchange)?;
-    tell(rt, &two, Command::Exchange)?;
-    Ok(agree(&one.join(rt)?, &two.join(rt)?, 4))
+    let (room, mut seats) = blank.open::<N, R>(rt)?;
+    agree_by(&rt, &room, &mut seats)
 }
 
-fn two_agree<R: Threads + Wait + AllocGlobal + Clone + Send + Sync + Drop + 'static>(
-    rt: &R,
+// The same for a room in memory.
+fn two_agree<R: Threads + Wait + AllocGlobal + Clone + Copy + Send + Sync + Drop + 'static>(
+    rt: R,
 ) -> Result<bool, Fail> {
-    agree_in::<Brand, R>(rt, blank(rt.alloc(), 2, 0)?)
+    let blank = room_in_memory(rt.alloc(), Bench::of(2))?;
+    agree_in::<Brand, _, _>(rt, blank)
 }
 
 #[test]
 fn two_clients(rt: HostRuntime) -> Result<(), Fail> {
-    assert!(rt; two_agree(&rt)?);
+    assert!(rt; two_agree(rt)?);
     Ok(())
 }
 
@@ -160,44 +249,34 @@ fn start_broken<R: Threads + Wait + AllocGlobal + Clone + Send + Drop + 'static>
     }
 }
 
-// Whether an exchange over such a link ends the thread with its error.
-fn ends_by_link<R: Threads + Wait + AllocGlobal + Clone + Send + Drop + 'static>(
+// The id of client 7 over a link that has ended, and how many of its edits wait, once it was told these words and nobody is left who could
+// tell it anything; or the error that its thread ended with.
+fn ended_by<R: Threads + Wait + AllocGlobal + Clone + Send + Drop + 'static>(
     rt: &R,
-) -> Result<bool, Fail> {
+    words: &[Word],
+) -> Result<Result<(Option<u32>, u64), LinkError>, Fail> {
     let node = start_broken(rt, 7)?;
-    page_by(rt, &node)?;
-    Ok(matches!(node.join(rt), Err(LinkError::Ended)))
+    tell(rt, &node, words)?;
+    Ok(
+        node.join(rt)
+            .map(|client| (client.id(), client.unacknowledged())),
+    )
 }
 
-// Whether a client that isn't told to exchange has an edit that waits, once nobody is left who could tell it anything.
-fn ends_alone<R: Threads + Wait + AllocGlobal + Clone + Send + Drop + 'static>(
-    rt: &R,
-) -> Result<bool, Fail> {
-    let node = start_broken(rt, 7)?;
-    let page = EditRequest::create(Kind::Page, ObjId::ROOT, None);
-    tell(rt, &node, Command::Edit(page))?;
-    let client = node.join(rt)?;
-    Ok(client.id() == Some(7) && client.unacknowledged() == 1)
-}
-
-// Whether a client goes on after an edit that it refuses, and not after it was told to stop.
-fn passes_over<R: Threads + Wait + AllocGlobal + Clone + Send + Drop + 'static>(
-    rt: &R,
-) -> Result<bool, Fail> {
-    let node = start_broken(rt, 7)?;
-    tell(rt, &node, Command::Edit(EditRequest::delete(ObjId::ROOT)))?;
-    let page = EditRequest::create(Kind::Page, ObjId::ROOT, None);
-    tell(rt, &node, Command::Edit(page))?;
-    tell(rt, &node, Command::Stop)?;
-    // It may have ended by now.
-    let _ = node.send(rt, Command::Exchange);
-    Ok(node.join(rt)?.unacknowledged() == 1)
-}
+// What a client is told, and how it ends: by its link, alone, and by a Stop behind an edit that it refuses.
+const ENDS: [(&[Word], Result<(Option<u32>, u64), LinkError>); 3] = [
+    (&[Word::Page, Word::Exchange], Err(LinkError::Ended)),
+    (&[Word::Page], Ok((Some(7), 1))),
+    (
+        &[Word::Refused, Word::Page, Word::Stop, Word::Exchange],
+        Ok((Some(7), 1)),
+    ),
+];
 
 #[test]
 fn ends(rt: HostRuntime) -> Result<(), Fail> {
-    assert!(rt; ends_by_link(&rt)?);
-    assert!(rt; ends_alone(&rt)?);
-    assert!(rt; passes_over(&rt)?);
+    for (words, wanted) in ENDS {
+        assert_eq!(rt; ended_by(&rt, words)?, wanted);
+    }
     Ok(())
 }

@@ -6,6 +6,6 @@ mod client_nodes;
 #[cfg(test)]
 mod gates;
 #[cfg(test)]
-mod rooms;
-#[cfg(test)]
 mod running;
+#[cfg(test)]
+mod runs;
