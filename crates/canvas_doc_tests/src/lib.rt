@@ -8,8 +8,6 @@ mod changes;
 #[cfg(test)]
 mod documents;
 #[cfg(test)]
-mod made;
-#[cfg(test)]
 mod properties;
 #[cfg(test)]
 mod refusals;

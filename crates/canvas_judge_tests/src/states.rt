@@ -23,11 +23,6 @@ pub const INNER: ObjId = ObjId {
     counter: 3,
 };
 
-pub const GONE: ObjId = ObjId {
-    client: 9,
-    counter: 9,
-};
-
 // The change of the property `name` of an object.
 fn naming(alloc: Global, id: ObjId, value: Option<Value>) -> Result<Change, Fail> {
     let name = Name::read(alloc, b"name")?;

@@ -1,0 +1,139 @@
+// What texts are read as. What is said of one is written of a copy.
+use crate::saying::{refused, said};
+use canvas_judge::{Entry, Message, State};
+use canvas_value::{JsonFault, Name, NameError, Value};
+use canvas_wire::{
+    decode, decode_checkpoint, decode_entry, encode, encode_checkpoint, encode_entry,
+};
+use serde_json::Value as Json;
+use std::alloc::{AllocError, Allocator, Global};
+
+fn message_again<A: Allocator + Copy>(
+    heap: Global,
+    alloc: A,
+    message: &Message<A>,
+) -> Result<Vec<u8>, AllocError> {
+    let copy = message.copy_in(alloc)?;
+    let text = encode(heap, &copy)?;
+    said(heap, &text)
+}
+
+/// What is said of a message.
+pub fn message<A: Allocator + Copy>(
+    heap: Global,
+    alloc: A,
+    text: &[u8],
+) -> Result<Vec<u8>, AllocError> {
+    match decode(heap, alloc, text) {
+        Ok(message) => message_again(heap, alloc, &message),
+        Err(fault) => refused(heap, fault),
+    }
+}
+
+fn entry_again<A: Allocator + Copy>(
+    heap: Global,
+    alloc: A,
+    entry: &Entry<A>,
+) -> Result<Vec<u8>, AllocError> {
+    let copy = entry.copy_in(alloc)?;
+    let text = encode_entry(heap, &copy)?;
+    said(heap, &text)
+}
+
+/// What is said of an entry.
+pub fn entry<A: Allocator + Copy>(
+    heap: Global,
+    alloc: A,
+    text: &[u8],
+) -> Result<Vec<u8>, AllocError> {
+    match decode_entry(heap, alloc, text) {
+        Ok(entry) => entry_again(heap, alloc, &entry),
+        Err(fault) => refused(heap, fault),
+    }
+}
+
+fn checkpoint_again<A: Allocator + Copy>(
+    heap: Global,
+    alloc: A,
+    state: &State<A>,
+    version: u64,
+) -> Result<Vec<u8>, AllocError> {
+    let copy = state.copy_in(alloc)?;
+    let text = encode_checkpoint(heap, &copy, version)?;
+    said(heap, &text)
+}
+
+/// What is said of a checkpoint.
+pub fn checkpoint<A: Allocator + Copy>(
+    heap: Global,
+    alloc: A,
+    text: &[u8],
+) -> Result<Vec<u8>, AllocError> {
+    match decode_checkpoint(heap, alloc, text) {
+        Ok((state, version)) => checkpoint_again(heap, alloc, &state, version),
+        Err(fault) => refused(heap, fault),
+    }
+}
+
+fn value_again<A: Allocator + Copy>(
+    heap: Global,
+    alloc: A,
+    value: &Value<A>,
+) -> Result<Vec<u8>, AllocError> {
+    let copy = value.copy_in(alloc)?;
+    let text = copy.json_text(heap)?;
+    said(heap, text.as_bytes())
+}
+
+// The value of a JSON tree, and whether it may be kept.
+fn value_of<A: Allocator + Copy>(
+    heap: Global,
+    alloc: A,
+    json: &Json,
+) -> Result<Vec<u8>, AllocError> {
+    match Value::from_json(alloc, json) {
+        Ok(value) => match value.check() {
+            Ok(()) => value_again(heap, alloc, &value),
+            Err(_) => Vec::from_slice(heap, b"TooDeep"),
+        },
+        Err(JsonFault::NotAValue) => Vec::from_slice(heap, b"NotAValue"),
+        Err(JsonFault::OutOfRange) => Vec::from_slice(heap, b"OutOfRange"),
+        Err(JsonFault::Memory) => Err(AllocError),
+    }
+}
+
+/// What is said of a value.
+pub fn value<A: Allocator + Copy>(
+    heap: Global,
+    alloc: A,
+    text: &[u8],
+) -> Result<Vec<u8>, AllocError> {
+    match Json::from_slice(heap, text) {
+        Ok(json) => value_of(heap, alloc, &json),
+        Err(error) if error.is_memory() => Err(AllocError),
+        Err(_) => Vec::from_slice(heap, b"NotJson"),
+    }
+}
+
+fn name_again<A: Allocator + Copy>(
+    heap: Global,
+    alloc: A,
+    name: &Name<A>,
+) -> Result<Vec<u8>, AllocError> {
+    let copy = name.copy_in(alloc)?;
+    let text = format!(in heap; "{copy}")?;
+    said(heap, text.as_bytes())
+}
+
+/// What is said of a name.
+pub fn name<A: Allocator + Copy>(
+    heap: Global,
+    alloc: A,
+    text: &[u8],
+) -> Result<Vec<u8>, AllocError> {
+    match Name::read(alloc, text) {
+        Ok(name) => name_again(heap, alloc, &name),
+        Err(NameError::Memory) => Err(AllocError),
+        Err(fault) => Ok(format!(in heap; "{fault:?}")?.into_bytes()),
+    }
+}
