@@ -19,6 +19,3 @@ pub use fault::{Fault, tell};
 pub use laws::one_bad_line;
 pub use requests::{LogRequest, Reading, read_request, read_requests};
 pub use streams::{read_input, write_out};
-
-#[cfg(test)]
-mod reading_tests;

@@ -1,9 +1,5 @@
-//! Tests of `canvas_scene`: whole inputs with what is written for them.
+//! Tests of `canvas_scene`: what whole inputs can't show. Those are in `canvas_scenes`.
 #![tactic(auto)]
 
 #[cfg(test)]
-mod examples;
-#[cfg(test)]
-mod logs;
-#[cfg(test)]
-mod worlds;
+mod runs;
