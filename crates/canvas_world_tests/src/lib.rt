@@ -1,14 +1,6 @@
-//! Tests of `canvas_world`: stories of events, with what each answers, and each growth refused in turn.
-//!
-//! A story is plain data, and one function plays all of them. So that the answers can be read, each line has its own.
+//! Tests of `canvas_world`: each growth refused in turn. What each event answers is in `canvas_scenes`.
 #![tactic(auto)]
 
-#[cfg(test)]
-mod answers;
-#[cfg(test)]
-mod crowds;
-#[cfg(test)]
-mod edits;
 #[cfg(test)]
 mod looks;
 #[cfg(test)]
@@ -17,7 +9,3 @@ mod memory;
 mod openings;
 #[cfg(test)]
 mod steps;
-#[cfg(test)]
-mod stories;
-#[cfg(test)]
-mod verdicts;

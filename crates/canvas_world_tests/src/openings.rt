@@ -1,15 +1,13 @@
 //! How stories begin.
 use crate::looks::Line::{self, Do, See};
-use crate::looks::{Look, tell};
+use crate::looks::Look;
 use crate::steps::Step::{
     AddNode, AskJoin, Copy, Deliver, Edit, Publish, Send, Sync, Take, Welcome,
 };
 use crate::steps::Wish;
 use canvas_client::Received;
 use canvas_doc::{Kind, ObjId};
-use canvas_world::{Answer, World};
-use std::alloc::{AllocError, Global};
-use std::test::Fail;
+use canvas_world::Answer;
 
 /// A page of node 1.
 pub const PAGE: ObjId = ObjId {
@@ -26,18 +24,6 @@ pub const LEFT: ObjId = ObjId {
 pub const RIGHT: ObjId = ObjId {
     client: 1,
     counter: 3,
-};
-
-/// What node 2 creates first.
-pub const NEW: ObjId = ObjId {
-    client: 2,
-    counter: 1,
-};
-
-/// An object that isn't there.
-pub const GONE: ObjId = ObjId {
-    client: 9,
-    counter: 9,
 };
 
 /// What stands before a story.
@@ -109,17 +95,4 @@ pub fn lines_of(from: Opening) -> &'static [Line] {
         Opening::Joined => &JOINED,
         Opening::Drawn => &DRAWN,
     }
-}
-
-// Whether the opening goes as it says.
-fn opens(alloc: Global, from: Opening) -> Result<Option<usize>, AllocError> {
-    let mut world = World::new(alloc)?;
-    tell(alloc, &mut world, lines_of(from))
-}
-
-#[test]
-fn openings(rt: HostRuntime) -> Result<(), Fail> {
-    assert_eq!(rt; opens(rt.alloc(), Opening::Joined)?, None);
-    assert_eq!(rt; opens(rt.alloc(), Opening::Drawn)?, None);
-    Ok(())
 }
