@@ -1,4 +1,4 @@
-//! Tests of `canvas_server`: requests out of order, strangers, what is told, an arena, and each growth refused in turn.
+//! Tests of `canvas_server`: strangers, a full server, what is told, an arena, and each growth refused in turn.
 #![tactic(auto)]
 
 #[cfg(test)]

@@ -47,14 +47,6 @@ pub fn taken(
     Ok(server.take(&request))
 }
 
-/// Publishes all entries.
-pub fn publish_all(server: &mut Server) {
-    let all = server.version();
-    if server.published() <= all {
-        server.publish(all);
-    }
-}
-
 /// Whether two servers hold the same.
 pub fn are_same(server: &Server, other: &Server) -> bool {
     server.version() == other.version()

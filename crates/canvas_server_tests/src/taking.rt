@@ -4,27 +4,6 @@ use canvas_server::{Looked, Server, TakeError, Took};
 use std::alloc::Global;
 use std::test::Fail;
 
-// Whether edits 1 and 2 that come in the order 2, 1, 2, 2 are answered so.
-fn answers_out_of_order(alloc: Global) -> Result<bool, Fail> {
-    let mut server = joined(alloc)?;
-    let first = taken(alloc, &mut server, 1, 2)?;
-    let second = taken(alloc, &mut server, 1, 1)?;
-    let third = taken(alloc, &mut server, 1, 2)?;
-    let fourth = taken(alloc, &mut server, 1, 2)?;
-    Ok(
-        first == Ok(Took::Gap { done: 0 })
-            && second == Ok(Took::Judged(2))
-            && third == Ok(Took::Judged(3))
-            && fourth == Ok(Took::Repeat { done: 2 }),
-    )
-}
-
-#[test]
-fn out_of_order(rt: HostRuntime) -> Result<(), Fail> {
-    assert!(rt; answers_out_of_order(rt.alloc())?);
-    Ok(())
-}
-
 // Whether the edit of that client is refused as a stranger's, and changes nothing.
 fn is_stranger(alloc: Global, client: u32) -> Result<bool, Fail> {
     let mut server = joined(alloc)?;
@@ -38,23 +17,6 @@ fn strangers(rt: HostRuntime) -> Result<(), Fail> {
     for client in [0, 2, 4294967295] {
         assert!(rt; is_stranger(rt.alloc(), client)?, "{client}");
     }
-    Ok(())
-}
-
-// Whether the next Join gets id 2 and makes version 4.
-fn joins_second(alloc: Global) -> Result<bool, Fail> {
-    let mut server = with_pages(alloc)?;
-    let answer = server.take(&join());
-    Ok(
-        answer == Ok(Took::Judged(4))
-            && server.state().has_joined(2)
-            && !server.state().has_joined(3),
-    )
-}
-
-#[test]
-fn joins(rt: HostRuntime) -> Result<(), Fail> {
-    assert!(rt; joins_second(rt.alloc())?);
     Ok(())
 }
 
