@@ -1,0 +1,173 @@
+// The lines of a case: what they say, and what is answered to those that ask.
+use crate::bench::{Bench, Failing};
+use crate::growths::write_growths;
+use crate::hex::byte_of;
+use crate::lines::{cut, find, kept, number};
+use crate::opening::write_opening;
+use crate::script::STEPS;
+use crate::shelves::{shelf_of, write_first, write_lists};
+use crate::spoiled::{write_cuts, write_spoiled};
+use crate::stops::{Asked, write_asked, write_faults, write_fuses, write_play};
+use canvas_shelf::record;
+use std::alloc::{AllocError, Global};
+
+// What a line says that asks nothing and is no call of a journal.
+#[derive(Clone, Copy)]
+enum Saying {
+    Segment,
+    Record,
+    Hex,
+    Fuse,
+    Fault,
+    Keep,
+}
+
+const SAYINGS: [(&str, Saying); 6] = [
+    ("segment", Saying::Segment),
+    ("record", Saying::Record),
+    ("hex", Saying::Hex),
+    ("fuse", Saying::Fuse),
+    ("fault", Saying::Fault),
+    ("keep", Saying::Keep),
+];
+
+// What a line asks.
+#[derive(Clone, Copy)]
+enum Question {
+    Open,
+    Cuts,
+    Bytes,
+    First,
+    Play,
+    Fuses,
+    Faults,
+    Calls,
+    Crash,
+    Reopen,
+    Sizes,
+    Lists,
+    Growths,
+}
+
+const QUESTIONS: [(&str, Question); 13] = [
+    ("open", Question::Open),
+    ("cuts", Question::Cuts),
+    ("bytes", Question::Bytes),
+    ("first", Question::First),
+    ("play", Question::Play),
+    ("fuses", Question::Fuses),
+    ("faults", Question::Faults),
+    ("calls", Question::Calls),
+    ("crash", Question::Crash),
+    ("reopen", Question::Reopen),
+    ("sizes", Question::Sizes),
+    ("lists", Question::Lists),
+    ("growths", Question::Growths),
+];
+
+// Adds bytes that are written as pairs of digits to the last segment.
+fn add_hex(bench: &mut Bench, pairs: &[u8]) -> Result<(), AllocError> {
+    for pair in pairs.split(|byte| *byte == b' ') {
+        if let Some(byte) = byte_of(pair) {
+            bench.add_bytes(&[byte])?;
+        }
+    }
+    Ok(())
+}
+
+// Adds a record of this text to the last segment.
+fn add_record(alloc: Global, bench: &mut Bench, text: &[u8]) -> Result<(), AllocError> {
+    match record(alloc, text) {
+        Ok(bytes) => bench.add_bytes(&bytes),
+        Err(_) => Err(AllocError),
+    }
+}
+
+// Adds a line.
+fn add_line(line: &[u8], lines: &mut Vec<u8>) -> Result<(), AllocError> {
+    lines.extend_from_slice(line)?;
+    lines.push(b'\n')?;
+    Ok(())
+}
+
+// Takes what a line says.
+fn take(alloc: Global, bench: &mut Bench, saying: Saying, text: &[u8]) -> Result<(), AllocError> {
+    let count = number(text).unwrap_or(0);
+    match saying {
+        Saying::Segment => bench.begin_segment(alloc, u32::try_from(count).unwrap_or(0)),
+        Saying::Record => add_record(alloc, bench, text),
+        Saying::Hex => add_hex(bench, text),
+        Saying::Fuse => {
+            bench.failing = Failing::After(count);
+            Ok(())
+        }
+        Saying::Fault => {
+            bench.failing = Failing::Only(count);
+            Ok(())
+        }
+        Saying::Keep => add_line(text, &mut bench.crashes),
+    }
+}
+
+// Adds the first record of the last segment.
+fn write_first_of(bench: &Bench, answer: &mut String) -> Result<(), AllocError> {
+    match bench.segments.last() {
+        Some(segment) => write_first(&segment.bytes, answer),
+        None => Ok(()),
+    }
+}
+
+// Adds what a question is answered.
+fn write_answer(
+    alloc: Global,
+    bench: &Bench,
+    question: Question,
+    text: &[u8],
+    answer: &mut String,
+) -> Result<(), AllocError> {
+    match question {
+        Question::Open => write_opening(alloc, shelf_of(alloc, &bench.segments)?, answer),
+        Question::Cuts => write_cuts(alloc, &bench.segments, answer),
+        Question::Bytes => write_spoiled(
+            alloc,
+            &bench.segments,
+            byte_of(text).unwrap_or(0),
+            answer,
+        ),
+        Question::First => write_first_of(bench, answer),
+        Question::Play => write_play(alloc, bench, answer),
+        Question::Fuses => write_fuses(alloc, bench, answer),
+        Question::Faults => write_faults(alloc, bench, answer),
+        Question::Calls => write_asked(alloc, bench, Asked::Calls, answer),
+        Question::Crash => write_asked(alloc, bench, Asked::Crash(text), answer),
+        Question::Reopen => write_asked(alloc, bench, Asked::Reopen(text), answer),
+        Question::Sizes => {
+            let (segment, most) = kept(text).unwrap_or((0, 0));
+            write_asked(alloc, bench, Asked::Sizes(segment, most), answer)
+        }
+        Question::Lists => write_lists(alloc, bench.failing, number(text).unwrap_or(0), answer),
+        Question::Growths => write_growths(alloc, text, answer),
+    }
+}
+
+/// Takes what a line says, or adds to `out` what it is answered.
+pub fn answer_line(
+    alloc: Global,
+    bench: &mut Bench,
+    line: &[u8],
+    out: &mut Vec<u8>,
+) -> Result<(), AllocError> {
+    let (word, text) = cut(line);
+    if let Some(saying) = find(&SAYINGS, word) {
+        return take(alloc, bench, saying, text);
+    }
+    if find(&STEPS, word).is_some() {
+        return add_line(line, &mut bench.script);
+    }
+    let Some(question) = find(&QUESTIONS, word) else {
+        return out.extend_from_slice(b"cannot read\n");
+    };
+    let mut answer = String::new(alloc);
+    write_answer(alloc, bench, question, text, &mut answer)?;
+    out.extend_from_slice(answer.as_bytes())
+}

@@ -1,0 +1,152 @@
+// Shelves in memory, and what they hold.
+ghost use Rattle.std.specs.Prelude.{◌≡◌, true, IfOk};
+ghost use Rattle.canvas_shelf.specs.Disk.{top_is_listed};
+ghost use Rattle.canvas_shelf.specs.Shelved.{disk_of};
+
+use crate::bench::{Failing, Segment};
+use canvas_journal::OpenError;
+use canvas_shelf::{Call, MemShelf, Shelf, ShelfError, first_record};
+use std::alloc::{AllocError, Global};
+
+/// A shelf in memory with these segments, all of their bytes synced, of which no call is noted and none fails.
+pub fn shelf_of(alloc: Global, segments: &[Segment]) -> Result<MemShelf, AllocError>
+    ensures { IfOk result (λ m. top_is_listed (disk_of m) ≡ true) }
+{
+    match segments {
+        [rest @ .., last] => shelf_with(alloc, rest, last.number, &last.bytes),
+        [] => MemShelf::new(alloc).crash(&[]),
+    }
+}
+
+/// The same with one segment more, of these bytes.
+pub fn shelf_with(
+    alloc: Global,
+    segments: &[Segment],
+    number: u32,
+    bytes: &[u8],
+) -> Result<MemShelf, AllocError>
+    ensures { IfOk result (λ m. top_is_listed (disk_of m) ≡ true) }
+{
+    let mut shelf = MemShelf::new(alloc);
+    match put_all(alloc, &mut shelf, segments, number, bytes) {
+        Ok(()) => shelf.crash(&[]),
+        Err(_) => Err(AllocError),
+    }
+}
+
+// Puts segments on a shelf, and one more.
+fn put_all(
+    alloc: Global,
+    shelf: &mut MemShelf,
+    segments: &[Segment],
+    number: u32,
+    bytes: &[u8],
+) -> Result<(), OpenError> {
+    for segment in segments {
+        put(alloc, shelf, segment.number, &segment.bytes)?;
+    }
+    put(alloc, shelf, number, bytes)
+}
+
+// Makes a segment that isn't listed, of these bytes, and makes sure of it. One that is listed stays as it is.
+fn put(alloc: Global, shelf: &mut MemShelf, number: u32, bytes: &[u8]) -> Result<(), OpenError> {
+    let listed = shelf.list(alloc)?;
+    if listed.contains(&number) {
+        return Ok(());
+    }
+    shelf.create(number)?;
+    shelf.append(number, bytes)?;
+    shelf.sync(number)?;
+    Ok(())
+}
+
+/// Makes calls of a shelf fail.
+pub fn set_failing(shelf: &mut MemShelf, failing: Failing)
+    ensures { disk_of shelf.new ≡ disk_of shelf.old }
+{
+    match failing {
+        Failing::Never => {}
+        Failing::After(calls) => shelf.fuse(calls),
+        Failing::Only(call) => shelf.fail_one(call),
+    }
+}
+
+/// Adds the calls of a shelf, in a line.
+pub fn write_calls(calls: &[Call], text: &mut String) -> Result<(), AllocError> {
+    text.push_str("calls:")?;
+    for call in calls {
+        write!(text, " {call:?}")?;
+    }
+    text.push('\n')?;
+    Ok(())
+}
+
+// Adds a blank and bytes, those that aren't printed as their numbers; nothing where there are none.
+fn write_bytes(bytes: &[u8], text: &mut String) -> Result<(), AllocError> {
+    if !bytes.is_empty() {
+        text.push(' ')?;
+    }
+    for byte in bytes {
+        if byte.is_ascii_graphic() {
+            text.push(char::from(*byte))?;
+        } else {
+            write!(text, "<{byte}>")?;
+        }
+    }
+    text.push('\n')
+}
+
+/// Adds the segments that a crash left, the highest first, each in a line.
+pub fn write_left(alloc: Global, left: &mut MemShelf, text: &mut String) -> Result<(), AllocError> {
+    match write_segments(alloc, left, text) {
+        Ok(()) => Ok(()),
+        Err(_) => Err(AllocError),
+    }
+}
+
+// Adds the segments of a shelf, the highest first, each in a line.
+fn write_segments<S: Shelf>(
+    alloc: Global,
+    shelf: &mut S,
+    text: &mut String,
+) -> Result<(), ShelfError> {
+    let listed = shelf.list(alloc)?;
+    for number in &listed {
+        let bytes = shelf.read(alloc, *number)?;
+        write!(text, "segment {number}, {} bytes:", bytes.len())?;
+        write_bytes(&bytes, text)?;
+    }
+    Ok(())
+}
+
+/// Adds the text of the first record in these bytes, and the bytes behind it.
+pub fn write_first(bytes: &[u8], text: &mut String) -> Result<(), AllocError> {
+    match first_record(bytes) {
+        Some((first, behind)) => {
+            text.push_str("first:")?;
+            write_bytes(first, text)?;
+            text.push_str("behind:")?;
+            write_bytes(behind, text)
+        }
+        None => text.push_str("none\n"),
+    }
+}
+
+/// Adds what a shelf with no segment answers that is asked so often for its numbers, where these calls fail.
+pub fn write_lists(
+    alloc: Global,
+    failing: Failing,
+    times: u64,
+    text: &mut String,
+) -> Result<(), AllocError> {
+    let mut shelf = MemShelf::new(alloc);
+    set_failing(&mut shelf, failing);
+    for _ in 0..times {
+        text.push_str(if shelf.list(alloc).is_ok() {
+            "ok "
+        } else {
+            "Device "
+        })?;
+    }
+    write!(text, "{} failed\n", shelf.failures())
+}

@@ -1,0 +1,96 @@
+// What opening finds where the last segment is cut, or one of its bytes is another.
+ghost use Rattle.std.specs.Prelude.{◌≡◌, true, IfOk};
+ghost use Rattle.canvas_shelf.specs.Disk.{top_is_listed};
+ghost use Rattle.canvas_shelf.specs.Shelved.{disk_of};
+
+use crate::bench::Segment;
+use crate::opening::{write_found, write_opening, write_version};
+use crate::runs::Runs;
+use crate::shelves::shelf_with;
+use canvas_shelf::MemShelf;
+use std::alloc::{AllocError, Global};
+
+// Notes what opening finds where the last segment is cut to this size.
+fn note_cut(
+    alloc: Global,
+    rest: &[Segment],
+    last: &Segment,
+    size: usize,
+    runs: &mut Runs,
+    text: &mut String,
+) -> Result<(), AllocError> {
+    let bytes = last.bytes.get(..size).unwrap_or(&last.bytes);
+    let shelf = shelf_with(alloc, rest, last.number, bytes)?;
+    let mut answer = String::new(alloc);
+    write_opening(alloc, shelf, &mut answer)?;
+    runs.note(size as u64, &answer, text)
+}
+
+/// Adds what opening finds where the last segment is cut to each length, and where it isn't.
+pub fn write_cuts(
+    alloc: Global,
+    segments: &[Segment],
+    text: &mut String,
+) -> Result<(), AllocError> {
+    let [rest @ .., last] = segments else {
+        return Ok(());
+    };
+    let mut runs = Runs::new(alloc);
+    for size in 0..last.bytes.len().saturating_add(1) {
+        note_cut(alloc, rest, last, size, &mut runs, text)?;
+    }
+    runs.end(text)
+}
+
+// A shelf on which this byte stands at this place of the last segment.
+fn spoiled_shelf(
+    alloc: Global,
+    rest: &[Segment],
+    last: &Segment,
+    at: usize,
+    byte: u8,
+) -> Result<MemShelf, AllocError>
+    ensures { IfOk result (λ m. top_is_listed (disk_of m) ≡ true) }
+{
+    let mut bytes = Vec::from_slice(alloc, &last.bytes)?;
+    if let Some(place) = bytes.get_mut(at) {
+        *place = byte;
+    }
+    shelf_with(alloc, rest, last.number, &bytes)
+}
+
+// Notes what looking at a shelf finds whose bytes are all synced, and what opening it finds.
+fn note_found(
+    alloc: Global,
+    shelf: MemShelf,
+    at: usize,
+    runs: &mut Runs,
+    text: &mut String,
+) -> Result<(), AllocError>
+    requires { top_is_listed (disk_of shelf) ≡ true }
+{
+    let mut answer = String::from_str(alloc, "look: ")?;
+    write_found(alloc, &mut shelf.crash(&[])?, &mut answer)?;
+    answer.push_str("\nopen: ")?;
+    write_version(alloc, shelf, &mut answer)?;
+    answer.push('\n')?;
+    runs.note(at as u64, &answer, text)
+}
+
+/// Adds what looking and opening find where each byte of the last segment is replaced by this one.
+pub fn write_spoiled(
+    alloc: Global,
+    segments: &[Segment],
+    byte: u8,
+    text: &mut String,
+) -> Result<(), AllocError> {
+    let [rest @ .., last] = segments else {
+        return Ok(());
+    };
+    let mut runs = Runs::new(alloc);
+    for at in 0..last.bytes.len() {
+        let shelf = spoiled_shelf(alloc, rest, last, at, byte)?;
+        note_found(alloc, shelf, at, &mut runs, text)?;
+    }
+    runs.end(text)
+}
