@@ -1,17 +1,14 @@
-//! Tests of `canvas_journal`: segments byte for byte, cut, torn and damaged, after crashes and failed calls, in memory and in a folder.
+//! Tests of `canvas_journal` and of the shelves below it in real folders: what files hold after each call, damaged and foreign files,
+//! folders that are gone; and want of memory, told as such by both shelves.
 #![tactic(auto)]
 
 #[cfg(test)]
 mod bytes;
 #[cfg(test)]
-mod crashes;
-#[cfg(test)]
 mod folders;
 #[cfg(test)]
-mod keeping;
-#[cfg(test)]
-mod opening;
+mod journals;
 #[cfg(test)]
 mod refusals;
 #[cfg(test)]
-mod shelves;
+mod segments;

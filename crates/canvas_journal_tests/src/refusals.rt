@@ -1,10 +1,11 @@
-//! Each growth of a shelf's answer, and of a record, refused in turn.
+//! The first growth of each shelf's answer refused.
 ghost use Rattle.std.specs.Prelude.{◌≡◌, true, IfOk, IsTrue};
 ghost use Rattle.canvas_shelf.specs.Disk.{is_listed};
 ghost use Rattle.canvas_shelf.specs.Shelved.{disk_of};
 
 use crate::bytes::JOINED;
-use canvas_shelf::{DirShelf, MemShelf, RecordError, Shelf, ShelfError, record};
+use crate::folders::{renew, shelf_in, write};
+use canvas_shelf::{MemShelf, Shelf, ShelfError};
 use refusing::Refusing;
 use std::alloc::Global;
 use std::fs;
@@ -18,11 +19,6 @@ fn in_memory(alloc: Global) -> Result<MemShelf, Fail>
     shelf.create(1)?;
     shelf.append(1, JOINED)?;
     Ok(shelf)
-}
-
-// The same in a folder.
-fn in_folder(rt: &HostRuntime, folder: &str) -> Result<DirShelf<HostRuntime>, Fail> {
-    Ok(DirShelf::existing(rt.clone()?, folder)?)
 }
 
 // Whether a shelf that is asked for its numbers, with the first growth refused, tells so and counts no failure, and answers when it is
@@ -54,37 +50,17 @@ fn memory_refuses(alloc: Global) -> Result<bool, Fail> {
 
 // Whether a shelf in a folder does both.
 fn folder_refuses(rt: &HostRuntime, folder: &str) -> Result<bool, Fail> {
-    let lists = refuses_list(rt.alloc(), &mut in_folder(rt, folder)?);
-    Ok(lists && refuses_read(rt.alloc(), &mut in_folder(rt, folder)?))
+    let lists = refuses_list(rt.alloc(), &mut shelf_in(rt, folder)?);
+    Ok(lists && refuses_read(rt.alloc(), &mut shelf_in(rt, folder)?))
 }
 
 #[test]
 fn shelves(rt: HostRuntime) -> Result<(), Fail> {
     assert!(rt; memory_refuses(rt.alloc())?);
     let folder = "journal-refusals";
-    let _ = fs::remove_dir_all(&rt, folder);
-    fs::create_dir(&rt, folder)?;
-    fs::write(&rt, "journal-refusals/segment-0000000001", JOINED)?;
+    renew(&rt, folder)?;
+    write(&rt, folder, "segment-0000000001", JOINED)?;
     assert!(rt; folder_refuses(&rt, folder)?);
     let _ = fs::remove_dir_all(&rt, folder);
     Ok(())
-}
-
-// How many growths a record has, each of which may be refused.
-fn growths_of_record(alloc: Global, text: &[u8]) -> Option<u64> {
-    for nth in 1..10u64 {
-        let heap = Refusing::new(alloc, nth);
-        match record(&heap, text) {
-            Ok(_) => return Some(nth - 1),
-            Err(RecordError::Memory) => {}
-            Err(RecordError::TooLong) => return None,
-        }
-    }
-    None
-}
-
-#[test]
-fn records(rt: HostRuntime) {
-    assert_eq!(rt; growths_of_record(rt.alloc(), b""), Some(1));
-    assert_eq!(rt; growths_of_record(rt.alloc(), &[7; 100]), Some(2));
 }
