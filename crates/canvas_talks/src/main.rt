@@ -1,0 +1,24 @@
+//! Talks of clients with a room over a journal in memory, message by message: a program that is run on a file of cases.
+//!
+//! All lines of a case are one talk. Each line is a message that the room's one seat is asked, but for these:
+//!
+//! - `fuse N` lets so many calls of the room's shelf pass, and makes all others fail; it stands at the beginning.
+//! - `edits A B` is one edit of client 1 for each number from A to B, which sets a property of the object 1:1 to that number.
+//! - `segments` asks for the numbers of the segments that were made so far on the room's shelf.
+//!
+//! What is answered more than once in a row is written once, behind how often. Each talk is also held over a WebSocket in memory; where that
+//! is sent something else, a line says so.
+#![tactic(auto)]
+
+mod repeats;
+mod rooms;
+mod talks;
+
+use canvas_cases::run_cases;
+use std::io;
+use talks::Talks;
+
+fn main(rt: HostRuntime) -> io::Result<()> {
+    let mut talks = Talks::new(rt.alloc(), rt);
+    run_cases(rt.alloc(), &mut talks, &mut rt.stdin(), &mut rt.stdout())
+}

@@ -1,0 +1,144 @@
+// Talks, line by line.
+use crate::repeats::add_lines;
+use crate::rooms::{Answers, answer_lines, serve_lines};
+use canvas_cases::Answerer;
+use std::alloc::{AllocError, Global};
+use std::sync::Wait;
+
+/// A talk so far: its lines, how many calls of the shelf pass, how much was answered before, and whether the segments are asked for.
+pub struct Talks<R: Wait + Copy + Drop> {
+    rt: R,
+    calls: u64,
+    lines: Vec<u8>,
+    told: usize,
+    asks_segments: bool,
+}
+
+impl<R: Wait + Copy + Drop> Drop for Talks<R> {
+    fn drop(self) {
+        let Talks {
+            rt: _,
+            calls: _,
+            lines: _,
+            told: _,
+            asks_segments: _,
+        } = self;
+    }
+}
+
+// The number of a text of decimal digits.
+fn number(text: &[u8]) -> Option<u64> {
+    str::from_utf8(text).ok()?.parse::<u64>().ok()
+}
+
+// The two numbers of a text, with a blank between.
+fn bounds(text: &[u8]) -> Option<(u64, u64)> {
+    let (first, last) = str::from_utf8(text).ok()?.split_once(' ')?;
+    Some((first.parse::<u64>().ok()?, last.parse::<u64>().ok()?))
+}
+
+// Adds the lines of client 1's edits with these numbers.
+fn add_edits(alloc: Global, first: u64, last: u64, lines: &mut Vec<u8>) -> Result<(), AllocError> {
+    for seq in first..last.saturating_add(1) {
+        let line = format!(in alloc; "[\"edit\",1,{seq},[\"set\",[1,1],\"n\",{seq}]]\n")?;
+        lines.extend_from_slice(line.as_bytes())?;
+    }
+    Ok(())
+}
+
+// Adds the segments that were made, in a line.
+fn add_segments(alloc: Global, segments: &[u32], out: &mut Vec<u8>) -> Result<(), AllocError> {
+    let mut line = String::from_str(alloc, "segments:")?;
+    for number in segments {
+        write!(line, " {number}")?;
+    }
+    line.push('\n')?;
+    out.extend_from_slice(line.as_bytes())
+}
+
+impl<R: Wait + Copy + Drop> Talks<R> {
+    /// No talk.
+    pub fn new(alloc: Global, rt: R) -> Self {
+        Talks {
+            rt,
+            calls: u64::MAX,
+            lines: Vec::new(alloc),
+            told: 0,
+            asks_segments: false,
+        }
+    }
+
+    // Takes a line.
+    fn take(&mut self, alloc: Global, line: &[u8]) -> Result<(), AllocError> {
+        if let Some(calls) = line.strip_prefix(b"fuse ") {
+            self.calls = number(calls).unwrap_or(u64::MAX);
+            return Ok(());
+        }
+        if let Some((first, last)) = line.strip_prefix(b"edits ").and_then(bounds) {
+            return add_edits(alloc, first, last, &mut self.lines);
+        }
+        if line == b"segments".as_slice() {
+            self.asks_segments = true;
+            return Ok(());
+        }
+        self.lines.extend_from_slice(line)?;
+        self.lines.push(b'\n')?;
+        Ok(())
+    }
+
+    // Adds what is new of the answers to the talk so far.
+    fn tell(
+        &mut self,
+        alloc: Global,
+        answers: &Answers,
+        out: &mut Vec<u8>,
+    ) -> Result<(), AllocError> {
+        let before = self.told.min(answers.texts.len());
+        add_lines(alloc, &answers.texts[before..], out)?;
+        self.told = answers.texts.len();
+        if self.asks_segments {
+            self.asks_segments = false;
+            add_segments(alloc, &answers.segments, out)?;
+        }
+        self.compare(alloc, &answers.texts, out)
+    }
+
+    // Adds a line where a connection is sent other texts.
+    fn compare(&self, alloc: Global, texts: &[u8], out: &mut Vec<u8>) -> Result<(), AllocError> {
+        let Ok(lines) = str::from_utf8(&self.lines) else {
+            return out.extend_from_slice(b"(not sent over a connection)\n");
+        };
+        let mut sent = Vec::new(alloc);
+        serve_lines(alloc, self.rt, self.calls, lines, &mut sent)?;
+        if sent.as_slice() != texts {
+            out.extend_from_slice(b"(a connection is sent something else)\n")?;
+        }
+        Ok(())
+    }
+}
+
+impl<R: Wait + Copy + Drop> Answerer for Talks<R> {
+    fn begin(&mut self, _alloc: Global) -> Result<(), AllocError> {
+        self.calls = u64::MAX;
+        self.lines.clear();
+        self.told = 0;
+        self.asks_segments = false;
+        Ok(())
+    }
+
+    fn answer(&mut self, alloc: Global, asked: &[u8], out: &mut Vec<u8>) -> Result<(), AllocError> {
+        for line in asked
+            .strip_suffix(b"\n")
+            .unwrap_or(asked)
+            .split(|byte| *byte == b'\n')
+        {
+            self.take(alloc, line)?;
+        }
+        let mut answers = Answers {
+            texts: Vec::new(alloc),
+            segments: Vec::new(alloc),
+        };
+        answer_lines(alloc, self.rt, self.calls, &self.lines, &mut answers)?;
+        self.tell(alloc, &answers, out)
+    }
+}
