@@ -1,4 +1,4 @@
-//! Tests of `canvas_front`: what a seat of a room over a journal answers, message by message, and exchanges over a link to a seat.
+//! Tests of `canvas_front`: that a connection is sent what a seat answers, in a long talk, and exchanges over a link to a seat.
 #![tactic(auto)]
 
 #[cfg(test)]
@@ -6,10 +6,4 @@ mod connections;
 #[cfg(test)]
 mod exchanges;
 #[cfg(test)]
-mod floors;
-#[cfg(test)]
-mod refusals;
-#[cfg(test)]
 mod rooms;
-#[cfg(test)]
-mod session;
