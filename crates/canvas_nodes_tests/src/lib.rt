@@ -1,5 +1,5 @@
-//! Tests of `canvas_nodes`: the rounds of an exchange over a list of answers, the first session of a server and a client over sockets
-//! in memory, frames of each kind, and links over sockets.
+//! Tests of `canvas_nodes`: the rounds of an exchange over a list of answers, frames of each kind over sockets in memory, and links over
+//! sockets.
 #![tactic(auto)]
 
 #[cfg(test)]
@@ -10,8 +10,6 @@ mod links;
 mod rooms;
 #[cfg(test)]
 mod rounds;
-#[cfg(test)]
-mod session;
 #[cfg(test)]
 mod socket_links;
 #[cfg(test)]
