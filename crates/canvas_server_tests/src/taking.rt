@@ -4,22 +4,6 @@ use canvas_server::{Looked, Server, TakeError, Took};
 use std::alloc::Global;
 use std::test::Fail;
 
-// Whether the edit of that client is refused as a stranger's, and changes nothing.
-fn is_stranger(alloc: Global, client: u32) -> Result<bool, Fail> {
-    let mut server = joined(alloc)?;
-    let answer = taken(alloc, &mut server, client, 1)?;
-    Ok(answer == Err(TakeError::Stranger) && are_same(&server, &joined(alloc)?))
-}
-
-#[test]
-fn strangers(rt: HostRuntime) -> Result<(), Fail> {
-    assert!(rt; !is_stranger(rt.alloc(), 1)?);
-    for client in [0, 2, 4294967295] {
-        assert!(rt; is_stranger(rt.alloc(), client)?, "{client}");
-    }
-    Ok(())
-}
-
 // Whether edits of that number are judged when looked at, and nothing changes.
 fn looks_only(alloc: Global, seq: u64, is_next: bool) -> Result<bool, Fail> {
     let server = with_pages(alloc)?;
