@@ -1,30 +1,52 @@
 //! Frames of each kind that a server reads, and how often it writes.
 use crate::rooms::Room;
-use crate::sockets::served;
+use crate::sockets::answers;
 use canvas_nodes::serve_one;
-use memory_sockets::{heard, sent, socket};
+use memory_sockets::{MemorySocket, sent, socket};
 use std::alloc::Global;
 use std::io;
 use std::io::{Read, Write};
 use std::test::Fail;
 use tungstenite::{Message as Frame, NoMask, Role, WebSocket};
 
-// The bytes of a text message, a ping and a Join, and of another Join behind a closing frame.
-fn each_kind(alloc: Global) -> Result<Vec<u8>, Fail> {
-    let mut client = socket(alloc, &[], Role::Client);
-    client.send(Frame::text(alloc, "[\"join\",1]")?)?;
-    client.send(Frame::Ping(bytes::Bytes::copy_from_slice(alloc, b"p")?))?;
-    client.send(Frame::binary(alloc, b"[\"join\",1]")?)?;
-    client.close(None)?;
-    let mut all = client.into_inner().writer;
-    all.extend_from_slice(&sent(alloc, "[\"join\",1]", Role::Client)?)?;
-    Ok(all)
+// A Join.
+const JOIN: &str = "[\"join\",1]";
+
+// Sends a text message, a ping and a Join, and closes.
+fn send_each(alloc: Global, client: &mut MemorySocket<'_>) -> Result<(), Fail> {
+    let text = Frame::text(alloc, JOIN)?;
+    client.send(text)?;
+    let ping = bytes::Bytes::copy_from_slice(alloc, b"p")?;
+    client.send(Frame::Ping(ping))?;
+    let join = Frame::binary(alloc, JOIN.as_bytes())?;
+    client.send(join)?;
+    Ok(client.close(None)?)
 }
 
-// What is answered to these.
-fn answered(alloc: Global) -> Result<bool, Fail> {
-    let told = served(alloc, &each_kind(alloc)?)?;
-    Ok(heard(alloc, &told)?.as_slice() == b"[\"no\",9]\n[\"welcome\",1]\n".as_slice())
+// The bytes of these.
+fn sent_each(alloc: Global) -> Result<Vec<u8>, Fail> {
+    let mut client = socket(alloc, &[], Role::Client);
+    send_each(alloc, &mut client)?;
+    Ok(client.into_inner().writer)
+}
+
+// Adds a Join.
+fn add_join(alloc: Global, bytes: &mut Vec<u8>) -> Result<(), Fail> {
+    let join = sent(alloc, JOIN, Role::Client)?;
+    Ok(bytes.extend_from_slice(&join)?)
+}
+
+// The bytes of a text message, a ping and a Join, and of another Join behind a closing frame.
+fn each_kind(alloc: Global) -> Result<Vec<u8>, Fail> {
+    let mut bytes = sent_each(alloc)?;
+    add_join(alloc, &mut bytes)?;
+    Ok(bytes)
+}
+
+// Whether a new server answers these so.
+fn are_answered(alloc: Global, answered: &str) -> Result<bool, Fail> {
+    let bytes = each_kind(alloc)?;
+    answers(alloc, &bytes, answered)
 }
 
 // Whether serving these bytes ends without an error.
@@ -34,17 +56,23 @@ fn ends(alloc: Global, bytes: &[u8]) -> Result<bool, Fail> {
     Ok(serve_one(alloc, &mut room, &mut server).is_ok())
 }
 
-// The same for these, and for a Join alone, behind which the stream ends.
-fn ended(alloc: Global) -> Result<(bool, bool), Fail> {
-    let all = each_kind(alloc)?;
-    let join = sent(alloc, "[\"join\",1]", Role::Client)?;
-    Ok((ends(alloc, &all)?, ends(alloc, &join)?))
+// The same for those of each kind.
+fn ends_each(alloc: Global) -> Result<bool, Fail> {
+    let bytes = each_kind(alloc)?;
+    ends(alloc, &bytes)
+}
+
+// The same for a Join alone, behind which the stream ends.
+fn ends_join(alloc: Global) -> Result<bool, Fail> {
+    let bytes = sent(alloc, JOIN, Role::Client)?;
+    ends(alloc, &bytes)
 }
 
 #[test]
 fn kinds(rt: HostRuntime) -> Result<(), Fail> {
-    assert!(rt; answered(rt.alloc())?);
-    assert_eq!(rt; ended(rt.alloc())?, (true, false));
+    assert!(rt; are_answered(rt.alloc(), "[\"no\",9]\n[\"welcome\",1]\n")?);
+    assert!(rt; ends_each(rt.alloc())?);
+    assert!(rt; !ends_join(rt.alloc())?);
     Ok(())
 }
 
@@ -72,25 +100,29 @@ impl<'a> Write for Counting<'a> {
     }
 }
 
-// How often a server writes while it answers these lines.
-fn writes(alloc: Global, lines: &str) -> Result<u32, Fail> {
-    let bytes = sent(alloc, lines, Role::Client)?;
+// How often a server writes while it answers these bytes.
+fn writes(alloc: Global, bytes: &[u8]) -> Result<u32, Fail> {
+    let mut room = Room::new(alloc)?;
     let stream = Counting {
-        reader: &bytes,
+        reader: bytes,
         writes: 0,
     };
     let mut server = WebSocket::from_raw_socket(alloc, stream, NoMask, Role::Server, None);
-    let mut room = Room::new(alloc)?;
     let _ = serve_one(alloc, &mut room, &mut server);
     Ok(server.into_inner().writes)
 }
 
+// The same for these lines.
+fn writes_for(alloc: Global, lines: &str) -> Result<u32, Fail> {
+    let bytes = sent(alloc, lines, Role::Client)?;
+    writes(alloc, &bytes)
+}
+
 #[test]
 fn one_write_an_answer(rt: HostRuntime) -> Result<(), Fail> {
-    assert_eq!(rt; writes(rt.alloc(), "[\"join\",1]")?, 1);
-    assert_eq!(rt;
-        writes(rt.alloc(), "[\"join\",1]\n[\"ask\",1,0]\n[\"ask\",1,1]")?,
-        3
-    );
+    let rows = [(JOIN, 1), ("[\"join\",1]\n[\"ask\",1,0]\n[\"ask\",1,1]", 3)];
+    for (lines, wanted) in rows {
+        assert_eq!(rt; writes_for(rt.alloc(), lines)?, wanted, "at {lines}");
+    }
     Ok(())
 }

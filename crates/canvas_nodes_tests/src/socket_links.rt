@@ -2,28 +2,41 @@
 use canvas_judge::{Message, NoReason};
 use canvas_nodes::{Link, LinkError, SocketLink};
 use memory_sockets::{sent, socket};
-use std::alloc::Global;
+use std::alloc::{AllocError, Global};
 use std::test::Fail;
 use tungstenite::Role;
 
 const ENTRY: &str = "[\"entry\",1,[0,0,\"join\",[\"joined\",1]]]\n";
 
-// How many messages are the answer, where a server sends these lines.
-fn count(alloc: Global, lines: &str) -> Result<Result<usize, LinkError>, Fail> {
-    let bytes = sent(alloc, lines, Role::Server)?;
-    let mut link = SocketLink::new(alloc, socket(alloc, &bytes, Role::Client));
-    let answer = link.round(&Message::Join);
-    Ok(answer.map(|messages| messages.len()))
+// How many messages are the answer of a round, where a server sends these bytes, and so many rounds come before.
+fn count_over(alloc: Global, bytes: &[u8], before: u32) -> Result<usize, LinkError> {
+    let mut link = SocketLink::new(alloc, socket(alloc, bytes, Role::Client));
+    for _ in 0..before {
+        let _ = link.round(&Message::Join);
+    }
+    link.round(&Message::Join).map(|messages| messages.len())
 }
 
-// The same, where it sends so many entries and then an Idle.
-fn count_after(alloc: Global, entries: usize) -> Result<Result<usize, LinkError>, Fail> {
+// The same, where it sends these lines.
+fn count(alloc: Global, lines: &str, before: u32) -> Result<Result<usize, LinkError>, Fail> {
+    let bytes = sent(alloc, lines, Role::Server)?;
+    Ok(count_over(alloc, &bytes, before))
+}
+
+// The lines of so many entries and an Idle.
+fn lines_of(alloc: Global, entries: usize) -> Result<String, AllocError> {
     let mut lines = String::new(alloc);
     for _ in 0..entries {
         lines.push_str(ENTRY)?;
     }
     lines.push_str("[\"idle\"]")?;
-    count(alloc, lines.as_str())
+    Ok(lines)
+}
+
+// How many messages are the answer of a round, where a server sends so many entries and then an Idle.
+fn count_after(alloc: Global, entries: usize) -> Result<Result<usize, LinkError>, Fail> {
+    let lines = lines_of(alloc, entries)?;
+    count(alloc, lines.as_str(), 0)
 }
 
 #[test]
@@ -40,38 +53,42 @@ fn answers(rt: HostRuntime) -> Result<(), Fail> {
         ("", Err(LinkError::Ended)),
     ];
     for (lines, wanted) in rows {
-        assert_eq!(rt; count(rt.alloc(), lines)?, wanted, "at {lines}");
+        assert_eq!(rt; count(rt.alloc(), lines, 0)?, wanted, "at {lines}");
     }
-    assert_eq!(rt; count_after(rt.alloc(), 64)?, Ok(65));
-    assert_eq!(rt; count_after(rt.alloc(), 65)?, Err(LinkError::NotRead));
+    for (entries, wanted) in [(64, Ok(65)), (65, Err(LinkError::NotRead))] {
+        assert_eq!(rt; count_after(rt.alloc(), entries)?, wanted, "at {entries}");
+    }
     Ok(())
-}
-
-// How the second round ends, where a server sends these lines.
-fn second(alloc: Global, lines: &str) -> Result<Result<usize, LinkError>, Fail> {
-    let bytes = sent(alloc, lines, Role::Server)?;
-    let mut link = SocketLink::new(alloc, socket(alloc, &bytes, Role::Client));
-    let _ = link.round(&Message::Join);
-    let answer = link.round(&Message::Join);
-    Ok(answer.map(|messages| messages.len()))
 }
 
 #[test]
 fn goes_on_after_no_alone(rt: HostRuntime) -> Result<(), Fail> {
-    assert_eq!(rt; second(rt.alloc(), "[\"no\",4]\n[\"welcome\",1]")?, Ok(1));
-    assert_eq!(rt;
-        second(rt.alloc(), "[\"no\",0]\n[\"welcome\",1]")?,
-        Err(LinkError::Ended)
-    );
+    let rows = [
+        ("[\"no\",4]\n[\"welcome\",1]", Ok(1)),
+        ("[\"no\",0]\n[\"welcome\",1]", Err(LinkError::Ended)),
+    ];
+    for (lines, wanted) in rows {
+        assert_eq!(rt; count(rt.alloc(), lines, 1)?, wanted, "at {lines}");
+    }
     Ok(())
+}
+
+// What a round sends, where a server sends these bytes.
+fn told_over(alloc: Global, bytes: &[u8]) -> Result<Vec<u8>, LinkError> {
+    let mut link = SocketLink::new(alloc, socket(alloc, bytes, Role::Client));
+    link.round(&Message::Join)?;
+    Ok(link.into_socket().into_inner().writer)
+}
+
+// The same, where it sends an Idle.
+fn told(alloc: Global) -> Result<Vec<u8>, Fail> {
+    let bytes = sent(alloc, "[\"idle\"]", Role::Server)?;
+    Ok(told_over(alloc, &bytes)?)
 }
 
 // Whether a round sends its message as one binary message.
 fn sends(alloc: Global) -> Result<bool, Fail> {
-    let bytes = sent(alloc, "[\"idle\"]", Role::Server)?;
-    let mut link = SocketLink::new(alloc, socket(alloc, &bytes, Role::Client));
-    link.round(&Message::Join)?;
-    let told = link.into_socket().into_inner().writer;
+    let told = told(alloc)?;
     Ok(told == sent(alloc, "[\"join\",1]", Role::Client)?)
 }
 

@@ -1,15 +1,21 @@
 //! What a new server sends.
 use crate::rooms::Room;
 use canvas_nodes::serve_one;
-use memory_sockets::socket;
+use memory_sockets::{heard, socket};
 use std::alloc::Global;
 use std::test::Fail;
 use tungstenite::Role;
 
-/// What a new server sends to a client that sends these bytes.
-pub fn served(alloc: Global, bytes: &[u8]) -> Result<Vec<u8>, Fail> {
+// What a new server sends to a client that sends these bytes.
+fn served(alloc: Global, bytes: &[u8]) -> Result<Vec<u8>, Fail> {
     let mut room = Room::new(alloc)?;
     let mut server = socket(alloc, bytes, Role::Server);
     let _ = serve_one(alloc, &mut room, &mut server);
     Ok(server.into_inner().writer)
+}
+
+/// Whether a new server answers a client that sends these bytes by these lines.
+pub fn answers(alloc: Global, bytes: &[u8], answered: &str) -> Result<bool, Fail> {
+    let told = served(alloc, bytes)?;
+    Ok(heard(alloc, &told)?.as_slice() == answered.as_bytes())
 }
