@@ -1,74 +1,108 @@
 //! Exchanges of a client over a link to a seat.
 ghost use Rattle.std.specs.Prelude.{◌≡◌};
 
-use crate::rooms::blank;
+use canvas_benches::{Bench, SeatOf, room_in_memory};
 use canvas_board::RoomName;
 use canvas_client::Client;
 use canvas_doc::{Kind, ObjId};
 use canvas_front::SeatLink;
-use canvas_journal::Journal;
+use canvas_journal::Keeper;
+use canvas_judge::{Message, NoReason};
 use canvas_nodes::{Link, LinkError, exchange, join};
-use canvas_room::BlankRoom;
-use canvas_shelf::MemShelf;
+use canvas_room::{BlankRoom, Room};
 use std::alloc::Global;
 use std::marker::Brand;
 use std::sync::Wait;
 use std::test::Fail;
 
-// A client that joins, makes two edits, and exchanges.
-fn edit<L: Link>(alloc: Global, link: &mut L) -> Result<Client, Fail> {
+// A client that has joined.
+fn joined<L: Link>(alloc: Global, link: &mut L) -> Result<Client, Fail> {
     let mut client = Client::new(alloc)?;
     join(&mut client, link)?;
+    Ok(client)
+}
+
+// Makes two edits, and exchanges.
+fn edit<L: Link>(alloc: Global, client: &mut Client, link: &mut L) -> Result<(), Fail> {
     client.create(Kind::Page, ObjId::ROOT, None)?;
     client.delete(ObjId {
         client: 1,
         counter: 1,
     })?;
     if let Some(_) = client.id() {
-        exchange(alloc, &mut client, link)?;
+        exchange(alloc, client, link)?;
     }
-    Ok(client)
+    Ok(())
+}
+
+// The version of a client that has joined and done so, and how many of its edits wait.
+fn versions<L: Link>(alloc: Global, link: &mut L) -> Result<(u64, u64), Fail> {
+    let mut client = joined(alloc, link)?;
+    edit(alloc, &mut client, link)?;
+    Ok((client.version(), client.unacknowledged()))
 }
 
 // What is refused to a client of a room that has seen nothing of it.
 fn refused<L: Link>(alloc: Global, link: &mut L) -> Result<Option<LinkError>, Fail> {
     let mut client = Client::new(alloc)?;
-    client.receive(&canvas_judge::Message::<Global>::Welcome(7))?;
+    client.receive(&Message::<Global>::Welcome(7))?;
     match client.id() {
         Some(_) => Ok(exchange(alloc, &mut client, link).err()),
         None => Ok(None),
     }
 }
 
-// Whether after an exchange nothing waits, and the client is at the room's version; and whether a stranger is refused.
-fn exchanges_in<N: RoomName, R: Wait + Copy + Drop>(
+// Whether after an exchange nothing waits, and the client is at version 3; and whether a stranger is refused.
+fn exchanges_over<L: Link>(alloc: Global, link: &mut L) -> Result<bool, Fail> {
+    let versions = versions(alloc, link)?;
+    let stranger = refused(alloc, link)?;
+    Ok(versions == (3, 0) && stranger == Some(LinkError::Refused(NoReason::Stranger)))
+}
+
+// The same over a link to the last of these seats.
+fn exchanges_by<K: Keeper + Drop, N: RoomName, Q: Wait + Drop, W: Wait + Copy + Drop>(
+    rt: W,
     alloc: Global,
+    seats: &mut Vec<SeatOf<K, N, Q>>,
+) -> Result<bool, Fail> {
+    let Some(seat) = seats.pop() else {
+        return Ok(false);
+    };
+    let mut link = SeatLink::new(alloc, rt, seat);
+    exchanges_over(alloc, &mut link)
+}
+
+// The same, and whether the room is at the client's version.
+fn exchanges_at<K: Keeper + Drop, N: RoomName, Q: Wait + Drop, W: Wait + Copy + Drop>(
+    rt: W,
+    alloc: Global,
+    room: &Room<K, N, Q>,
+    seats: &mut Vec<SeatOf<K, N, Q>>,
+) -> Result<bool, Fail> {
+    Ok(exchanges_by(rt, alloc, seats)? && room.desk(&rt).version() == 3)
+}
+
+// The same in a room that is opened for this.
+fn exchanges_in<N: RoomName, K: Keeper + Drop, R: Wait + Copy + Drop>(
     rt: R,
-    blank: BlankRoom<Journal<MemShelf>>,
+    alloc: Global,
+    blank: BlankRoom<K>,
 ) -> Result<bool, Fail>
     requires book { blank.book ≡ N.book }
     requires opening { blank.opening ≡ N.opening }
 {
     let (room, mut seats) = blank.open::<N, R>(rt)?;
-    let seat = seats.pop().ok_or("a seat")?;
-    let mut link = SeatLink::new(alloc, rt, seat);
-    let client = edit(alloc, &mut link)?;
-    let stranger = refused(alloc, &mut link)?;
-    let desk = room.desk(&rt);
-    Ok(
-        client.version() == 3
-            && desk.version() == 3
-            && client.unacknowledged() == 0
-            && stranger == Some(LinkError::Refused(canvas_judge::NoReason::Stranger)),
-    )
+    exchanges_at(rt, alloc, &room, &mut seats)
 }
 
-fn exchanges<R: Wait + Copy + Drop>(alloc: Global, rt: R) -> Result<bool, Fail> {
-    exchanges_in::<Brand, R>(alloc, rt, blank(alloc, u64::MAX)?)
+// The same in a room in memory.
+fn exchanges<R: Wait + Copy + Drop>(rt: R, alloc: Global) -> Result<bool, Fail> {
+    let blank = room_in_memory(alloc, Bench::of(1))?;
+    exchanges_in::<Brand, _, _>(rt, alloc, blank)
 }
 
 #[test]
 fn over_a_seat(rt: HostRuntime) -> Result<(), Fail> {
-    assert!(rt; exchanges(rt.alloc(), rt)?);
+    assert!(rt; exchanges(rt, rt.alloc())?);
     Ok(())
 }

@@ -5,5 +5,3 @@
 mod connections;
 #[cfg(test)]
 mod exchanges;
-#[cfg(test)]
-mod rooms;
