@@ -1,13 +1,7 @@
-//! Tests of `canvas_server`: strangers, a full server, what is told, an arena, and each growth refused in turn.
+//! Tests of `canvas_server`: a server that is full.
 #![tactic(auto)]
 
-#[cfg(test)]
-mod arena;
-#[cfg(test)]
-mod refusals;
 #[cfg(test)]
 mod servers;
 #[cfg(test)]
 mod taking;
-#[cfg(test)]
-mod telling;

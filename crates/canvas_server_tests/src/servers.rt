@@ -1,5 +1,4 @@
 //! Servers to ask, and what they are asked.
-use canvas_judge::Entry;
 use canvas_samples::{new_page, object};
 use canvas_server::{Request, Server, TakeError, Took};
 use std::alloc::Global;
@@ -45,25 +44,4 @@ pub fn taken(
 ) -> Result<Result<Took, TakeError>, Fail> {
     let request = page(alloc, client, seq)?;
     Ok(server.take(&request))
-}
-
-/// Whether two servers hold the same.
-pub fn are_same(server: &Server, other: &Server) -> bool {
-    server.version() == other.version()
-        && server.published() == other.published()
-        && server.floor() == other.floor()
-        && server.state().same(other.state())
-}
-
-/// Whether these are the entries of client 1's edits with these numbers, in this order.
-pub fn are_edits(entries: &[Entry], numbers: &[u64]) -> bool {
-    if entries.len() != numbers.len() {
-        return false;
-    }
-    for (at, entry) in entries.iter().enumerate() {
-        if entry.author != 1 || entry.seq != numbers[at] {
-            return false;
-        }
-    }
-    true
 }
