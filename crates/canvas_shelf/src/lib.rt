@@ -17,6 +17,3 @@ pub use laws::every_segment;
 pub use memory::MemShelf;
 pub use records::{RecordError, first_record, record};
 pub use shelf::{DeviceFailed, Shelf, ShelfError};
-
-#[cfg(test)]
-mod tests;
