@@ -15,5 +15,5 @@ pub use calls::Call;
 pub use folder::DirShelf;
 pub use laws::every_segment;
 pub use memory::MemShelf;
-pub use records::{RecordError, first_record, record};
+pub use records::{RecordError, first_record, push_record, record};
 pub use shelf::{DeviceFailed, Shelf, ShelfError};
