@@ -3,10 +3,12 @@ use Rattle.std.specs.Prelude.{◌≡◌, ◌≢◌, ℕ, ◌+◌, ◌≤◌, ◌
 use Rattle.canvas_model.specs.declared.ObjId.{ObjId}
 use Rattle.canvas_model.specs.Document.{Doc, live}
 use Rattle.canvas_model.specs.Chain.{IsCycle}
-use Rattle.canvas_model.specs.Change.{Change}
+use Rattle.canvas_model.specs.Depth.{HasDepth, LiesBelow, StandsWithin, depth_limit}
+use Rattle.canvas_model.specs.Change.{Change, Create, Move}
 use Rattle.canvas_model.specs.Overlay.{over}
 use Rattle.canvas_model.specs.State.{State, opening, IsSound, joined, done}
-use Rattle.canvas_model.specs.Log.{Entry, Fits, IsLegal, effect, at_version}
+use Rattle.canvas_model.specs.Log.{Entry, What, Edit, Fits, FitsSome, IsLegal, effect, at_version}
+use Rattle.canvas_model.specs.Verdict.{Outcome, Created, Moved}
 use Rattle.canvas_model.specs.Client.{Client, nth}
 use Rattle.canvas_model.specs.Local.{EditRequest, Makes, edited}
 use Rattle.canvas_model.specs.Receive.{Message, Welcome, Tells, Copies, Received, Took, is_own, IsEdit, Receives, after_entry, after_copy}
@@ -14,9 +16,27 @@ use Rattle.canvas_model.specs.Standing.{Stands, OwnsWaiting, HasVerdict, MeetsOw
 use Rattle.canvas_model.specs.World.{Node, World, state, node, Event, Answer, Step, Run, empty}
 use Rattle.canvas_model.specs.Good.{HoldsId, unacknowledged, IsTrueOf, IsGood}
 
--- a verdict keeps a state sound
+-- an entry that may come next by one of the rules keeps a state sound
 abbrev pub EachVerdictIsSound : Type 0
-EachVerdictIsSound = (s : State) (e : Entry) → IsSound s → Fits s e → IsSound (effect s e)
+EachVerdictIsSound = (s : State) (e : Entry) → IsSound s → FitsSome s e → IsSound (effect s e)
+
+-- an object that an entry puts somewhere, and all below it, stands there no deeper than this
+abbrev pub PutsWithin : Doc → What → Outcome → ℕ → Type 0
+PutsWithin d (Edit (Create id kind _)) (Created got) limit = (depth : ℕ) → HasDepth d got.parent depth → depth + 1 ≤ limit
+PutsWithin d (Edit (Move id _)) (Moved got) limit = (q : ObjId) (n depth : ℕ) → LiesBelow d n q id → HasDepth d got.parent depth → depth + 1 + n ≤ limit
+PutsWithin d what outcome limit = Unit {0}
+
+-- where no object stands deeper than this, none does after an entry, by whichever rule, that puts none deeper
+abbrev pub EachPutStaysWithin : Type 0
+EachPutStaysWithin = (s : State) (e : Entry) (limit : ℕ) → IsSound s → FitsSome s e → StandsWithin s.doc limit → PutsWithin s.doc e.what e.outcome limit → StandsWithin (effect s e).doc limit
+
+-- where no object stands deeper than the limit of depth, none does after an entry that may come next
+abbrev pub EachEntryStaysWithin : Type 0
+EachEntryStaysWithin = (s : State) (e : Entry) → IsSound s → Fits s e → StandsWithin s.doc depth_limit → StandsWithin (effect s e).doc depth_limit
+
+-- no object of the document at any version of a legal log stands deeper than the limit of depth
+abbrev pub EachVersionStandsWithin : Type 0
+EachVersionStandsWithin = (log : List Entry) → IsLegal opening log → (v : ℕ) → StandsWithin (at_version log v).doc depth_limit
 
 -- the state at each version of a legal log is sound
 abbrev pub EachVersionIsSound : Type 0

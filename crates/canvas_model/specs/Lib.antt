@@ -7,6 +7,7 @@ pub mod Document
 pub mod Chain
 pub mod Sibling
 pub mod Children
+pub mod Depth
 pub mod Change
 pub mod Overlay
 pub mod State

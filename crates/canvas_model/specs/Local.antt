@@ -7,6 +7,7 @@ use Rattle.canvas_model.specs.Middle.{Middle}
 use Rattle.canvas_model.specs.Value.{Value}
 use Rattle.canvas_model.specs.Document.{Pos, Name, Doc, kind_of}
 use Rattle.canvas_model.specs.Chain.{Below, InTree}
+use Rattle.canvas_model.specs.Depth.{IsTooDeepUnder, MovesTooDeep}
 use Rattle.canvas_model.specs.Sibling.{IsSibling, IsNext}
 use Rattle.canvas_model.specs.Change.{Change}
 use Rattle.canvas_model.specs.Overlay.{lay}
@@ -34,11 +35,12 @@ pub data EditError : Type 0 where
   ParentNotShown : EditError
   BadParent : EditError
   OwnDescendant : EditError
+  TooDeep : EditError
   Crowded : EditError
   IdsSpent : EditError
   Full : EditError
 
--- the order in which the refusals are looked for
+-- the order in which the refusals are looked for, which isn't that of their numbers
 abbrev pub rank : EditError → ℕ
 rank NotOpen = 0
 rank IsRoot = 1
@@ -46,11 +48,12 @@ rank NotShown = 2
 rank ParentNotShown = 3
 rank BadParent = 4
 rank OwnDescendant = 5
-rank Crowded = 6
-rank IdsSpent = 7
-rank Full = 8
+rank TooDeep = 6
+rank Crowded = 7
+rank IdsSpent = 8
+rank Full = 9
 
--- the number by which a refusal is known
+-- the number by which a refusal is known, whatever its rank
 abbrev pub error_number : EditError → ℕ
 error_number NotOpen = 1
 error_number NotShown = 2
@@ -61,6 +64,7 @@ error_number Crowded = 6
 error_number IsRoot = 7
 error_number IdsSpent = 8
 error_number Full = 9
+error_number TooDeep = 11
 
 -- the object that the request names; one to be created has no id yet
 abbrev pub subject : EditRequest → Option ObjId
@@ -111,6 +115,12 @@ abbrev pub GoesBelowItself : Doc → EditRequest → Type 0
 GoesBelowItself view (Move id target) = Below view target.parent id
 GoesBelowItself view _ = ⊥
 
+-- the new object, or the moved one or something below it, would stand too deep in the view
+abbrev pub GoesTooDeep : Doc → EditRequest → Type 0
+GoesTooDeep view (Create kind target) = IsTooDeepUnder view target.parent
+GoesTooDeep view (Move id target) = MovesTooDeep view id target.parent
+GoesTooDeep view _ = ⊥
+
 -- the position of the child to come after, or none to come first
 abbrev pub IsPosAfter : Doc → ObjId → ObjId → Option ObjId → Option Pos → Type 0
 IsPosAfter view parent except None low = low ≡ None
@@ -133,6 +143,7 @@ Blocks client r NotShown = IsHidden client.view r ⊎ ComesAfterNone client.view
 Blocks client r ParentNotShown = Has (target_asked r) (λ target. InTree client.view target.parent → ⊥)
 Blocks client r BadParent = Has (target_asked r) (λ target. MayNotStand (kind_asked client.view r) (kind_of client.view target.parent))
 Blocks client r OwnDescendant = GoesBelowItself client.view r
+Blocks client r TooDeep = GoesTooDeep client.view r
 Blocks client r Crowded = Has (target_asked r) (λ target. Lands client.view (moved r) target None)
 Blocks client r IdsSpent = IsCreate r × (client.counter ≡ 4294967295)
 Blocks client r Full = last_number client ≡ 2 ^ 62

@@ -25,7 +25,7 @@ abbrev pub upper : Option (List ℕ) → Fraction
 upper None = record { top = 1; bottom = 1 }
 upper (Some s) = fraction s
 
--- both ends, where they are there, are in order
+-- both ends, where they are there, are in order as fractions
 abbrev pub AreInOrder : Option (List ℕ) → Option (List ℕ) → Type 0
 AreInOrder lo hi = MatchOption lo (Unit {0}) (λ s. MatchOption hi (Unit {0}) (λ t. IsSmaller s t))
 
@@ -63,7 +63,7 @@ pub record IsMiddle (lo hi : Option (List ℕ)) (p : List ℕ) : Type 0 where
 abbrev pub Middle : Option (List ℕ) → Option (List ℕ) → Option (List ℕ) → Type 0
 Middle lo hi r = MatchOption r ((n : ℕ) → n ≤ 128 → IsShut lo hi n) (IsMiddle lo hi)
 
--- a position strictly between the ends
+-- a position strictly between the ends as fractions
 pub record IsInside (lo hi : Option (List ℕ)) (p : List ℕ) : Type 0 where
   pub position : IsPosition p
   pub after : AreInOrder lo (Some p)

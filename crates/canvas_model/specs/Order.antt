@@ -19,11 +19,11 @@ abbrev pub IsUnder : Option (List ℕ) → List ℕ → Type 0
 IsUnder None p = Unit {0}
 IsUnder (Some high) p = IsBefore p high
 
--- the lower end is before the upper one, where both are there
+-- the lower end is before the upper one in the order of bytes, where both are there
 abbrev pub AreApart : Option (List ℕ) → Option (List ℕ) → Type 0
 AreApart None high = Unit {0}
 AreApart (Some low) high = IsUnder high low
 
--- a position strictly between the ends, where a missing end leaves that side open
+-- a position strictly between the ends in the order of bytes, where a missing end leaves that side open
 abbrev pub FitsBetween : Option (List ℕ) → Option (List ℕ) → List ℕ → Type 0
 FitsBetween low high p = IsPosition p × IsAfter low p × IsUnder high p

@@ -5,7 +5,7 @@ use Rattle.canvas_model.specs.declared.ObjId.{ObjId}
 use Rattle.canvas_model.specs.declared.Kind.{Kind}
 use Rattle.canvas_model.specs.declared.Kind.TheVariants.{Document, Page, Frame, Shape, Text}
 use Rattle.canvas_model.specs.declared.Reason.{Reason}
-use Rattle.canvas_model.specs.declared.Reason.TheVariants.{IsRoot, BadId, Gone, ParentGone, BadParent, Cycle, Crowded}
+use Rattle.canvas_model.specs.declared.Reason.TheVariants.{IsRoot, BadId, Gone, ParentGone, BadParent, Cycle, Crowded, TooDeep}
 use Rattle.canvas_model.specs.Ids.{IsId}
 use Rattle.canvas_model.specs.Document.{Place}
 use Rattle.canvas_model.specs.Verdict.{number_of}
@@ -35,6 +35,7 @@ reason_word ParentGone = codes "ParentGone"
 reason_word BadParent = codes "BadParent"
 reason_word Cycle = codes "Cycle"
 reason_word Crowded = codes "Crowded"
+reason_word TooDeep = codes "TooDeep"
 
 -- what was read is so written, and nothing was read only where nothing is
 abbrev pub Reads : {X E : Type 0} → (X → Type 0) → Result X E → Type 0

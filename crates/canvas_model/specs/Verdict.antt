@@ -3,10 +3,13 @@ use Rattle.std.specs.Prelude.{◌≡◌, ◌≢◌, ◌⊎◌, ℕ, ◌≤◌, �
 use Rattle.canvas_model.specs.declared.ObjId.{ObjId}
 use Rattle.canvas_model.specs.declared.Kind.{Kind}
 use Rattle.canvas_model.specs.declared.Reason.{Reason}
-use Rattle.canvas_model.specs.declared.Reason.TheVariants.{IsRoot, BadId, Gone, ParentGone, BadParent, Cycle, Crowded}
+use Rattle.canvas_model.specs.declared.Reason.TheVariants.{IsRoot, BadId, Gone, ParentGone, BadParent, Cycle, Crowded, TooDeep}
+use Rattle.canvas_model.specs.declared.Rule.{Rule}
+use Rattle.canvas_model.specs.declared.Rule.TheVariants.{One, Two}
 use Rattle.canvas_model.specs.Ids.{root}
 use Rattle.canvas_model.specs.Document.{Doc, Place, live, kind_of, place_of, may_stand}
 use Rattle.canvas_model.specs.Chain.{Below, AreBelow}
+use Rattle.canvas_model.specs.Depth.{IsTooDeepUnder, MovesTooDeep}
 use Rattle.canvas_model.specs.Sibling.{Gets, HasNoRoom}
 use Rattle.canvas_model.specs.Change.{Change, Create, Set, Move, Delete, object_of, asked}
 use Rattle.canvas_model.specs.State.{State, used}
@@ -20,7 +23,7 @@ pub data Outcome : Type 0 where
   Removed : List ObjId → Outcome
   Refused : Reason → Option Place → Outcome
 
--- the order in which the reasons are looked for
+-- the number by which a reason is known
 abbrev pub number_of : Reason → ℕ
 number_of IsRoot = 1
 number_of BadId = 2
@@ -29,6 +32,23 @@ number_of ParentGone = 4
 number_of BadParent = 5
 number_of Cycle = 6
 number_of Crowded = 7
+number_of TooDeep = 8
+
+-- the order in which the reasons are looked for, which isn't that of their numbers
+abbrev pub rank : Reason → ℕ
+rank IsRoot = 1
+rank BadId = 2
+rank Gone = 3
+rank ParentGone = 4
+rank BadParent = 5
+rank Cycle = 6
+rank TooDeep = 7
+rank Crowded = 8
+
+-- the rule limits how deep objects stand
+abbrev pub LimitsDepth : Rule → Type 0
+LimitsDepth One = ⊥
+LimitsDepth Two = Unit {0}
 
 -- the change creates, moves or deletes the root
 abbrev pub IsOfRoot : Change → Type 0
@@ -71,24 +91,32 @@ IsCircular d (Create id kind _) place = ⊥
 IsCircular d (Set id name value) place = ⊥
 IsCircular d (Delete id) place = ⊥
 
+-- the new object, or the moved one or something below it, would stand too deep
+abbrev pub IsTooDeep : Doc → Change → Place → Type 0
+IsTooDeep d (Create id kind _) place = IsTooDeepUnder d place.parent
+IsTooDeep d (Move id _) place = MovesTooDeep d id place.parent
+IsTooDeep d (Set id name value) place = ⊥
+IsTooDeep d (Delete id) place = ⊥
+
 -- there is an asked place, of which P is true
 abbrev pub AtPlace : Option Place → (Place → Type 0) → Type 0
 AtPlace None P = ⊥
 AtPlace (Some place) P = P place
 
--- the reason holds, whether or not an earlier one does
-abbrev pub Holds : State → ℕ → Change → Reason → Type 0
-Holds s author change IsRoot = IsOfRoot change
-Holds s author change BadId = IsMisnamed s author change
-Holds s author change Gone = IsMissing s.doc change
-Holds s author change ParentGone = AtPlace (asked change) (λ place. live s.doc place.parent ≡ false)
-Holds s author change BadParent = AtPlace (asked change) (λ place. MayNotStand (kind_at s.doc change) (kind_of s.doc place.parent))
-Holds s author change Cycle = AtPlace (asked change) (IsCircular s.doc change)
-Holds s author change Crowded = AtPlace (asked change) (HasNoRoom s.doc (object_of change))
+-- by this rule the reason holds, whether or not an earlier one does
+abbrev pub Holds : Rule → State → ℕ → Change → Reason → Type 0
+Holds rule s author change IsRoot = IsOfRoot change
+Holds rule s author change BadId = IsMisnamed s author change
+Holds rule s author change Gone = IsMissing s.doc change
+Holds rule s author change ParentGone = AtPlace (asked change) (λ place. live s.doc place.parent ≡ false)
+Holds rule s author change BadParent = AtPlace (asked change) (λ place. MayNotStand (kind_at s.doc change) (kind_of s.doc place.parent))
+Holds rule s author change Cycle = AtPlace (asked change) (IsCircular s.doc change)
+Holds rule s author change Crowded = AtPlace (asked change) (HasNoRoom s.doc (object_of change))
+Holds rule s author change TooDeep = LimitsDepth rule × AtPlace (asked change) (IsTooDeep s.doc change)
 
--- no reason before the n-th holds
-abbrev pub NoneBefore : State → ℕ → Change → ℕ → Type 0
-NoneBefore s author change n = (reason : Reason) → number_of reason < n → Holds s author change reason → ⊥
+-- by this rule no reason of a lower rank than n holds
+abbrev pub NoneBefore : Rule → State → ℕ → Change → ℕ → Type 0
+NoneBefore rule s author change n = (reason : Reason) → rank reason < n → Holds rule s author change reason → ⊥
 
 -- the place that a refused Move carries: where its object stands, which is nowhere for the root and for what isn't live
 abbrev pub stands : Doc → Change → Option Place
@@ -105,7 +133,11 @@ Accepted d (Move id ask) (Moved got) = Gets d id ask got
 Accepted d (Delete id) (Removed ids) = AreBelow d id ids
 Accepted d _ _ = ⊥
 
--- the outcome refuses for the first reason that holds, or grants where none does
+-- by this rule the outcome refuses for the first reason that holds, or grants where none does
+abbrev pub Judges : Rule → State → ℕ → Change → Outcome → Type 0
+Judges rule s author change (Refused reason place) = Holds rule s author change reason × NoneBefore rule s author change (rank reason) × (place ≡ stands s.doc change)
+Judges rule s author change outcome = ((reason : Reason) → Holds rule s author change reason → ⊥) × Accepted s.doc change outcome
+
+-- the outcome is what rule Two allows, by which the server judges
 abbrev pub Verdict : State → ℕ → Change → Outcome → Type 0
-Verdict s author change (Refused reason place) = Holds s author change reason × NoneBefore s author change (number_of reason) × (place ≡ stands s.doc change)
-Verdict s author change outcome = ((reason : Reason) → Holds s author change reason → ⊥) × Accepted s.doc change outcome
+Verdict = Judges Two
