@@ -7,6 +7,8 @@ pub mod Without
 pub mod Props
 pub mod Whole
 pub mod Laid
+pub mod Climbed
+pub mod Levels
 -- For the calls of this crate alone.
 mod Kept
 mod Copied

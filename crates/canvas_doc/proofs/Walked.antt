@@ -1,5 +1,6 @@
 -- The children of an object, as they are walked through the spots.
-use Rattle.std.proofs.Common.{◌≡◌, ◌≢◌, inl, inr, ℕ, suc, ◌+◌, ◌-◌, ◌<◌, ◌≤◌, false, List, [], ◌∷◌, ◌++◌, length, get_or, Some, refl, sym, ap, subst, ◌∙◌, arith}
+use Rattle.std.specs.Prelude.{◌↔◌, IsTrue}
+use Rattle.std.proofs.Common.{◌≡◌, ◌≢◌, inl, inr, ℕ, suc, ◌+◌, ◌-◌, ◌<◌, ◌≤◌, Bool, true, false, nat_eq, ◌&&◌, List, [], ◌∷◌, ◌++◌, length, get_or, Some, refl, sym, ap, subst, ◌∙◌, arith}
 use Rattle.std.specs.List.{AllWithin, Contains}
 use Rattle.std.specs.List.Sorted.{IsNonDecreasingBy}
 use Rattle.std.specs.Option.{option_map}
@@ -16,12 +17,13 @@ use Rattle.std.proofs.lemmas.Map.Keys.{Less-from_sorted, sorted_from_all_adjacen
 use Rattle.canvas_model.specs.declared.ObjId.{ObjId}
 use Rattle.canvas_model.specs.Ids.{id_cmp, root}
 use Rattle.canvas_model.specs.Document.{Doc, Place, place_of}
-use Rattle.canvas_model.specs.Children.{AreChildren, child_cmp, position_of}
+use Rattle.canvas_model.specs.Children.{AreChildren, child_cmp, parent_of, position_of}
 use Rattle.canvas_doc.specs.declared.spots.Spot.{Spot}
 use Rattle.canvas_doc.specs.Spots.{AreSpots, IsStart, new_spot, parent_at, spot_cmp}
 use Rattle.canvas_doc.proofs.Maps.{exact_ids, ids_total}
 use Rattle.canvas_doc.proofs.Edges.{highest, is_more}
 use Rattle.canvas_doc.proofs.Spotted.{lower_before, higher_after, placed, standing}
+use Rattle.canvas_doc.proofs.Told.{differing, told_one}
 
 not_falling : (a b : ObjId) (c : Ordering) → ordering_then (id_cmp a b) c ≡ Less → is_lt (id_cmp b a) ≡ false
 not_falling a b c e =
@@ -144,3 +146,32 @@ module _ (d : Doc) (spots : List Spot) (are : AreSpots (place_of d) spots) (id :
           (k, lk, listed.each k q s lk ∙ ap (λ j. (get_or spots j s).id) at ∙ ap (λ (x : Spot). x.id) there.2)),
     );
   }
+
+-- no spot is under the parent where the first that isn't under a lesser one is under another
+pub none_under : (d : Doc) (spots : List Spot) → AreSpots (place_of d) spots → (id : ObjId) (first : ℕ) → IsStart id spots first → ((s : Spot) → first < length spots → (get_or spots first s).parent ≢ id)
+    → (q : ObjId) → parent_of d q ≡ Some id → ⊥
+none_under d spots are id first start other q child =
+    let listed : AreIds spots first first [] = record { long = omega arith; each = λ k r s lt. absurd (omega arith) } in
+    let children = children_are d spots are id first first start (omega arith) start.within (λ k e low lt. absurd (omega arith)) other [] listed in
+    let inside = ((children.each q).1) child in
+    omega (arith, inside.1)
+
+-- one is, where that is under it
+pub one_under : (d : Doc) (spots : List Spot) → AreSpots (place_of d) spots → (first : ℕ) (x : Spot) → first < length spots → ((s : Spot) → get_or spots first s ≡ x) → (q : ObjId) × (parent_of d q ≡ Some x.parent)
+one_under d spots are first x lt at =
+    let there = placed (place_of d) spots are x (first, lt, at x) in
+    (x.id, ap (option_map (λ (y : Place). y.parent)) there.1 ∙ ap Some there.2)
+
+-- whether one is, told from the first that isn't under a lesser one
+pub any_is : (d : Doc) (spots : List Spot) → AreSpots (place_of d) spots → (id : ObjId) (first : ℕ) → IsStart id spots first → (x : Spot) → first < length spots → ((s : Spot) → get_or spots first s ≡ x)
+    → (told : Bool) → told ≡ (nat_eq x.parent.client id.client && nat_eq x.parent.counter id.counter) → IsTrue told ↔ ((q : ObjId) × (parent_of d q ≡ Some id))
+any_is d spots are id first start x lt at told is = by told refl
+  where
+    by : (b : Bool) → told ≡ b → IsTrue told ↔ ((q : ObjId) × (parent_of d q ≡ Some id))
+    by true told_so =
+        let same : x.parent ≡ id = told_one x.parent id told is told_so in
+        let one = one_under d spots are first x lt at in
+        ((λ t. (one.0, one.1 ∙ ap Some same)), (λ child. told_so))
+    by false not_so =
+        let other = none_under d spots are id first start (λ s less same. differing x.parent id told is not_so (ap (λ (y : Spot). y.parent) (sym (at s)) ∙ same)) in
+        ((λ t. absurd (let f : false ≡ true = sym not_so ∙ t in cc f)), (λ child. absurd (other child.0 child.1)))

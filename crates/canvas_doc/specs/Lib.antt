@@ -3,3 +3,4 @@ pub mod Spots
 pub mod Seen
 pub mod Whole
 pub mod Known
+pub mod Levels

@@ -20,6 +20,7 @@ use std::alloc::{AllocError, Allocator, Global};
 use std::marker::Model;
 
 mod change;
+mod depths;
 mod object;
 mod objects;
 mod overlay;

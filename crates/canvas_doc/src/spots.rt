@@ -5,7 +5,7 @@ ghost use Rattle.std.specs.List.{Contains, insert};
 ghost use Rattle.std.specs.Option.{option_copied};
 ghost use Rattle.std.specs.FinMap as map;
 ghost use Rattle.canvas_model.specs.Ids.{id_cmp};
-ghost use Rattle.canvas_model.specs.Children.{AreChildren};
+ghost use Rattle.canvas_model.specs.Children.{AreChildren, parent_of};
 ghost use Rattle.canvas_model.specs.Document.{place_of};
 ghost use Rattle.canvas_model.specs.Order.{IsAfter};
 ghost use Rattle.canvas_model.specs.Sibling.{IsNext};
@@ -329,6 +329,17 @@ pub fn ids_under<A: Allocator, B: Allocator>(
         ids.push(spot.id)?;
     }
     Ok(ids)
+}
+
+/// Whether a spot stands under this parent.
+pub fn is_any_under<A: Allocator>(spots: &Spots<A>, parent: ObjId) -> bool
+    ensures { (d : _) → AreSpots (place_of d) spots.now → IsTrue result ↔ (q : ObjId) × (parent_of d q ≡ Some parent) }
+{
+    let mut rest = from_start(spots, parent);
+    match rest.next() {
+        Some(spot) => spot.parent == parent,
+        None => false,
+    }
 }
 
 /// The same spots under another allocator. Fails only where memory is refused.
