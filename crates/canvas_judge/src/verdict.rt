@@ -1,17 +1,19 @@
 // What is answered a change.
-ghost use Rattle.std.specs.Prelude.{◌≡◌, ℕ, IfOk, IfSome, IfNone, IsTrue, Option};
+ghost use Rattle.std.specs.Prelude.{◌≡◌, ◌↔◌, ℕ, IfOk, IfSome, IfNone, IsTrue, Option};
 ghost use Rattle.canvas_model.specs.Change.{Create, Delete, Move, Set};
 ghost use Rattle.canvas_model.specs.Document.{Name, place_of};
 ghost use Rattle.canvas_model.specs.State as state;
-ghost use Rattle.canvas_model.specs.Verdict.{Holds, NoneBefore, Refused, Verdict, number_of};
+ghost use Rattle.canvas_model.specs.Depth.{IsTooDeepUnder, MovesTooDeep};
+ghost use Rattle.canvas_model.specs.Verdict.{Holds, Judges, LimitsDepth, NoneBefore, Refused, Verdict, rank};
 ghost use Rattle.canvas_model.specs.Value.{Value};
 ghost use Rattle.canvas_judge.specs.Choice.{ChoosesMiddle, PositionFor};
 ghost use Rattle.canvas_judge.specs.Seen.{seen_outcome};
 
+use crate::bounds::is_surely_within;
 use crate::chains::{below, is_above};
 use crate::{Outcome, State};
 use canvas_doc::{Change, ChangeVariant, Doc, Kind, ObjId, Place};
-use canvas_model::Reason;
+use canvas_model::{Reason, Rule};
 use canvas_pos::{Pos, between};
 use std::alloc::{AllocError, Allocator};
 
@@ -31,12 +33,26 @@ impl<A: Allocator + Copy> State<A> {
         ensures verdict { IfOk result (λ outcome. Verdict self.now author change.now (seen_outcome outcome)) }
         ensures middle { IfOk result (λ outcome. ChoosesMiddle self.now.doc change.now (seen_outcome outcome)) }
     {
+        self.judge_under(alloc, Rule::Two, author, change)
+    }
+
+    // The same by this rule.
+    pub(crate) fn judge_under<B: Allocator + Copy, C: Allocator>(
+        &self,
+        alloc: B,
+        rule: Rule,
+        author: u32,
+        change: &Change<C>,
+    ) -> Result<Outcome<B>, AllocError>
+        ensures verdict { IfOk result (λ outcome. Judges rule self.now author change.now (seen_outcome outcome)) }
+        ensures middle { IfOk result (λ outcome. ChoosesMiddle self.now.doc change.now (seen_outcome outcome)) }
+    {
         match change.variant() {
             ChangeVariant::Create { id, kind, place } => {
-                self.judge_create(alloc, author, *id, *kind, place)
+                self.judge_create(alloc, rule, author, *id, *kind, place)
             }
             ChangeVariant::Set { id, .. } => Ok(self.judge_set(*id)),
-            ChangeVariant::Move { id, place } => self.judge_move(alloc, *id, place),
+            ChangeVariant::Move { id, place } => self.judge_move(alloc, rule, *id, place),
             ChangeVariant::Delete { id } => self.judge_delete(alloc, *id),
         }
     }
@@ -45,15 +61,16 @@ impl<A: Allocator + Copy> State<A> {
     fn judge_create<B: Allocator + Copy, C: Allocator>(
         &self,
         alloc: B,
+        rule: Rule,
         author: u32,
         id: ObjId,
         kind: Kind,
         place: &Place<C>,
     ) -> Result<Outcome<B>, AllocError>
-        ensures verdict { IfOk result (λ outcome. Verdict self.now author (Create id kind place.now) (seen_outcome outcome)) }
+        ensures verdict { IfOk result (λ outcome. Judges rule self.now author (Create id kind place.now) (seen_outcome outcome)) }
         ensures middle { IfOk result (λ outcome. ChoosesMiddle self.now.doc (Create id kind place.now) (seen_outcome outcome)) }
     {
-        if let Some(reason) = self.reason_against_create(author, id, kind, place) {
+        if let Some(reason) = self.reason_against_create(rule, author, id, kind, place) {
             return Ok(Outcome::Refused {
                 reason,
                 stands: None,
@@ -73,7 +90,7 @@ impl<A: Allocator + Copy> State<A> {
 
     // The verdict on a change of a property, whoever asks.
     fn judge_set<B: Allocator>(&self, id: ObjId) -> Outcome<B>
-        ensures { (author : ℕ) (name : Name) (value : Option Value) → Verdict self.now author (Set id name value) (seen_outcome result) }
+        ensures { (rule : Rule) (author : ℕ) (name : Name) (value : Option Value) → Judges rule self.now author (Set id name value) (seen_outcome result) }
     {
         if self.doc.has(id) {
             Outcome::WasSet
@@ -89,13 +106,14 @@ impl<A: Allocator + Copy> State<A> {
     fn judge_move<B: Allocator + Copy, C: Allocator>(
         &self,
         alloc: B,
+        rule: Rule,
         id: ObjId,
         place: &Place<C>,
     ) -> Result<Outcome<B>, AllocError>
-        ensures verdict { IfOk result (λ outcome. (author : ℕ) → Verdict self.now author (Move id place.now) (seen_outcome outcome)) }
+        ensures verdict { IfOk result (λ outcome. (author : ℕ) → Judges rule self.now author (Move id place.now) (seen_outcome outcome)) }
         ensures middle { IfOk result (λ outcome. ChoosesMiddle self.now.doc (Move id place.now) (seen_outcome outcome)) }
     {
-        if let Some(reason) = self.reason_against_move(id, place) {
+        if let Some(reason) = self.reason_against_move(alloc, rule, id, place)? {
             return self.refuse_move(alloc, id, reason);
         }
         match position_for(alloc, &self.doc, id, place)? {
@@ -129,7 +147,7 @@ impl<A: Allocator + Copy> State<A> {
         alloc: B,
         id: ObjId,
     ) -> Result<Outcome<B>, AllocError>
-        ensures { IfOk result (λ outcome. (author : ℕ) → Verdict self.now author (Delete id) (seen_outcome outcome)) }
+        ensures { IfOk result (λ outcome. (rule : Rule) (author : ℕ) → Judges rule self.now author (Delete id) (seen_outcome outcome)) }
     {
         if id == ObjId::ROOT {
             return Ok(Outcome::Refused {
@@ -152,13 +170,14 @@ impl<A: Allocator> State<A> {
     // The first reason against a creation, apart from want of room.
     fn reason_against_create<C: Allocator>(
         &self,
+        rule: Rule,
         author: u32,
         id: ObjId,
         kind: Kind,
         place: &Place<C>,
     ) -> Option<Reason>
-        ensures some { IfSome result (λ reason. Holds self.now author (Create id kind place.now) reason × NoneBefore self.now author (Create id kind place.now) (number_of reason)) }
-        ensures none { IfNone result (NoneBefore self.now author (Create id kind place.now) 7) }
+        ensures some { IfSome result (λ reason. Holds rule self.now author (Create id kind place.now) reason × NoneBefore rule self.now author (Create id kind place.now) (rank reason)) }
+        ensures none { IfNone result (NoneBefore rule self.now author (Create id kind place.now) 8) }
     {
         if id == ObjId::ROOT {
             return Some(Reason::IsRoot);
@@ -169,17 +188,51 @@ impl<A: Allocator> State<A> {
         let Some(parent) = self.doc.kind_of(place.parent) else {
             return Some(Reason::ParentGone);
         };
-        if kind.may_stand_under(parent) {
-            None
-        } else {
-            Some(Reason::BadParent)
+        if !kind.may_stand_under(parent) {
+            return Some(Reason::BadParent);
+        }
+        if self.creates_too_deep(rule, place.parent) {
+            return Some(Reason::TooDeep);
+        }
+        None
+    }
+
+    // Whether the rule forbids a new object under this parent for its depth.
+    fn creates_too_deep(&self, rule: Rule, parent: ObjId) -> bool
+        ensures { IsTrue result ↔ LimitsDepth rule × IsTooDeepUnder self.now.doc parent }
+    {
+        match rule {
+            Rule::One => false,
+            Rule::Two => self.doc.is_too_deep_under(parent),
         }
     }
 
-    // The first reason against a move, apart from want of room.
-    fn reason_against_move<C: Allocator>(&self, id: ObjId, place: &Place<C>) -> Option<Reason>
-        ensures some { IfSome result (λ reason. (author : ℕ) → Holds self.now author (Move id place.now) reason × NoneBefore self.now author (Move id place.now) (number_of reason)) }
-        ensures none { IfNone result ((author : ℕ) → NoneBefore self.now author (Move id place.now) 7) }
+    // Whether the rule forbids that the object goes under this parent, for the depth of what would stand there. Fails only where
+    // memory is refused.
+    fn moves_too_deep<B: Allocator + Copy>(
+        &self,
+        alloc: B,
+        rule: Rule,
+        id: ObjId,
+        parent: ObjId,
+    ) -> Result<bool, AllocError>
+        ensures { IfOk result (λ deep. IsTrue deep ↔ LimitsDepth rule × MovesTooDeep self.now.doc id parent) }
+    {
+        match rule {
+            Rule::One => Ok(false),
+            Rule::Two => {
+                if is_surely_within(&self.doc, self.bound, id, parent) {
+                    return Ok(false);
+                }
+                self.doc.moves_too_deep(alloc, id, parent)
+            }
+        }
+    }
+
+    // The first reason against a move, apart from want of room and from depth.
+    fn reason_to_stay<C: Allocator>(&self, id: ObjId, place: &Place<C>) -> Option<Reason>
+        ensures some { IfSome result (λ reason. (rule : Rule) (author : ℕ) → Holds rule self.now author (Move id place.now) reason × NoneBefore rule self.now author (Move id place.now) (rank reason)) }
+        ensures none { IfNone result ((rule : Rule) (author : ℕ) → NoneBefore rule self.now author (Move id place.now) 7) }
     {
         if id == ObjId::ROOT {
             return Some(Reason::IsRoot);
@@ -197,6 +250,27 @@ impl<A: Allocator> State<A> {
             return Some(Reason::Cycle);
         }
         None
+    }
+
+    // The first reason against a move, apart from want of room. Fails only where memory is refused.
+    #[tactic(auto, using(crate::proofs::Against::none_deeper))]
+    fn reason_against_move<B: Allocator + Copy, C: Allocator>(
+        &self,
+        alloc: B,
+        rule: Rule,
+        id: ObjId,
+        place: &Place<C>,
+    ) -> Result<Option<Reason>, AllocError>
+        ensures some { IfOk result (λ found. IfSome found (λ reason. (author : ℕ) → Holds rule self.now author (Move id place.now) reason × NoneBefore rule self.now author (Move id place.now) (rank reason))) }
+        ensures none { IfOk result (λ found. IfNone found ((author : ℕ) → NoneBefore rule self.now author (Move id place.now) 8)) }
+    {
+        if let Some(reason) = self.reason_to_stay(id, place) {
+            return Ok(Some(reason));
+        }
+        if self.moves_too_deep(alloc, rule, id, place.parent)? {
+            return Ok(Some(Reason::TooDeep));
+        }
+        Ok(None)
     }
 }
 

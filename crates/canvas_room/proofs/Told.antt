@@ -2,6 +2,7 @@
 use Rattle.std.proofs.Common.{◌≡◌, ℕ, ◌+◌, ◌<◌, ◌≤◌, List, [], ◌∷◌, Bool, true, false, cond, not, Result, Ok, Err, IfOk, IfErr, inl, inr, refl, sym, subst, ◌∙◌, arith}
 use Rattle.std.specs.Prelude.{◌⊎◌, nat_le, nat_lt}
 use mathlib.Core.List.{IsPrefix}
+use Rattle.canvas_model.specs.declared.Rule.TheVariants.{Two}
 use Rattle.canvas_model.specs.Log.{Edit, Entry, FitsAs, Join, What}
 use Rattle.canvas_model.specs.State.{State, joined, done, next}
 use Rattle.canvas_model.proofs.Tests.{le_true, lt_true}
@@ -22,7 +23,7 @@ use Rattle.canvas_room.specs.Seats.{Answers, IsAnswerTo, IsEdit, IsOutcomeOf, Is
 
 -- ---- the entry
 
-outcome_as : (s : State) (e : Entry) (w : What) → FitsAs s e w → IsOutcomeOf w e.outcome
+outcome_as : (s : State) (e : Entry) (w : What) → FitsAs Two s e w → IsOutcomeOf w e.outcome
 outcome_as s e Join f = (next s, f.2)
 outcome_as s e (Edit change) f = tt
 
@@ -32,7 +33,7 @@ answers_of s q e n = record {
   author_is = n.0;
   seq_is = n.1;
   what_is = n.2;
-  outcome_is = outcome_as s e q.what (subst (λ (w : What). FitsAs s e w) n.2 n.3);
+  outcome_is = outcome_as s e q.what (subst (λ (w : What). FitsAs Two s e w) n.2 n.3);
 }
 
 told_of : (o : Opening) (seen shown old new due' : List Mark) (failed failed' : Bool) (q : Asked) (result : Result ReceiptValue SubmitError) → IsPrefix seen shown → IfOk result (λ _. IsPrefix shown old)
