@@ -8,7 +8,7 @@ use Rattle.canvas_model.specs.Document.{Pos}
 use Rattle.canvas_model.specs.Change.{Change}
 use Rattle.canvas_model.specs.Change as change
 use Rattle.canvas_model.specs.Client.{Client, last_number}
-use Rattle.canvas_model.specs.Local.{EditRequest, Create, Move, EditError, NotOpen, IsRoot, NotShown, ParentNotShown, BadParent, OwnDescendant, Crowded, IdsSpent, Full}
+use Rattle.canvas_model.specs.Local.{EditRequest, Create, Move, EditError, NotOpen, IsRoot, NotShown, ParentNotShown, BadParent, OwnDescendant, TooDeep, Crowded, IdsSpent, Full}
 use Rattle.canvas_model.specs.Local.{Target, rank, Blocks, Refuses, Becomes, Makes, Lands}
 use Rattle.canvas_client.specs.Asked.{NoneBefore, IsRefusal, IsCrowded}
 use Rattle.canvas_client.proofs.Landing.{lands_once}
@@ -21,9 +21,10 @@ of_rank (suc (suc zero)) = NotShown
 of_rank (suc (suc (suc zero))) = ParentNotShown
 of_rank (suc (suc (suc (suc zero)))) = BadParent
 of_rank (suc (suc (suc (suc (suc zero))))) = OwnDescendant
-of_rank (suc (suc (suc (suc (suc (suc zero)))))) = Crowded
-of_rank (suc (suc (suc (suc (suc (suc (suc zero))))))) = IdsSpent
-of_rank (suc (suc (suc (suc (suc (suc (suc (suc n)))))))) = Full
+of_rank (suc (suc (suc (suc (suc (suc zero)))))) = TooDeep
+of_rank (suc (suc (suc (suc (suc (suc (suc zero))))))) = Crowded
+of_rank (suc (suc (suc (suc (suc (suc (suc (suc zero)))))))) = IdsSpent
+of_rank (suc (suc (suc (suc (suc (suc (suc (suc (suc n))))))))) = Full
 
 rank_back : (e : EditError) → of_rank (rank e) ≡ e
 rank_back NotOpen = refl
@@ -32,18 +33,20 @@ rank_back NotShown = refl
 rank_back ParentNotShown = refl
 rank_back BadParent = refl
 rank_back OwnDescendant = refl
+rank_back TooDeep = refl
 rank_back Crowded = refl
 rank_back IdsSpent = refl
 rank_back Full = refl
 
--- there are no more than nine
-rank_few : (e : EditError) → rank e < 9
+-- there are no more than ten
+rank_few : (e : EditError) → rank e < 10
 rank_few NotOpen = omega arith
 rank_few IsRoot = omega arith
 rank_few NotShown = omega arith
 rank_few ParentNotShown = omega arith
 rank_few BadParent = omega arith
 rank_few OwnDescendant = omega arith
+rank_few TooDeep = omega arith
 rank_few Crowded = omega arith
 rank_few IdsSpent = omega arith
 rank_few Full = omega arith
@@ -59,17 +62,17 @@ module _ (client : Client) where
         go (inr less) = before earlier less blocks
 
     -- none holds at all
-    pub makes : (c : ℕ) (made : Change) → client.id ≡ Some c → NoneBefore client r 8 → (last_number client ≡ 2 ^ 62 → ⊥) → Becomes client c r made → Makes client r made
+    pub makes : (c : ℕ) (made : Change) → client.id ≡ Some c → NoneBefore client r 9 → (last_number client ≡ 2 ^ 62 → ⊥) → Becomes client c r made → Makes client r made
     makes c made id before not_full becomes = (λ e blocks. none_more Full before not_full e (rank_few e) blocks, c, id, becomes)
 
     -- want of room, where nothing else stands against the request
-    pub crowded : (except : ObjId) (target : Target) (e : Option EditError) → (Lands client.view except target None → Blocks client r Crowded) → NoneBefore client r 6 → IsCrowded client.view except target e → IsRefusal client r e
+    pub crowded : (except : ObjId) (target : Target) (e : Option EditError) → (Lands client.view except target None → Blocks client r Crowded) → NoneBefore client r 7 → IsCrowded client.view except target e → IsRefusal client r e
     crowded except target None blocks before is = tt
     crowded except target (Some e) blocks before is = subst (Refuses client r) (sym is.0) (blocks is.1, before)
 
     -- a request that creates nothing, and lacks no room
-    module _ (before : NoneBefore client r 6) (room : Blocks client r Crowded → ⊥) (ids : Blocks client r IdsSpent → ⊥) where
-      before_last : NoneBefore client r 8
+    module _ (before : NoneBefore client r 7) (room : Blocks client r Crowded → ⊥) (ids : Blocks client r IdsSpent → ⊥) where
+      before_last : NoneBefore client r 9
       before_last = none_more IdsSpent (none_more Crowded before room) ids
 
       pub plain_full : last_number client ≡ 2 ^ 62 → Refuses client r Full
@@ -82,15 +85,15 @@ module _ (client : Client) where
           go None is = absurd (before NotOpen (omega arith) is)
           go (Some c) is = makes c made is before_last not_full (becomes c)
 
-  module _ (kind : Kind) (target : Target) (pos : Pos) (before : NoneBefore client (Create kind target) 6) (lands : Lands client.view root target (Some pos)) where
-    before_ids : NoneBefore client (Create kind target) 7
+  module _ (kind : Kind) (target : Target) (pos : Pos) (before : NoneBefore client (Create kind target) 7) (lands : Lands client.view root target (Some pos)) where
+    before_ids : NoneBefore client (Create kind target) 8
     before_ids = none_more (Create kind target) Crowded before (lands_once client.view root target pos lands)
 
     pub create_spent : client.counter ≡ 4294967295 → Refuses client (Create kind target) IdsSpent
     create_spent spent = ((tt, spent), before_ids)
 
     module _ (left : client.counter ≢ 4294967295) where
-      before_full : NoneBefore client (Create kind target) 8
+      before_full : NoneBefore client (Create kind target) 9
       before_full = none_more (Create kind target) IdsSpent before_ids (λ b. left b.1)
 
       pub create_full : last_number client ≡ 2 ^ 62 → Refuses client (Create kind target) Full
@@ -100,7 +103,7 @@ module _ (client : Client) where
           → made ≡ change.Create (record { client = c; counter = client.counter + 1 }) kind (record { parent = target.parent; pos = pos }) → Makes client (Create kind target) made
       create_makes c made id not_full is = makes (Create kind target) c made id before_full not_full (pos, lands, is)
 
-  module _ (id : ObjId) (target : Target) (pos : Pos) (before : NoneBefore client (Move id target) 6) (lands : Lands client.view id target (Some pos)) where
+  module _ (id : ObjId) (target : Target) (pos : Pos) (before : NoneBefore client (Move id target) 7) (lands : Lands client.view id target (Some pos)) where
     pub move_full : last_number client ≡ 2 ^ 62 → Refuses client (Move id target) Full
     move_full full = plain_full (Move id target) before (lands_once client.view id target pos lands) (λ b. b.0) full
 

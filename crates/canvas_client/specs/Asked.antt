@@ -42,6 +42,7 @@ refusal error.NotShown = Some local.NotShown
 refusal error.ParentNotShown = Some local.ParentNotShown
 refusal error.BadParent = Some local.BadParent
 refusal error.OwnDescendant = Some local.OwnDescendant
+refusal error.TooDeep = Some local.TooDeep
 refusal error.Crowded = Some local.Crowded
 refusal error.IdsSpent = Some local.IdsSpent
 refusal error.Full = Some local.Full

@@ -3,7 +3,7 @@ ghost use Rattle.std.specs.Prelude.{◌≡◌, ◌↔◌, IsTrue, IfOk, IfErr, I
 ghost use Rattle.std.specs.Option.{option_copied};
 ghost use Rattle.canvas_model.specs.Chain.{InTree};
 ghost use Rattle.canvas_model.specs.Document as document;
-ghost use Rattle.canvas_model.specs.Local.{ComesAfterNone, GoesBelowItself, Has, IsHidden, IsPosAfter};
+ghost use Rattle.canvas_model.specs.Local.{ComesAfterNone, GoesBelowItself, GoesTooDeep, Has, IsHidden, IsPosAfter};
 ghost use Rattle.canvas_model.specs.Local.{Lands, MovesRoot, kind_asked, target_asked};
 ghost use Rattle.canvas_model.specs.Sibling.{IsSibling};
 ghost use Rattle.canvas_model.specs.Verdict.{MayNotStand};
@@ -14,7 +14,7 @@ use crate::{EditError, EditRequest, EditRequestVariant};
 use canvas_doc::{Doc, Kind, ObjId};
 use canvas_judge::is_above;
 use canvas_pos::{Pos, between};
-use std::alloc::Allocator;
+use std::alloc::{AllocError, Allocator};
 
 // Whether the request moves or deletes the root.
 pub(crate) fn moves_root<C: Allocator>(request: &EditRequest<C>) -> bool
@@ -111,6 +111,22 @@ pub(crate) fn goes_below_itself<A: Allocator, C: Allocator>(
     match request.variant() {
         EditRequestVariant::Move { id, parent, .. } => is_above(view, *id, *parent),
         _ => false,
+    }
+}
+
+// Whether the new object, or the moved one or something below it, would stand too deep in the view. A move alone takes memory for
+// it. Fails only where memory is refused.
+pub(crate) fn goes_too_deep<A: Allocator, B: Allocator + Copy, C: Allocator>(
+    alloc: B,
+    view: &Doc<A>,
+    request: &EditRequest<C>,
+) -> Result<bool, AllocError>
+    ensures { IfOk result (λ deep. IsTrue deep ↔ GoesTooDeep view.now request.now) }
+{
+    match request.variant() {
+        EditRequestVariant::Create { parent, .. } => Ok(view.is_too_deep_under(*parent)),
+        EditRequestVariant::Move { id, parent, .. } => view.moves_too_deep(alloc, *id, *parent),
+        _ => Ok(false),
     }
 }
 

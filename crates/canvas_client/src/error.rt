@@ -27,6 +27,10 @@ pub enum EditError {
     /// The new parent is the object or lies below it.
     #[error("the parent is the object or lies below it")]
     OwnDescendant = 5,
+    /// The new object, or the moved one or one below it, would stand deeper than 100, where the root is at 0. A move under the
+    /// parent that the object has is never refused so.
+    #[error("the object would stand too deep there")]
+    TooDeep = 11,
     /// No position is left at the target.
     #[error("there is no room there")]
     Crowded = 6,

@@ -9,8 +9,8 @@ ghost use Rattle.canvas_client.specs.Asked.{HasCreated, HasMade, IsRefusal, None
 ghost use Rattle.canvas_client.specs.Asked.{refusal, seen_target};
 
 use crate::drafting::{
-    comes_after_none, goes_below_itself, has_bad_parent, has_hidden_parent, is_hidden, moves_root,
-    position_at,
+    comes_after_none, goes_below_itself, goes_too_deep, has_bad_parent, has_hidden_parent,
+    is_hidden, moves_root, position_at,
 };
 use crate::request::Target;
 use crate::{Client, EditError, EditRequest, EditRequestVariant};
@@ -21,7 +21,8 @@ use std::alloc::{AllocError, Allocator};
 impl<A: Allocator> Client<A> {
     /// The change that the request makes at this client, or the first refusal that holds, in the order of `EditError`; but memory can
     /// be refused before. It changes nothing: `commit` makes the edit. A new object gets the client's id and its next counter, and a
-    /// place half way between the child to come after and the next one.
+    /// place half way between the child to come after and the next one. A move under another parent takes memory to look at what
+    /// lies below the object.
     pub fn draft<B: Allocator + Copy, C: Allocator>(
         &self,
         alloc: B,
@@ -36,10 +37,13 @@ impl<A: Allocator> Client<A> {
         if let Some(error) = self.refusal_shown(request) {
             return Err(error);
         }
+        if goes_too_deep(alloc, self.view(), request)? {
+            return Err(EditError::TooDeep);
+        }
         self.draft_variant(alloc, client, request)
     }
 
-    // The first refusal that the view gives, apart from want of room.
+    // The first refusal that the view gives, apart from depth and want of room.
     fn refusal_shown<C: Allocator>(&self, request: &EditRequest<C>) -> Option<EditError>
         requires { self.now.id ≡ None → ⊥ }
         ensures some { IfSome result (λ error. Has (refusal error) (Refuses self.now request.now)) }
@@ -74,7 +78,7 @@ impl<A: Allocator> Client<A> {
         request: &EditRequest<C>,
     ) -> Result<Change<B>, EditError>
         requires id { self.now.id ≡ Some client }
-        requires none { NoneBefore self.now request.now 6 }
+        requires none { NoneBefore self.now request.now 7 }
         ensures ok { IfOk result (Makes self.now request.now) }
         ensures err { IfErr result (λ error. IsRefusal self.now request.now (refusal error)) }
     {
@@ -112,7 +116,7 @@ impl<A: Allocator> Client<A> {
         target: Target,
     ) -> Result<Change<B>, EditError>
         requires id { self.now.id ≡ Some client }
-        requires none { NoneBefore self.now (Create kind (seen_target target)) 6 }
+        requires none { NoneBefore self.now (Create kind (seen_target target)) 7 }
         ensures ok { IfOk result (Makes self.now (Create kind (seen_target target))) }
         ensures err { IfErr result (λ error. IsRefusal self.now (Create kind (seen_target target)) (refusal error)) }
     {
@@ -139,7 +143,7 @@ impl<A: Allocator> Client<A> {
         value: &Value<C>,
     ) -> Result<Change<B>, EditError>
         requires shallow { IsShallow value.now }
-        requires none { NoneBefore self.now (Set id name.now value.now) 6 }
+        requires none { NoneBefore self.now (Set id name.now value.now) 7 }
         ensures ok { IfOk result (Makes self.now (Set id name.now value.now)) }
         ensures err { IfErr result (λ error. IsRefusal self.now (Set id name.now value.now) (refusal error)) }
     {
@@ -161,7 +165,7 @@ impl<A: Allocator> Client<A> {
         id: ObjId,
         name: &Name<C>,
     ) -> Result<Change<B>, EditError>
-        requires { NoneBefore self.now (Clear id name.now) 6 }
+        requires { NoneBefore self.now (Clear id name.now) 7 }
         ensures ok { IfOk result (Makes self.now (Clear id name.now)) }
         ensures err { IfErr result (λ error. IsRefusal self.now (Clear id name.now) (refusal error)) }
     {
@@ -182,7 +186,7 @@ impl<A: Allocator> Client<A> {
         id: ObjId,
         target: Target,
     ) -> Result<Change<B>, EditError>
-        requires { NoneBefore self.now (Move id (seen_target target)) 6 }
+        requires { NoneBefore self.now (Move id (seen_target target)) 7 }
         ensures ok { IfOk result (Makes self.now (Move id (seen_target target))) }
         ensures err { IfErr result (λ error. IsRefusal self.now (Move id (seen_target target)) (refusal error)) }
     {
@@ -199,7 +203,7 @@ impl<A: Allocator> Client<A> {
 
     // The deletion of an object.
     fn draft_delete<B: Allocator>(&self, id: ObjId) -> Result<Change<B>, EditError>
-        requires { NoneBefore self.now (Delete id) 6 }
+        requires { NoneBefore self.now (Delete id) 7 }
         ensures ok { IfOk result (Makes self.now (Delete id)) }
         ensures err { IfErr result (λ error. IsRefusal self.now (Delete id) (refusal error)) }
     {

@@ -1,7 +1,7 @@
 -- The lines that answer events.
 use Rattle.std.specs.Prelude.{ℕ, List, [], ◌∷◌, ◌++◌, codes}
 use Rattle.std.specs.Fmt.{decimal}
-use Rattle.canvas_model.specs.Local.{EditError, NotOpen, IsRoot, NotShown, ParentNotShown, BadParent, OwnDescendant, Crowded, IdsSpent, Full}
+use Rattle.canvas_model.specs.Local.{EditError, NotOpen, IsRoot, NotShown, ParentNotShown, BadParent, OwnDescendant, TooDeep, Crowded, IdsSpent, Full}
 use Rattle.canvas_model.specs.Receive.{Received, Took, Old, Ahead, NotForMe}
 use Rattle.canvas_model.specs.World.{Answer, Nothing, NodeIs, MessageIs, EditIs, RefusedEdit, Judged, Repeat, Gap, Stranger, FullServer, SyncedIs, PublishedIs, Delivered, FloorIs, VersionIs}
 
@@ -13,6 +13,7 @@ error_word NotShown = codes "NotShown"
 error_word ParentNotShown = codes "ParentNotShown"
 error_word BadParent = codes "BadParent"
 error_word OwnDescendant = codes "OwnDescendant"
+error_word TooDeep = codes "TooDeep"
 error_word Crowded = codes "Crowded"
 error_word IdsSpent = codes "IdsSpent"
 error_word Full = codes "Full"

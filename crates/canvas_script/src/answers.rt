@@ -63,6 +63,7 @@ fn error_word(error: EditError) -> Option<&'static str>
         EditError::ParentNotShown => Some("ParentNotShown"),
         EditError::BadParent => Some("BadParent"),
         EditError::OwnDescendant => Some("OwnDescendant"),
+        EditError::TooDeep => Some("TooDeep"),
         EditError::Crowded => Some("Crowded"),
         EditError::IdsSpent => Some("IdsSpent"),
         EditError::Full => Some("Full"),
