@@ -1,6 +1,6 @@
 -- Documents as rows: their texts are of their kinds, and how deep their JSON trees nest.
 use Rattle.std.specs.Prelude.{map as list_map}
-use Rattle.std.proofs.Common.{◌≡◌, ◌++◌, ℕ, ◌≤◌, nat_le, max, List, [], ◌∷◌, get_or, All, T, Bool, true, false, Option, Some, None, refl, ap, sym, subst, ◌∙◌, arith}
+use Rattle.std.proofs.Common.{◌≡◌, ◌++◌, ℕ, ◌≤◌, nat_le, max, List, [], ◌∷◌, get_or, All, true, false, Option, Some, None, refl, ap, sym, subst, ◌∙◌, arith}
 use Rattle.std.specs.List.{list_all}
 use Rattle.std.specs.Cmp.{IsTotalOrder}
 use Rattle.std.specs.FinMap as map
@@ -65,7 +65,7 @@ props_sound : (es : List (Name × Value)) → All IsProp es → each_test prop_f
 props_sound [] h = refl
 props_sound (e ∷ es) h = rw (is_name-from e.0 (All-head IsProp e es h).name, props_sound es (All-tail IsProp e es h)) refl
 
-row_sound : (e : ObjId × Object) → IsObject e.1 → row_form.sound e ≡ true
+pub row_sound : (e : ObjId × Object) → IsObject e.1 → row_form.sound e ≡ true
 row_sound e h =
     let props = props_sound (map.entries e.1.props) (each_entry names_total e.1.props IsProp (λ name value found. h.props name value found)) in
     rw (kind_sound e.1.kind, place_sound e.1.place h.place, props, t_true _ (map.entries_sorted e.1.props)) refl
@@ -105,9 +105,12 @@ place_no_float : (place : Option Place) → has_float (maybe_written place_form.
 place_no_float None = refl
 place_no_float (Some place) = refl
 
+pub row_no_float : (e : ObjId × Object) → has_float (row_form.write e) ≡ false
+row_no_float e = rw (place_no_float e.1.place, props_no_float (map.entries e.1.props)) refl
+
 each_no_float : (es : List (ObjId × Object)) → items_have_float (each_written row_form.write es) ≡ false
 each_no_float [] = refl
-each_no_float (e ∷ es) = rw (place_no_float e.1.place, props_no_float (map.entries e.1.props), each_no_float es) refl
+each_no_float (e ∷ es) = rw (row_no_float e, each_no_float es) refl
 
 pub rows_no_float : (es : List (ObjId × Object)) → has_float (rows_form.write es) ≡ false
 rows_no_float es = each_no_float es
@@ -155,6 +158,10 @@ object_told o all name value found =
     let pair = found_at exact_names (map.entries o.props) name value (sym (map.get-entries o.props name) ∙ found) in
     let here = AllPass-from_list_all is_shallow_prop (map.entries o.props) all pair.0 (name, value) pair.1 in
     le_true (depth value) 16 (sym (ap is_shallow_prop (pair.2 (name, value))) ∙ here)
+
+-- a row whose values aren't too deep nests little deeper
+pub shallow_row_nests : (e : ObjId × Object) → is_shallow_row e ≡ true → D.depth (row_form.write e) ≤ 20
+shallow_row_nests e h = row_nests e (object_told e.1 h)
 
 object_tells : (o : Object) → IsShallowObject o → list_all is_shallow_prop (map.entries o.props) ≡ true
 object_tells o h =

@@ -1,12 +1,12 @@
 -- Ids, kinds, places, changes and outcomes have forms: what is written is read, and nothing else is.
-use Rattle.std.proofs.Common.{◌≡◌, ℕ, ◌≤◌, ◌||◌, ◌⊎◌, inl, inr, pos, negsuc, List, Bool, true, false, true≢false, cond, bytes_eq, Option, Some, None, is_some, option_map, codes, refl, ap, sym, ◌∙◌, arith}
+use Rattle.std.proofs.Common.{◌≡◌, ℕ, ◌≤◌, ◌||◌, ◌⊎◌, inl, inr, pos, negsuc, List, Bool, true, false, true≢false, cond, bytes_eq, Option, Some, None, option_map, codes, refl, ap, sym, ◌∙◌, arith}
 use Rattle.std.proofs.lemmas.Slice.Eq.{bytes_eq-Decides}
 use Rattle.serde_json.specs.Data as D
 use Rattle.serde_json.specs.Data.{Data, unsigned, negative, float, null, boolean, string, array, object, Items}
 use Rattle.canvas_model.specs.declared.Kind.{Kind}
 use Rattle.canvas_model.specs.declared.Kind.TheVariants.{Document, Page, Frame, Shape, Text}
 use Rattle.canvas_model.specs.declared.Reason.{Reason}
-use Rattle.canvas_model.specs.declared.Reason.TheVariants.{IsRoot, BadId, Gone, ParentGone, BadParent, Cycle, Crowded}
+use Rattle.canvas_model.specs.declared.Reason.TheVariants.{IsRoot, BadId, Gone, ParentGone, BadParent, Cycle, Crowded, TooDeep}
 use Rattle.canvas_model.specs.declared.ObjId.{ObjId}
 use Rattle.canvas_model.specs.Value.{Value}
 use Rattle.canvas_model.specs.Document.{Place, Name}
@@ -14,7 +14,7 @@ use Rattle.canvas_model.specs.Text.{kind_word}
 use Rattle.canvas_model.specs.Change.{Change, Create, Set, Move, Delete}
 use Rattle.canvas_model.specs.Verdict.{Outcome, Joined, Created, WasSet, Moved, Removed, Refused, number_of}
 use Rattle.canvas_value.specs.Shape.{shape}
-use Rattle.canvas_value.specs.Codec.{Codec, IsCodec, AreMembers, IsWorded}
+use Rattle.canvas_value.specs.Codec.{IsCodec, AreMembers, IsWorded}
 use Rattle.canvas_value.specs.Parts.{is_within, whole_in, with_fit, choice, after, array_of, each, end, headed}
 use Rattle.canvas_value.specs.Json.{name_form}
 use Rattle.canvas_value.proofs.Forms.{first, second, whole_is, text_is, via_is, maybe_is, end_is, member_is, each_is, array_is, headed_is, after_is, choice_is, some_mapped}
@@ -172,11 +172,12 @@ reason_back ParentGone = refl
 reason_back BadParent = refl
 reason_back Cycle = refl
 reason_back Crowded = refl
+reason_back TooDeep = refl
 
-reason_only : (last : ℕ) → last ≤ 7 → (n : ℕ) → is_within 1 last n ≡ true → number_of (reason_of n) ≡ n
+reason_only : (last : ℕ) → last ≤ 8 → (n : ℕ) → is_within 1 last n ≡ true → number_of (reason_of n) ≡ n
 reason_only last h n e = grind (arith, h, e)
 
-module _ (v : Version) (h : v.last_reason ≤ 7) where
+module _ (v : Version) (h : v.last_reason ≤ 8) where
   pub reason_is : IsCodec (reason_form v)
   reason_is = numbered_is 1 v.last_reason reason_of number_of reason_back (reason_only v.last_reason h)
 
@@ -196,7 +197,7 @@ outcome_only (inr (inr (inr (inl p)))) = refl
 outcome_only (inr (inr (inr (inr (inl p))))) = refl
 outcome_only (inr (inr (inr (inr (inr p))))) = refl
 
-module _ (v : Version) (h : v.last_reason ≤ 7) where
+module _ (v : Version) (h : v.last_reason ≤ 8) where
   refused_is : AreMembers (refused v)
   refused_is = member_is _ _ (reason_is v h) (member_is _ _ (maybe_is place_form place_is (λ place e. cc)) end_is)
 

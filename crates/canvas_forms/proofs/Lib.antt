@@ -6,6 +6,7 @@ pub mod Orders
 pub mod Docs
 pub mod Ranges
 pub mod Texts
+pub mod Plain
 -- For the calls of this crate alone.
 mod Tested
 mod Positions

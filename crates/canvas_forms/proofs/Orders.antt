@@ -1,6 +1,6 @@
 -- Rows in order, by their JSON trees.
-use Rattle.std.proofs.Common.{◌≡◌, ◌≢◌, ℕ, zero, suc, ◌+◌, ◌<◌, pos, Bool, true, false, true≢false, ◌&&◌, List, [], ◌∷◌, length, get_or, Option, Some, None, T, codes, bytes_eq, refl, ap, sym, ◌∙◌, arith, add-one}
-use Rattle.std.specs.Prelude.{is_some, not}
+use Rattle.std.proofs.Common.{◌≡◌, ◌≢◌, ℕ, zero, suc, ◌+◌, ◌<◌, ◌⊎◌, inl, inr, pos, Bool, true, false, true≢false, cond, ◌&&◌, List, [], ◌∷◌, length, get_or, Option, Some, None, T, codes, bytes_eq, refl, ap, sym, ◌∙◌, arith, add-one}
+use Rattle.std.specs.Prelude.{IsTrue, is_some, not}
 use Rattle.std.specs.List.{list_all, IsAllAdjacentAnswer}
 use Rattle.std.specs.Ordering.{nat_cmp, int_cmp, ordering_then, is_lt, is_eq}
 use Rattle.std.specs.FinMap as map
@@ -23,7 +23,7 @@ use Rattle.canvas_value.proofs.Forms.{both_hold, both_true}
 use Rattle.canvas_forms.specs.JsonTree.{count}
 use Rattle.canvas_forms.specs.Places.{place_form}
 use Rattle.canvas_forms.specs.Rows.{row_form, rows_form}
-use Rattle.canvas_forms.specs.RowOrder.{wide_cmp, wide_root, two_in, four_in, head_in, is_given, is_root, is_after, are_after, are_each_after, are_in_order}
+use Rattle.canvas_forms.specs.RowOrder.{wide_cmp, wide_root, two_in, four_in, head_in, is_given, is_root, is_row, is_after, are_after, are_each_after, are_in_order}
 use Rattle.canvas_forms.specs.declared.order.WideId.{WideId}
 use Rattle.canvas_forms.specs.declared.order.RowHead.{RowHead}
 
@@ -156,3 +156,28 @@ document_ordered [] are = absurd ((rooted_is_document [] are.sorted).1 are)
 document_ordered (e ∷ es) are =
     let rooted = (rooted_is_document (e ∷ es) are.sorted).1 are in
     both_true _ _ (root_written e rooted.0) (after_written e es are.sorted rooted.1)
+
+-- ---- a row by itself
+
+-- what such a row is of another object's id
+other_told : (e : ObjId × Object) (same : Bool) → is_eq (wide_cmp (wide e.0) wide_root) ≡ same → cond same ((head_of e).is_document && not (head_of e).is_placed) (head_of e).is_placed ≡ true
+    → IsRoot e ⊎ ((e.0 ≢ root) × IsTrue (is_placed e))
+other_told e true same h = inl (root_told e (both_true _ _ same h))
+other_told e false same h =
+    let apart : is_eq (id_cmp e.0 root) ≡ false = sym (ap is_eq (wide_order e.0 root)) ∙ same in
+    inr (λ is. true≢false (sym (ap is_eq (ap (λ q. id_cmp q root) is ∙ tied_itself ids_total root)) ∙ apart), sym (place_told e.1.place) ∙ h)
+
+-- what is written of an object is such a row exactly where it is the root, a document without a place, or another object, which has a place
+pub row_told : (e : ObjId × Object) → is_row (head_in (row_form.write e)) ≡ true → IsRoot e ⊎ ((e.0 ≢ root) × IsTrue (is_placed e))
+row_told e h = other_told e (is_eq (wide_cmp (wide e.0) wide_root)) refl h
+
+pub row_written : (e : ObjId × Object) → IsRoot e ⊎ ((e.0 ≢ root) × IsTrue (is_placed e)) → is_row (head_in (row_form.write e)) ≡ true
+row_written e (inl is) =
+    let at_root = both_hold (is_eq (wide_cmp (wide e.0) wide_root)) _ (root_written e is) in
+    ap (λ same. cond same ((head_of e).is_document && not (head_of e).is_placed) (head_of e).is_placed) at_root.0 ∙ at_root.1
+row_written e (inr other) = other_written e (is_eq (wide_cmp (wide e.0) wide_root)) refl other.0 (place_told e.1.place ∙ other.1)
+  where
+    other_written : (e : ObjId × Object) (same : Bool) → is_eq (wide_cmp (wide e.0) wide_root) ≡ same → e.0 ≢ root → (head_of e).is_placed ≡ true
+        → cond same ((head_of e).is_document && not (head_of e).is_placed) (head_of e).is_placed ≡ true
+    other_written e true same apart placed = absurd (apart (same_exact e.0 root (sym (ap is_eq (wide_order e.0 root)) ∙ same)))
+    other_written e false same apart placed = placed

@@ -4,19 +4,18 @@ use Rattle.std.specs.FinMap as map
 use Rattle.std.proofs.lemmas.List.Elements.{All-head, All-tail}
 use Rattle.canvas_model.specs.declared.ObjId.{ObjId}
 use Rattle.canvas_model.specs.declared.Reason.{Reason}
-use Rattle.canvas_model.specs.declared.Reason.TheVariants.{IsRoot, BadId, Gone, ParentGone, BadParent, Cycle, Crowded}
+use Rattle.canvas_model.specs.declared.Reason.TheVariants.{IsRoot, BadId, Gone, ParentGone, BadParent, Cycle, Crowded, TooDeep}
 use Rattle.canvas_model.specs.Ids.{IsId}
 use Rattle.canvas_model.specs.Document.{Doc, Object, Name, Place}
 use Rattle.canvas_model.specs.Value.{Value}
 use Rattle.canvas_model.specs.Change.{Change, Create, Set, Move, Delete}
 use Rattle.canvas_value.specs.Props.{IsProp}
-use Rattle.canvas_value.specs.Names.{IsName}
-use Rattle.canvas_value.specs.Parts.{is_within, each_test, maybe_test}
+use Rattle.canvas_value.specs.Parts.{each_test, maybe_test}
 use Rattle.canvas_value.proofs.Forms.{both_true}
-use Rattle.canvas_doc.specs.Known.{IsPlace, IsGiven, IsChange, IsObject, IsRow, HasObjects}
+use Rattle.canvas_doc.specs.Known.{IsPlace, IsChange, IsRow, HasObjects}
 use Rattle.canvas_doc.proofs.Maps.{ids_total}
 use Rattle.canvas_doc.proofs.Props.{names_total}
-use Rattle.canvas_forms.specs.Version.{version_one}
+use Rattle.canvas_forms.specs.Version.{version_two}
 use Rattle.canvas_forms.specs.Ids.{client_form, version_form, id_form}
 use Rattle.canvas_forms.specs.Places.{place_form}
 use Rattle.canvas_forms.specs.Changes.{change_form}
@@ -56,7 +55,7 @@ change_fits (Set id name None) h = rw (id_fits id h.0) refl
 change_fits (Move id place) h = rw (id_fits id h.0, place_fits place h.1) refl
 change_fits (Delete id) h = rw (id_fits id h) refl
 
-pub reason_fits : (reason : Reason) → (reason_form version_one).fits reason ≡ true
+pub reason_fits : (reason : Reason) → (reason_form version_two).fits reason ≡ true
 reason_fits IsRoot = refl
 reason_fits BadId = refl
 reason_fits Gone = refl
@@ -64,6 +63,7 @@ reason_fits ParentGone = refl
 reason_fits BadParent = refl
 reason_fits Cycle = refl
 reason_fits Crowded = refl
+reason_fits TooDeep = refl
 
 -- ---- rows
 
@@ -75,7 +75,7 @@ props_fit : (es : List (Name × Value)) → All IsProp es → each_test prop_for
 props_fit [] h = refl
 props_fit (e ∷ es) h = rw ((All-head IsProp e es h).range, props_fit es (All-tail IsProp e es h)) refl
 
-row_fits : (e : ObjId × Object) → IsRow e → row_form.fits e ≡ true
+pub row_fits : (e : ObjId × Object) → IsRow e → row_form.fits e ≡ true
 row_fits e h =
     let props = props_fit (map.entries e.1.props) (each_entry names_total e.1.props IsProp (λ name value found. h.1.props name value found)) in
     rw (id_fits e.0 h.0, maybe_place_fits e.1.place h.1.place, props) refl

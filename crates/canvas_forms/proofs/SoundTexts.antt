@@ -1,5 +1,5 @@
 -- Whose texts are of the kind that they are to be.
-use Rattle.std.proofs.Common.{◌≡◌, ℕ, List, [], ◌∷◌, Option, Some, None, true, refl}
+use Rattle.std.proofs.Common.{◌≡◌, List, [], ◌∷◌, Some, None, true, refl}
 use Rattle.canvas_model.specs.declared.ObjId.{ObjId}
 use Rattle.canvas_model.specs.Change.{Change, Create, Set, Move, Delete}
 use Rattle.canvas_doc.specs.Known.{IsChange}

@@ -4,7 +4,7 @@ use mathlib.Core.Logic.{inl, inr}
 use Rattle.serde_json.specs.Data.{string, array, Items, item}
 use Rattle.canvas_model.specs.declared.ObjId.{ObjId}
 use Rattle.canvas_model.specs.declared.Reason.{Reason}
-use Rattle.canvas_model.specs.declared.Reason.TheVariants.{IsRoot, BadId, Gone, ParentGone, BadParent, Cycle, Crowded}
+use Rattle.canvas_model.specs.declared.Reason.TheVariants.{IsRoot, BadId, Gone, ParentGone, BadParent, Cycle, Crowded, TooDeep}
 use Rattle.canvas_model.specs.Document.{Place}
 use Rattle.canvas_model.specs.Verdict.{Outcome, Joined, Created, WasSet, Moved, Removed, Refused, number_of}
 use Rattle.canvas_value.specs.Codec.{Codec, Members, Worded}
@@ -16,7 +16,7 @@ use Rattle.canvas_forms.specs.Places.{place_form}
 
 -- the reason of this number
 abbrev pub reason_of : ℕ → Reason
-reason_of n = if n == 2 then BadId else (if n == 3 then Gone else (if n == 4 then ParentGone else (if n == 5 then BadParent else (if n == 6 then Cycle else (if n == 7 then Crowded else IsRoot)))))
+reason_of n = if n == 2 then BadId else (if n == 3 then Gone else (if n == 4 then ParentGone else (if n == 5 then BadParent else (if n == 6 then Cycle else (if n == 7 then Crowded else (if n == 8 then TooDeep else IsRoot))))))
 
 -- a reason, as its number
 abbrev pub reason_form : Version → Codec Reason

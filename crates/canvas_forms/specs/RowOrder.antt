@@ -9,7 +9,7 @@ use Rattle.serde_json.specs.Find.{as_integer, as_null}
 use Rattle.canvas_model.specs.declared.ObjId.{ObjId}
 use Rattle.canvas_model.specs.Document.{Object}
 use Rattle.canvas_forms.specs.JsonTree.{members}
-use Rattle.canvas_forms.specs.Rows.{rows_form}
+use Rattle.canvas_forms.specs.Rows.{row_form, rows_form}
 use Rattle.canvas_forms.specs.declared.order.WideId.{WideId}
 use Rattle.canvas_forms.specs.declared.order.RowHead.{RowHead}
 
@@ -72,6 +72,11 @@ abbrev pub is_root : Option RowHead → Bool
 is_root None = false
 is_root (Some h) = is_eq (wide_cmp h.id wide_root) && (h.is_document && not h.is_placed)
 
+-- it is the root's, a document without a place, or another's that has a place
+abbrev pub is_row : Option RowHead → Bool
+is_row None = false
+is_row (Some h) = if is_eq (wide_cmp h.id wide_root) then h.is_document && not h.is_placed else h.is_placed
+
 -- the second has a place, and a greater id than the first
 abbrev pub is_after : Option RowHead → Option RowHead → Bool
 is_after None s = false
@@ -105,3 +110,7 @@ are_in_order (object ms) = false
 -- the rows that a JSON tree in order is read as
 abbrev pub rows_in : Data → Option (List (ObjId × Object) × Bool)
 rows_in d = if are_in_order d then rows_form.read d else None
+
+-- the row that a JSON tree is read as which may stand by itself
+abbrev pub row_in : Data → Option ((ObjId × Object) × Bool)
+row_in d = if is_row (head_in d) then row_form.read d else None

@@ -9,6 +9,10 @@ pub record Version : Type 0 where
   -- the greatest number of a reason for which a message is refused
   pub last_no : ℕ
 
--- the first version
+-- the first version, of which checkpoints are found in old journals
 abbrev pub version_one : Version
 version_one = record { number = 1; last_reason = 7; last_no = 9 }
+
+-- the second version, which is written today
+abbrev pub version_two : Version
+version_two = record { number = 2; last_reason = 8; last_no = 9 }

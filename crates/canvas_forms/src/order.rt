@@ -1,7 +1,8 @@
 // Whether rows stand in order. It is told from their JSON trees: ids are compared whatever the range of their numbers.
 ghost use Rattle.std.specs.Prelude.{◌≡◌};
+ghost use Rattle.std.specs.Ordering.{is_eq};
 ghost use Rattle.serde_json.specs.View.{view, items_view};
-ghost use Rattle.canvas_forms.specs.RowOrder.{wide_cmp, integer_in, wide_in, is_document, head_in, is_root, is_after, are_each_after, are_rows};
+ghost use Rattle.canvas_forms.specs.RowOrder.{wide_cmp, wide_root, integer_in, wide_in, is_document, head_in, is_root, is_row, is_after, are_each_after, are_rows};
 
 use crate::json_tree::{four, members, two};
 use serde_json::Value as Json;
@@ -32,6 +33,20 @@ pub(crate) fn are_rows(rows: &[Json]) -> bool
     }
 }
 
+// Whether a row is the root's, a document without a place, or another's that has a place.
+pub(crate) fn is_row(row: &Json) -> bool
+    ensures { result ≡ is_row (head_in (view row.now)) }
+{
+    match head(row) {
+        Some(row) => if has_root_id(row) {
+            row.is_document && !row.is_placed
+        } else {
+            row.is_placed
+        },
+        None => false,
+    }
+}
+
 // Whether each row but the first has a place and a greater id than the one before it.
 fn are_after(rows: &[Json]) -> bool
     ensures { result ≡ are_each_after (items_view rows.now) }
@@ -48,15 +63,20 @@ fn is_root(row: Option<RowHead>) -> bool
     ensures { result ≡ is_root row }
 {
     match row {
-        Some(row) => {
-            let root = WideId {
-                client: 0,
-                counter: 0,
-            };
-            compare(row.id, root).is_eq() && row.is_document && !row.is_placed
-        }
+        Some(row) => has_root_id(row) && row.is_document && !row.is_placed,
         None => false,
     }
+}
+
+// Whether a row is of the root's id.
+fn has_root_id(row: RowHead) -> bool
+    ensures { result ≡ is_eq (wide_cmp row.id wide_root) }
+{
+    let root = WideId {
+        client: 0,
+        counter: 0,
+    };
+    compare(row.id, root).is_eq()
 }
 
 // Whether the next row has a place and a greater id.

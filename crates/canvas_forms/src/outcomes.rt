@@ -6,7 +6,7 @@ ghost use Rattle.canvas_judge.specs.Seen.{seen_outcome};
 ghost use Rattle.canvas_model.specs.Verdict.{Refused};
 ghost use Rattle.canvas_value.specs.Parts.{each_in, each_written};
 ghost use Rattle.canvas_value.specs.Faults.{RefusesShape};
-ghost use Rattle.canvas_forms.specs.Version.{version_one};
+ghost use Rattle.canvas_forms.specs.Version.{version_two};
 ghost use Rattle.canvas_forms.specs.Ids.{id_form};
 ghost use Rattle.canvas_forms.specs.Outcomes.{outcome_form, outcome_after, reason_form, reason_of};
 
@@ -22,7 +22,7 @@ use std::alloc::{AllocError, Allocator, Global};
 
 /// The JSON of an outcome: an array that begins with the word of what became of the request. The error is that memory was refused.
 pub fn write_outcome<A: Allocator>(alloc: Global, outcome: &Outcome<A>) -> Result<Json, AllocError>
-    ensures { IfOk result (λ j. view j ≡ (outcome_form version_one).write (seen_outcome outcome.now)) }
+    ensures { IfOk result (λ j. view j ≡ (outcome_form version_two).write (seen_outcome outcome.now)) }
 {
     match outcome {
         Outcome::Joined(client) => {
@@ -58,7 +58,7 @@ fn write_refused<A: Allocator>(
     reason: Reason,
     stands: &Option<Place<A>>,
 ) -> Result<Json, AllocError>
-    ensures { IfOk result (λ j. view j ≡ (outcome_form version_one).write (Refused reason stands.now)) }
+    ensures { IfOk result (λ j. view j ≡ (outcome_form version_two).write (Refused reason stands.now)) }
 {
     let word = Json::try_from_str(alloc, "refused")?;
     let stands = write_maybe_place(alloc, stands.as_ref())?;
@@ -85,8 +85,8 @@ pub fn read_outcome<A: Allocator + Copy>(
     json: &Json,
 ) -> Result<(Outcome<A>, bool), JsonFault>
     ensures ok { IfOk result
-        (λ r. (outcome_form version_one).read (view json.now) ≡ Some (seen_outcome r.0, r.1)) }
-    ensures fault { IfErr result (RefusesShape ((outcome_form version_one).read (view json.now))) }
+        (λ r. (outcome_form version_two).read (view json.now) ≡ Some (seen_outcome r.0, r.1)) }
+    ensures fault { IfErr result (RefusesShape ((outcome_form version_two).read (view json.now))) }
 {
     let Some((word, rest)) = worded(json) else {
         return Err(JsonFault::NotAValue);
@@ -111,10 +111,10 @@ pub fn read_outcome<A: Allocator + Copy>(
 // A new client, by the members after its word.
 #[tactic(auto, using(crate::proofs::Members::not_one, crate::proofs::Members::and_true))]
 fn read_joined<A: Allocator>(rest: &[Json]) -> Result<(Outcome<A>, bool), JsonFault>
-    ensures ok { IfOk result (λ r. outcome_after version_one (codes "joined") (items_view rest.now)
+    ensures ok { IfOk result (λ r. outcome_after version_two (codes "joined") (items_view rest.now)
         ≡ Some (seen_outcome r.0, r.1)) }
     ensures fault { IfErr result
-        (RefusesShape (outcome_after version_one (codes "joined") (items_view rest.now))) }
+        (RefusesShape (outcome_after version_two (codes "joined") (items_view rest.now))) }
 {
     let Some(client) = one(rest) else {
         return Err(JsonFault::NotAValue);
@@ -128,10 +128,10 @@ fn read_joined<A: Allocator>(rest: &[Json]) -> Result<(Outcome<A>, bool), JsonFa
 // A creation, by the members after its word.
 #[tactic(auto, using(crate::proofs::Members::not_one, crate::proofs::Members::and_true))]
 fn read_created<A: Allocator>(alloc: A, rest: &[Json]) -> Result<(Outcome<A>, bool), JsonFault>
-    ensures ok { IfOk result (λ r. outcome_after version_one (codes "created") (items_view rest.now)
+    ensures ok { IfOk result (λ r. outcome_after version_two (codes "created") (items_view rest.now)
         ≡ Some (seen_outcome r.0, r.1)) }
     ensures fault { IfErr result
-        (RefusesShape (outcome_after version_one (codes "created") (items_view rest.now))) }
+        (RefusesShape (outcome_after version_two (codes "created") (items_view rest.now))) }
 {
     let Some(place) = one(rest) else {
         return Err(JsonFault::NotAValue);
@@ -144,10 +144,10 @@ fn read_created<A: Allocator>(alloc: A, rest: &[Json]) -> Result<(Outcome<A>, bo
 
 // A Set that was granted, by the members after its word.
 fn read_was_set<A: Allocator>(rest: &[Json]) -> Result<(Outcome<A>, bool), JsonFault>
-    ensures ok { IfOk result (λ r. outcome_after version_one (codes "wasset") (items_view rest.now)
+    ensures ok { IfOk result (λ r. outcome_after version_two (codes "wasset") (items_view rest.now)
         ≡ Some (seen_outcome r.0, r.1)) }
     ensures fault { IfErr result
-        (RefusesShape (outcome_after version_one (codes "wasset") (items_view rest.now))) }
+        (RefusesShape (outcome_after version_two (codes "wasset") (items_view rest.now))) }
 {
     match ended(rest) {
         Some((_, fits)) => Ok((Outcome::WasSet, fits)),
@@ -158,10 +158,10 @@ fn read_was_set<A: Allocator>(rest: &[Json]) -> Result<(Outcome<A>, bool), JsonF
 // A move, by the members after its word.
 #[tactic(auto, using(crate::proofs::Members::not_one, crate::proofs::Members::and_true))]
 fn read_moved<A: Allocator>(alloc: A, rest: &[Json]) -> Result<(Outcome<A>, bool), JsonFault>
-    ensures ok { IfOk result (λ r. outcome_after version_one (codes "moved") (items_view rest.now)
+    ensures ok { IfOk result (λ r. outcome_after version_two (codes "moved") (items_view rest.now)
         ≡ Some (seen_outcome r.0, r.1)) }
     ensures fault { IfErr result
-        (RefusesShape (outcome_after version_one (codes "moved") (items_view rest.now))) }
+        (RefusesShape (outcome_after version_two (codes "moved") (items_view rest.now))) }
 {
     let Some(place) = one(rest) else {
         return Err(JsonFault::NotAValue);
@@ -175,10 +175,10 @@ fn read_moved<A: Allocator>(alloc: A, rest: &[Json]) -> Result<(Outcome<A>, bool
 // A removal, by the members after its word.
 #[tactic(auto, using(crate::proofs::Members::not_one, crate::proofs::Members::no_array, crate::proofs::Members::is_array, crate::proofs::Members::and_true))]
 fn read_removed<A: Allocator>(alloc: A, rest: &[Json]) -> Result<(Outcome<A>, bool), JsonFault>
-    ensures ok { IfOk result (λ r. outcome_after version_one (codes "removed") (items_view rest.now)
+    ensures ok { IfOk result (λ r. outcome_after version_two (codes "removed") (items_view rest.now)
         ≡ Some (seen_outcome r.0, r.1)) }
     ensures fault { IfErr result
-        (RefusesShape (outcome_after version_one (codes "removed") (items_view rest.now))) }
+        (RefusesShape (outcome_after version_two (codes "removed") (items_view rest.now))) }
 {
     let Some(ids) = one(rest) else {
         return Err(JsonFault::NotAValue);
@@ -195,10 +195,10 @@ fn read_removed<A: Allocator>(alloc: A, rest: &[Json]) -> Result<(Outcome<A>, bo
 // A refusal, by the members after its word.
 #[tactic(auto, using(crate::proofs::Members::not_two, crate::proofs::Members::and_true))]
 fn read_refused<A: Allocator>(alloc: A, rest: &[Json]) -> Result<(Outcome<A>, bool), JsonFault>
-    ensures ok { IfOk result (λ r. outcome_after version_one (codes "refused") (items_view rest.now)
+    ensures ok { IfOk result (λ r. outcome_after version_two (codes "refused") (items_view rest.now)
         ≡ Some (seen_outcome r.0, r.1)) }
     ensures fault { IfErr result
-        (RefusesShape (outcome_after version_one (codes "refused") (items_view rest.now))) }
+        (RefusesShape (outcome_after version_two (codes "refused") (items_view rest.now))) }
 {
     let Some((reason, stands)) = two(rest) else {
         return Err(JsonFault::NotAValue);
@@ -214,9 +214,9 @@ fn read_refused<A: Allocator>(alloc: A, rest: &[Json]) -> Result<(Outcome<A>, bo
 
 // The reason whose number a JSON tree is, and whether it is one.
 fn read_reason(json: &Json) -> Option<(Reason, bool)>
-    ensures { result ≡ (reason_form version_one).read (view json.now) }
+    ensures { result ≡ (reason_form version_two).read (view json.now) }
 {
-    let (n, fits) = whole(json, 1, 7)?;
+    let (n, fits) = whole(json, 1, 8)?;
     Some((reason_of(n), fits))
 }
 
@@ -231,6 +231,7 @@ fn reason_of(n: u64) -> Reason
         5 => Reason::BadParent,
         6 => Reason::Cycle,
         7 => Reason::Crowded,
+        8 => Reason::TooDeep,
         _ => Reason::IsRoot,
     }
 }

@@ -7,15 +7,15 @@ ghost use Rattle.canvas_model.specs.Ids.{IsId};
 ghost use Rattle.canvas_model.specs.Change.{HoldsShallow};
 ghost use Rattle.canvas_value.specs.Parts.{maybe};
 ghost use Rattle.canvas_judge.specs.Seen.{seen_outcome};
-ghost use Rattle.canvas_forms.specs.Version.{version_one};
+ghost use Rattle.canvas_forms.specs.Version.{version_two};
 ghost use Rattle.canvas_forms.specs.Ids.{client_form};
 ghost use Rattle.canvas_forms.specs.Places.{place_form};
 ghost use Rattle.canvas_forms.specs.Changes.{change_form};
 ghost use Rattle.canvas_forms.specs.Outcomes.{outcome_form};
-ghost use Rattle.canvas_forms.specs.Rows.{rows_form};
+ghost use Rattle.canvas_forms.specs.Rows.{row_form, rows_form};
 ghost use Rattle.canvas_forms.specs.RowOrder.{are_in_order};
 
-use canvas_doc::{Change, Doc, ObjId, Place};
+use canvas_doc::{Change, Doc, ObjId, Object, Place};
 use canvas_judge::Outcome;
 use std::alloc::Allocator;
 
@@ -26,6 +26,15 @@ pub fn sound_doc<A: Allocator>(doc: &Doc<A>)
     ensures orderly { are_in_order (rows_form.write (map.entries doc.now)) ≡ true }
 {
     let _objects = doc.objects();
+}
+
+/// What is written of a row: its position and its names are such, and its numbers are in range.
+pub fn sound_row<A: Allocator>(row: &(ObjId, Object<A>))
+    ensures sound { row_form.sound row.now ≡ true }
+    ensures in_range { row_form.fits row.now ≡ true }
+{
+    know_id(row.0);
+    row.1.every_part();
 }
 
 /// What is written of a change: its position and its name are such, its numbers are in range, and its value isn't too deep.
@@ -41,8 +50,8 @@ pub fn sound_change<A: Allocator>(change: &Change<A>)
 /// What is written of an outcome: its position is one, and its numbers are in range.
 #[tactic(auto, using(crate::proofs::SoundTexts::ids_sound, crate::proofs::Ranges::ids_fit, crate::proofs::Ranges::reason_fits))]
 pub fn sound_outcome<A: Allocator>(outcome: &Outcome<A>)
-    ensures sound { (outcome_form version_one).sound (seen_outcome outcome.now) ≡ true }
-    ensures in_range { (outcome_form version_one).fits (seen_outcome outcome.now) ≡ true }
+    ensures sound { (outcome_form version_two).sound (seen_outcome outcome.now) ≡ true }
+    ensures in_range { (outcome_form version_two).fits (seen_outcome outcome.now) ≡ true }
 {
     match outcome {
         Outcome::Created(place) => sound_place(place),

@@ -13,7 +13,7 @@ use Rattle.canvas_wire.proofs.MessageForms.{number_is}
 counts_is : IsCodec counts_form
 counts_is = via_is shape _ _ _ (array_is _ (member_is _ _ version_is (member_is _ _ client_is end_is))) (λ counts. refl) (λ p s. refl)
 
-clients_is : IsCodec clients_form
+pub clients_is : IsCodec clients_form
 clients_is = array_is _ (each_is counts_form counts_is)
 
 saved_is : (v : Version) → AreMembers (saved v)

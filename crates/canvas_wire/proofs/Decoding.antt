@@ -12,7 +12,7 @@ use Rattle.canvas_wire.specs.declared.fault.WireError.{WireError}
 use Rattle.canvas_wire.specs.declared.fault.WireError.TheVariants.{NotJson, NotAMessage, OutOfRange, TooDeep, Memory}
 
 -- the bytes have one JSON tree
-same_json : (bytes : List ℕ) (d e : Data) → IsJson bytes d → IsJson bytes e → d ≡ e
+pub same_json : (bytes : List ℕ) (d e : Data) → IsJson bytes d → IsJson bytes e → d ≡ e
 same_json bytes d e h k = ap (λ (o : Option Data). unwrap_or o d) (sym h.1 ∙ k.1)
 
 -- what is proved of every kind of thing of which one JSON tree is at most one thing, and whose JSON trees have its shape

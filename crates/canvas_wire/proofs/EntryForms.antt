@@ -109,5 +109,5 @@ what_only (Some change) = refl
 pub what_is : IsCodec what_form
 what_is = via_is shape what_of change_in (word_or (codes "join") change_form) (word_or_is (codes "join") change_form change_is (λ x. (_, refl))) what_back (λ p s. what_only p)
 
-pub entry_is : (v : Version) → v.last_reason ≤ 7 → IsCodec (entry_form v)
+pub entry_is : (v : Version) → v.last_reason ≤ 8 → IsCodec (entry_form v)
 entry_is v h = via_is shape _ _ _ (array_is _ (member_is _ _ client_is (member_is _ _ version_is (member_is _ _ what_is (member_is _ _ (outcome_is v h) end_is))))) (λ e. refl) (λ p s. refl)

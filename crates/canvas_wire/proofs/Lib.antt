@@ -4,10 +4,14 @@ pub mod Stored
 mod EntryForms
 mod MessageForms
 mod CheckpointForms
+mod HeadForms
 mod Decoding
 mod Tested
 mod Entry
 mod Message
+mod CopyTexts
 mod Checkpoint
+mod Head
+mod Row
 mod Ranges
 mod Texts

@@ -14,7 +14,7 @@ use Rattle.canvas_value.specs.Faults.{RefusesShape}
 use Rattle.canvas_value.specs.declared.json_fault.JsonFault.{JsonFault}
 use Rattle.canvas_value.specs.declared.json_fault.JsonFault.TheVariants as value
 use Rattle.canvas_value.proofs.Forms.{both_hold, stands_for, out_of_range, no_shape}
-use Rattle.canvas_forms.specs.Version.{version_one}
+use Rattle.canvas_forms.specs.Version.{version_two}
 use Rattle.canvas_forms.specs.JsonTree.{worded}
 use Rattle.canvas_forms.specs.Rows.{rows_form}
 use Rattle.canvas_forms.specs.RowOrder.{are_in_order, rows_in}
@@ -30,8 +30,8 @@ use Rattle.canvas_wire.proofs.MessageForms.{parts_are}
 use Rattle.canvas_wire.proofs.Tested.{neither, tested_case, unread_case}
 use Rattle.canvas_wire.proofs.Decoding.{stands_one}
 
-pub is_form : IsCodec (parts_form version_one)
-is_form = parts_are version_one (omega arith)
+pub is_form : IsCodec (parts_form version_two)
+is_form = parts_are version_two (omega arith)
 
 -- a message is that of its parts
 pub message_back : (m : Message) → message_of (parts_of m) ≡ m
@@ -44,20 +44,20 @@ message_back (Copies version done doc) = ap (Copies version done) (map.same_entr
 message_back Idle = refl
 message_back (No reason) = refl
 
-pub one_message : (d : Data) (m n : Message) → IsMessageJson version_one d m → IsMessageJson version_one d n → m ≡ n
-one_message d m n (o, s) (p, t) = sym (message_back m) ∙ ap message_of (stands_one (parts_form version_one) is_form (λ _. Unit {0}) d (parts_of m) (parts_of n) s t) ∙ message_back n
+pub one_message : (d : Data) (m n : Message) → IsMessageJson version_two d m → IsMessageJson version_two d n → m ≡ n
+one_message d m n (o, s) (p, t) = sym (message_back m) ∙ ap message_of (stands_one (parts_form version_two) is_form (λ _. Unit {0}) d (parts_of m) (parts_of n) s t) ∙ message_back n
 
-pub message_shaped : (d : Data) (m : Message) → IsMessageJson version_one d m → IsMessageShape version_one d
+pub message_shaped : (d : Data) (m : Message) → IsMessageJson version_two d m → IsMessageShape version_two d
 message_shaped d m (o, s) = (o, (parts_of m, s.0, ap shape s.2))
 
 -- ---- what was read of an orderly JSON tree
 
-was_orderly : (d : Data) (r : MessageParts × Bool) → message_in version_one d ≡ Some r → (is_orderly d ≡ true) × ((parts_form version_one).read d ≡ Some r)
-was_orderly d r e = tested_case (is_orderly d) ((parts_form version_one).read d) r e
+was_orderly : (d : Data) (r : MessageParts × Bool) → message_in version_two d ≡ Some r → (is_orderly d ≡ true) × ((parts_form version_two).read d ≡ Some r)
+was_orderly d r e = tested_case (is_orderly d) ((parts_form version_two).read d) r e
 
 -- what a fault of the shape says of the JSON tree
-pub message_fault : (d : Data) (f : JsonFault) → RefusesShape (message_in version_one d) f → IsMessageFault d (refusal f)
-message_fault d value.NotAValue e = λ s. no_shape (parts_form version_one) is_form d (unread_case (is_orderly d) ((parts_form version_one).read d) e s.0) s.1
+pub message_fault : (d : Data) (f : JsonFault) → RefusesShape (message_in version_two d) f → IsMessageFault d (refusal f)
+message_fault d value.NotAValue e = λ s. no_shape (parts_form version_two) is_form d (unread_case (is_orderly d) ((parts_form version_two).read d) e s.0) s.1
 message_fault d value.OutOfRange e = absurd e
 message_fault d value.Memory e = tt
 
@@ -72,7 +72,7 @@ parts_back (inr (inr (inr (inr (inr (inl p)))))) h = ap (λ es. inr (inr (inr (i
 parts_back (inr (inr (inr (inr (inr (inr (inl p))))))) h = refl
 parts_back (inr (inr (inr (inr (inr (inr (inr p))))))) h = refl
 
-made_written : (p : MessageParts) → is_orderly ((parts_form version_one).write p) ≡ true → (parts_form version_one).fits p ≡ true → IsMade p
+made_written : (p : MessageParts) → is_orderly ((parts_form version_two).write p) ≡ true → (parts_form version_two).fits p ≡ true → IsMade p
 made_written (inl p) o f = tt
 made_written (inr (inl p)) o f = tt
 made_written (inr (inr (inl p))) o f = tt
@@ -84,40 +84,40 @@ made_written (inr (inr (inr (inr (inr (inr (inr p))))))) o f = (both_hold (is_wi
 
 -- ---- the word at the head
 
-pub unworded : (d : Data) → worded d ≡ None → message_in version_one d ≡ None
-unworded d e = ap (λ o. cond (is_orderly d) o None) (no_word (message_words version_one).read d e) ∙ neither (is_orderly d)
+pub unworded : (d : Data) → worded d ≡ None → message_in version_two d ≡ None
+unworded d e = ap (λ o. cond (is_orderly d) o None) (no_word (message_words version_two).read d e) ∙ neither (is_orderly d)
 
 pub unknown : (d : Data) (w : List ℕ) (ds : Items) → worded d ≡ Some (w, ds) → bytes_eq w (codes "join") ≡ false → bytes_eq w (codes "welcome") ≡ false → bytes_eq w (codes "edit") ≡ false → bytes_eq w (codes "ask") ≡ false
-    → bytes_eq w (codes "entry") ≡ false → bytes_eq w (codes "copy") ≡ false → bytes_eq w (codes "idle") ≡ false → bytes_eq w (codes "no") ≡ false → message_in version_one d ≡ None
-unknown d w ds e h1 h2 h3 h4 h5 h6 h7 h8 = ap (message_in version_one) (word_first d w ds e) ∙ rw (h1, h2, h3, h4, h5, h6, h7, h8) refl
+    → bytes_eq w (codes "entry") ≡ false → bytes_eq w (codes "copy") ≡ false → bytes_eq w (codes "idle") ≡ false → bytes_eq w (codes "no") ≡ false → message_in version_two d ≡ None
+unknown d w ds e h1 h2 h3 h4 h5 h6 h7 h8 = ap (message_in version_two) (word_first d w ds e) ∙ rw (h1, h2, h3, h4, h5, h6, h7, h8) refl
 
 -- ---- the members of a copy
 
-pub unread_copy : (ds : Items) → copied.read ds ≡ None → message_after version_one (codes "copy") ds ≡ None
+pub unread_copy : (ds : Items) → copied.read ds ≡ None → message_after version_two (codes "copy") ds ≡ None
 unread_copy ds e = rw e (neither (copy_in_order ds))
 
 module _ (a b r : Data) (version done : ℕ) (version_fits done_fits : Bool) (h : whole_in 0 4611686018427387904 a ≡ Some (version, version_fits)) (k : whole_in 0 4611686018427387904 b ≡ Some (done, done_fits)) where
   pub copy_read : (es : List (ObjId × Object)) (fits : Bool) → rows_in r ≡ Some (es, fits)
-      → message_after version_one (codes "copy") (item a (item b (item r no_items))) ≡ Some (inr (inr (inr (inr (inr (inl (version, (done, (es, tt)))))))), version_fits && (done_fits && fits))
+      → message_after version_two (codes "copy") (item a (item b (item r no_items))) ≡ Some (inr (inr (inr (inr (inr (inl (version, (done, (es, tt)))))))), version_fits && (done_fits && fits))
   copy_read es fits e =
       let t = tested_case (are_in_order r) (rows_form.read r) (es, fits) e in
       rw (t.0, h, k, t.1, and-true fits) refl
 
   rows_case : (t : Bool) (o : Option (List (ObjId × Object) × Bool)) → are_in_order r ≡ t → rows_form.read r ≡ o → cond t o None ≡ None
-      → message_after version_one (codes "copy") (item a (item b (item r no_items))) ≡ None
+      → message_after version_two (codes "copy") (item a (item b (item r no_items))) ≡ None
   rows_case true o i j e = rw (i, h, k, j, e) refl
   rows_case false o i j e = rw i refl
 
-  pub copy_refused : (f : JsonFault) → RefusesShape (rows_in r) f → RefusesShape (message_after version_one (codes "copy") (item a (item b (item r no_items)))) f
+  pub copy_refused : (f : JsonFault) → RefusesShape (rows_in r) f → RefusesShape (message_after version_two (codes "copy") (item a (item b (item r no_items)))) f
   copy_refused value.NotAValue e = rows_case (are_in_order r) (rows_form.read r) refl refl e
   copy_refused value.OutOfRange e = e
   copy_refused value.Memory e = tt
 
-module _ (d : Data) (p : MessageParts) (b : Bool) (e : message_in version_one d ≡ Some (p, b)) where
-  in_range_was : b ≡ true → (is_orderly d ≡ true) × StandsFor (parts_form version_one) d p
+module _ (d : Data) (p : MessageParts) (b : Bool) (e : message_in version_two d ≡ Some (p, b)) where
+  in_range_was : b ≡ true → (is_orderly d ≡ true) × StandsFor (parts_form version_two) d p
   in_range_was t =
       let w = was_orderly d (p, b) e in
-      (w.0, stands_for (parts_form version_one) is_form d p (w.1 ∙ ap (λ (f : Bool). Some (p, f)) t))
+      (w.0, stands_for (parts_form version_two) is_form d p (w.1 ∙ ap (λ (f : Bool). Some (p, f)) t))
 
   -- what was read in range can be made a message
   pub made : b ≡ true → IsMade p
@@ -125,12 +125,12 @@ module _ (d : Data) (p : MessageParts) (b : Bool) (e : message_in version_one d 
       let w = in_range_was t in
       made_written p (ap is_orderly w.1.2 ∙ w.0) w.1.1
 
-  json_was : b ≡ true → IsMessageJson version_one d (message_of p)
+  json_was : b ≡ true → IsMessageJson version_two d (message_of p)
   json_was t =
       let w = in_range_was t in
-      (w.0, subst (StandsFor (parts_form version_one) d) (sym (parts_back p (made t))) w.1)
+      (w.0, subst (StandsFor (parts_form version_two) d) (sym (parts_back p (made t))) w.1)
 
-  pub message_means : b ≡ true → IsShallowMessage (message_of p) → Means (IsMessageJson version_one) IsShallowMessage d (message_of p)
+  pub message_means : b ≡ true → IsShallowMessage (message_of p) → Means (IsMessageJson version_two) IsShallowMessage d (message_of p)
   message_means t s = (json_was t, s)
 
   pub message_deep : b ≡ true → (IsShallowMessage (message_of p) → ⊥) → IsMessageFault d TooDeep
@@ -143,8 +143,8 @@ module _ (d : Data) (p : MessageParts) (b : Bool) (e : message_in version_one d 
   message_unfinished t NotAMessage h = absurd h
   message_unfinished t OutOfRange h = absurd h
 
-  pub message_out : b ≡ false → IsOut (IsMessageShape version_one) (IsMessageJson version_one) d
+  pub message_out : b ≡ false → IsOut (IsMessageShape version_two) (IsMessageJson version_two) d
   message_out t =
       let w = was_orderly d (p, b) e in
-      let out = out_of_range (parts_form version_one) is_form d p (w.1 ∙ ap (λ (f : Bool). Some (p, f)) t) in
+      let out = out_of_range (parts_form version_two) is_form d p (w.1 ∙ ap (λ (f : Bool). Some (p, f)) t) in
       ((w.0, out.0), λ m s. out.1 (parts_of m) s.1)

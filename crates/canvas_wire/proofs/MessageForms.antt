@@ -23,13 +23,13 @@ apart_choice : {X Y : Type 0} (u v : List ℕ) (r : Members X) (w : Worded Y) �
 apart_choice u v r w e k (inl x) = e
 apart_choice u v r w e k (inr y) = k y
 
-number_only : (v n : ℕ) → is_within v v n ≡ true → v ≡ n
+pub number_only : (v n : ℕ) → is_within v v n ≡ true → v ≡ n
 number_only v n e = grind (arith, e)
 
 pub number_is : (v : Version) → IsCodec (number_form v)
 number_is v = numbered_is v.number v.number (λ _. tt) (λ _. v.number) (λ x. refl) (number_only v.number)
 
-module _ (v : Version) (h : v.last_reason ≤ 7) where
+module _ (v : Version) (h : v.last_reason ≤ 8) where
   abbrev no_words : Worded (ℕ × Unit {0})
   no_words = after (codes "no") (alone (whole 1 v.last_no))
 

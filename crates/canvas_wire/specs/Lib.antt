@@ -1,6 +1,7 @@
 pub mod Entries
 pub mod Messages
 pub mod Checkpoints
+pub mod Heads
 pub mod Faults
 pub mod Text
 pub mod Laws

@@ -1,5 +1,5 @@
 -- Messages as JSON: arrays that begin with the word of what is said.
-use Rattle.std.specs.Prelude.{◌≡◌, ◌⊎◌, ℕ, List, Bool, true, Option, None, codes, bytes_eq, if◌then◌else◌}
+use Rattle.std.specs.Prelude.{◌≡◌, ◌⊎◌, ◌++◌, ℕ, List, Bool, true, Option, None, codes, decimal, bytes_eq, if◌then◌else◌}
 use mathlib.Core.Logic.{inl, inr}
 use Rattle.std.specs.FinMap as map
 use Rattle.serde_json.specs.Data as D
@@ -78,6 +78,11 @@ parts_of (Copies version done doc) = inr (inr (inr (inr (inr (inl (version, (don
 parts_of Idle = inr (inr (inr (inr (inr (inr (inl tt))))))
 parts_of (No reason) = inr (inr (inr (inr (inr (inr (inr (reason, tt)))))))
 
+-- it isn't a copy, whose rows are written one by one
+abbrev pub IsNoCopy : Message → Type 0
+IsNoCopy (Copies version done doc) = ⊥
+IsNoCopy _ = Unit {0}
+
 -- the rows of a copy stand in order
 abbrev pub copy_in_order : Items → Bool
 copy_in_order no_items = true
@@ -123,3 +128,7 @@ message_in v d = if is_orderly d then (parts_form v).read d else None
 -- the same, of an array that begins with this word
 abbrev pub message_after : Version → List ℕ → Items → Option (MessageParts × Bool)
 message_after v w ds = message_in v (array (item (string w) ds))
+
+-- the text of a copy up to its rows
+abbrev pub copy_start : ℕ → ℕ → List ℕ
+copy_start version done = codes "[\"copy\"," ++ (decimal version ++ (codes "," ++ (decimal done ++ codes ",")))

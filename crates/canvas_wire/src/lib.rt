@@ -1,15 +1,22 @@
-//! Messages, entries and checkpoints as JSON, both ways.
+//! Messages, entries and checkpoints as JSON, both ways. A checkpoint is a head and a text for each row; the older form, which is one
+//! text, is read alone.
 #![tactic(auto)]
 
 mod checkpoints;
+mod clients;
+mod copies;
 mod entries;
 mod fault;
+mod heads;
 mod laws;
 mod messages;
+mod rows;
 mod sound;
 
-pub use checkpoints::{decode_checkpoint, encode_checkpoint};
+pub use checkpoints::decode_checkpoint;
 pub use entries::{decode_entry, encode_entry};
 pub use fault::WireError;
-pub use laws::{every_checkpoint, every_entry, every_message};
+pub use heads::{CheckpointHead, decode_head, encode_head};
+pub use laws::{every_checkpoint, every_entry, every_head, every_message, every_row};
 pub use messages::{decode, encode};
+pub use rows::{decode_row, encode_row};

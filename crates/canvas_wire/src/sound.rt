@@ -1,25 +1,25 @@
 // That the positions and names of what is written are such, and its numbers in range as far as their types say it. These functions
 // change nothing when they run: the proof of what is written needs them.
 ghost use Rattle.std.specs.Prelude.{◌≡◌, ◌≤◌, ℕ, true};
-ghost use Rattle.canvas_model.specs.State.{IsSound, done};
+ghost use Rattle.std.specs.List.{All};
 ghost use Rattle.canvas_model.specs.Log.{last_version};
 ghost use Rattle.canvas_model.specs.Storable.{AsksShallow};
 ghost use Rattle.canvas_judge.specs.Seen.{seen_message, seen_what};
-ghost use Rattle.canvas_forms.specs.Version.{version_one};
+ghost use Rattle.canvas_forms.specs.Version.{version_two};
+ghost use Rattle.canvas_forms.specs.Ids.{client_form};
 ghost use Rattle.canvas_wire.specs.Entries.{what_form, entry_form};
-ghost use Rattle.canvas_wire.specs.Checkpoints as checkpoint;
-ghost use Rattle.canvas_wire.specs.Checkpoints.{checkpoint_form, checkpoint_json, has_rows};
-ghost use Rattle.canvas_wire.specs.Text.{IsShallowEntry, IsEntryInRange, IsCheckpointInRange};
+ghost use Rattle.canvas_wire.specs.Heads.{head_form};
+ghost use Rattle.canvas_wire.specs.Text.{IsShallowEntry, IsEntryInRange, IsHeadInRange};
 ghost use Rattle.canvas_wire.specs.Messages.{parts_form, parts_of, message_json, is_orderly};
 
 use canvas_forms::sound::{know_client, sound_change, sound_doc, sound_outcome};
-use canvas_judge::{Entry, Message, State, What};
+use canvas_judge::{Counts, Entry, Message, What};
 use std::alloc::Allocator;
 
 // Of a message.
 pub(crate) fn sound_message<A: Allocator>(message: &Message<A>)
-    ensures sound { (parts_form version_one).sound (parts_of (seen_message message.now)) ≡ true }
-    ensures orderly { is_orderly (message_json version_one (seen_message message.now)) ≡ true }
+    ensures sound { (parts_form version_two).sound (parts_of (seen_message message.now)) ≡ true }
+    ensures orderly { is_orderly (message_json version_two (seen_message message.now)) ≡ true }
 {
     match message {
         Message::Edit { change, .. } => sound_change(change),
@@ -29,20 +29,27 @@ pub(crate) fn sound_message<A: Allocator>(message: &Message<A>)
     }
 }
 
-// Of a checkpoint.
-pub(crate) fn sound_checkpoint<A: Allocator>(state: &State<A>, version: u64)
-    ensures sound { (checkpoint_form version_one).sound (checkpoint.parts_of (state.now, version)) ≡ true }
-    ensures orderly { has_rows (checkpoint_json version_one (state.now, version)) ≡ true }
-    ensures is_sound { IsSound state.now }
-    ensures in_range { version ≤ last_version → ((client : ℕ) → done state.now client ≤ last_version) → IsCheckpointInRange (state.now, version) }
+// Of the head of a checkpoint.
+pub(crate) fn sound_head(clients: &[Counts], version: u64, count: u64)
+    ensures sound { head_form.sound (record { version = version; clients = clients.now; count = count }) ≡ true }
+    ensures in_range { version ≤ last_version → All (λ k. k.done ≤ last_version) clients.now → 1 ≤ count → count ≤ last_version
+        → IsHeadInRange (record { version = version; clients = clients.now; count = count }) }
 {
-    state.every_part();
-    sound_doc(state.doc());
+    know_clients(clients);
+}
+
+// Of the counts of clients.
+fn know_clients(clients: &[Counts])
+    ensures { All (λ k. client_form.fits k.used ≡ true) clients.now }
+{
+    for counts in clients {
+        know_client(counts.used);
+    }
 }
 
 // Of an entry.
 pub(crate) fn sound_entry<A: Allocator>(entry: &Entry<A>)
-    ensures sound { (entry_form version_one).sound entry.now ≡ true }
+    ensures sound { (entry_form version_two).sound entry.now ≡ true }
     ensures shallow { IsShallowEntry entry.now }
     ensures in_range { entry.now.seq ≤ last_version → IsEntryInRange entry.now }
 {

@@ -1,6 +1,6 @@
 use Rattle.std.proofs.Common.{sym, subst}
 use Rattle.serde_json.specs.View.{view}
-use Rattle.canvas_forms.specs.Version.{version_one}
+use Rattle.canvas_forms.specs.Version.{version_two}
 use Rattle.canvas_wire.specs.Drafts.{seen_parts}
 use Rattle.canvas_wire.specs.Messages.{IsMessageJson}
 use Rattle.canvas_wire.specs.Faults.{Means}
@@ -22,7 +22,7 @@ finish_message-requires g c =
 
 pub returns-in-Ok-finish_message-clause-ok : goal.returns-in-Ok-finish_message-clause-ok
 returns-in-Ok-finish_message-clause-ok g c =
-    subst (Means (IsMessageJson version_one) IsShallowMessage (view c.args.json.now)) (sym c.in-Ok-finish_message.ensures.ok)
+    subst (Means (IsMessageJson version_two) IsShallowMessage (view c.args.json.now)) (sym c.in-Ok-finish_message.ensures.ok)
     (message_means (view c.args.json.now) (seen_parts c.in-Ok.read.0) c.in-Ok.read.1 c.in-Ok.ensures.ok c.if-not-fits.false c.in-Ok-finish_message.ensures.shallow)
 
 pub returns-in-Err-finish_message-clause-fault : goal.returns-in-Err-finish_message-clause-fault
