@@ -1,15 +1,30 @@
 // Questions about documents: entries that may come next, and chains of parents.
 use crate::saying::{refused, unreadable};
 use canvas_doc::{Doc, ObjId};
-use canvas_judge::{Message, State, below, is_above};
+use canvas_judge::{Entry, Message, State, below, is_above};
+use canvas_model::Rule;
 use canvas_model::words::cut;
 use canvas_wire::{decode, decode_checkpoint, decode_entry};
 use std::alloc::{AllocError, Allocator, Global};
+
+// Whether an entry may come next by this rule.
+fn may_follow<A: Allocator + Copy>(
+    alloc: A,
+    rule: Rule,
+    state: &State<A>,
+    entry: &Entry<A>,
+) -> Result<bool, AllocError> {
+    match rule {
+        Rule::One => state.fits_under(alloc, Rule::One, entry),
+        Rule::Two => state.fits(alloc, entry),
+    }
+}
 
 // Whether the entry that a text spells may come next.
 fn fits_after<A: Allocator + Copy>(
     heap: Global,
     alloc: A,
+    rule: Rule,
     state: &State<A>,
     text: &[u8],
 ) -> Result<Vec<u8>, AllocError> {
@@ -17,24 +32,25 @@ fn fits_after<A: Allocator + Copy>(
         Ok(entry) => entry,
         Err(fault) => return refused(heap, fault),
     };
-    if state.fits(alloc, &entry)? {
+    if may_follow(alloc, rule, state, &entry)? {
         Vec::from_slice(heap, b"fits")
     } else {
         Vec::from_slice(heap, b"does not fit")
     }
 }
 
-/// Whether an entry may come after a checkpoint, with a tab between the two.
+/// Whether an entry may come after a checkpoint of the first form by this rule, with a tab between the two.
 pub fn fits<A: Allocator + Copy>(
     heap: Global,
     alloc: A,
+    rule: Rule,
     text: &[u8],
 ) -> Result<Vec<u8>, AllocError> {
     let Some((checkpoint, entry)) = cut(text, b'\t') else {
         return unreadable(heap);
     };
     match decode_checkpoint(heap, alloc, checkpoint) {
-        Ok((state, _)) => fits_after(heap, alloc, &state, entry),
+        Ok((state, _)) => fits_after(heap, alloc, rule, &state, entry),
         Err(fault) => refused(heap, fault),
     }
 }

@@ -1,7 +1,8 @@
 // The kinds of texts.
 use crate::documents::{above, all_below, fits};
 use crate::positions::{middle, position};
-use crate::reading::{checkpoint, entry, message, name, value};
+use crate::reading::{checkpoint, entry, head, message, name, row, value};
+use canvas_model::Rule;
 use std::alloc::{AllocError, Allocator, Global};
 
 /// What a text is meant to be.
@@ -9,7 +10,10 @@ use std::alloc::{AllocError, Allocator, Global};
 pub enum Kind {
     Message,
     Entry,
+    /// A checkpoint of the first form: which texts are written of it today?
     Checkpoint,
+    Head,
+    Row,
     Value,
     Name,
     Position,
@@ -17,6 +21,8 @@ pub enum Kind {
     Between,
     /// A checkpoint and an entry: may it come next?
     Fits,
+    /// A checkpoint and an entry: could it come next by the first rule, which journals of the first form follow?
+    Fitted,
     /// A copy and two ids: does the first one stand above the second one, or is it that one?
     Above,
     /// A copy and an id: which objects stand below it?
@@ -24,15 +30,18 @@ pub enum Kind {
 }
 
 // The word of each kind.
-const WORDS: [(&str, Kind); 10] = [
+const WORDS: [(&str, Kind); 13] = [
     ("message", Kind::Message),
     ("entry", Kind::Entry),
     ("checkpoint", Kind::Checkpoint),
+    ("head", Kind::Head),
+    ("row", Kind::Row),
     ("value", Kind::Value),
     ("name", Kind::Name),
     ("position", Kind::Position),
     ("between", Kind::Between),
     ("fits", Kind::Fits),
+    ("fitted", Kind::Fitted),
     ("above", Kind::Above),
     ("below", Kind::Below),
 ];
@@ -58,11 +67,14 @@ pub fn said_of<A: Allocator + Copy>(
         Kind::Message => message(heap, alloc, text),
         Kind::Entry => entry(heap, alloc, text),
         Kind::Checkpoint => checkpoint(heap, alloc, text),
+        Kind::Head => head(heap, alloc, text),
+        Kind::Row => row(heap, alloc, text),
         Kind::Value => value(heap, alloc, text),
         Kind::Name => name(heap, alloc, text),
         Kind::Position => position(heap, alloc, text),
         Kind::Between => middle(heap, alloc, text),
-        Kind::Fits => fits(heap, alloc, text),
+        Kind::Fits => fits(heap, alloc, Rule::Two, text),
+        Kind::Fitted => fits(heap, alloc, Rule::One, text),
         Kind::Above => above(heap, alloc, text),
         Kind::Below => all_below(heap, alloc, text),
     }

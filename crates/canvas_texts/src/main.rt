@@ -1,6 +1,7 @@
-//! Texts of messages, entries, checkpoints, values, names and positions, with what each is read as, and what is then said of some.
+//! Texts of messages, entries, checkpoints, their heads and rows, values, names and positions, with what each is read as, and what is
+//! then said of some.
 //!
-//! A line is a word and a text, as `message ["join",1]`. Each is read and copied in the machine's memory, in an arena, and with each
+//! A line is a word and a text, as `message ["join",2]`. Each is read and copied in the machine's memory, in an arena, and with each
 //! growth refused in turn, and the answer must be the same.
 #![tactic(auto)]
 

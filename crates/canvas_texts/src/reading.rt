@@ -1,9 +1,11 @@
-// What texts are read as. What is said of one is written of a copy.
+// What texts are read as. What is said of one is written of a copy, where there is a call that copies.
 use crate::saying::{refused, said};
+use canvas_doc::{ObjId, Object};
 use canvas_judge::{Entry, Message, State};
 use canvas_value::{JsonFault, Name, NameError, Value};
 use canvas_wire::{
-    decode, decode_checkpoint, decode_entry, encode, encode_checkpoint, encode_entry,
+    CheckpointHead, decode, decode_checkpoint, decode_entry, decode_head, decode_row, encode,
+    encode_entry, encode_head, encode_row,
 };
 use serde_json::Value as Json;
 use std::alloc::{AllocError, Allocator, Global};
@@ -52,6 +54,7 @@ pub fn entry<A: Allocator + Copy>(
     }
 }
 
+// The text of a head, and then that of each object's row, with a blank between them.
 fn checkpoint_again<A: Allocator + Copy>(
     heap: Global,
     alloc: A,
@@ -59,11 +62,16 @@ fn checkpoint_again<A: Allocator + Copy>(
     version: u64,
 ) -> Result<Vec<u8>, AllocError> {
     let copy = state.copy_in(alloc)?;
-    let text = encode_checkpoint(heap, &copy, version)?;
+    let doc = copy.doc();
+    let mut text = encode_head(heap, copy.clients(), version, doc.len() as u64)?;
+    for row in doc.objects() {
+        text.push(b' ')?;
+        text.extend_from_slice(&encode_row(heap, row)?)?;
+    }
     said(heap, &text)
 }
 
-/// What is said of a checkpoint.
+/// What is said of a checkpoint of the first form, which is one text: the texts that are written of its state today.
 pub fn checkpoint<A: Allocator + Copy>(
     heap: Global,
     alloc: A,
@@ -71,6 +79,46 @@ pub fn checkpoint<A: Allocator + Copy>(
 ) -> Result<Vec<u8>, AllocError> {
     match decode_checkpoint(heap, alloc, text) {
         Ok((state, version)) => checkpoint_again(heap, alloc, &state, version),
+        Err(fault) => refused(heap, fault),
+    }
+}
+
+fn head_again<A: Allocator>(heap: Global, head: &CheckpointHead<A>) -> Result<Vec<u8>, AllocError> {
+    let text = encode_head(heap, &head.clients, head.version, head.count)?;
+    said(heap, &text)
+}
+
+/// What is said of the head of a checkpoint.
+pub fn head<A: Allocator + Copy>(
+    heap: Global,
+    alloc: A,
+    text: &[u8],
+) -> Result<Vec<u8>, AllocError> {
+    match decode_head(heap, alloc, text) {
+        Ok(head) => head_again(heap, &head),
+        Err(fault) => refused(heap, fault),
+    }
+}
+
+fn row_again<A: Allocator + Copy>(
+    heap: Global,
+    alloc: A,
+    id: ObjId,
+    object: &Object<A>,
+) -> Result<Vec<u8>, AllocError> {
+    let copy = object.copy_in(alloc)?;
+    let text = encode_row(heap, &(id, copy))?;
+    said(heap, &text)
+}
+
+/// What is said of an object's row.
+pub fn row<A: Allocator + Copy>(
+    heap: Global,
+    alloc: A,
+    text: &[u8],
+) -> Result<Vec<u8>, AllocError> {
+    match decode_row(heap, alloc, text) {
+        Ok((id, object)) => row_again(heap, alloc, id, &object),
         Err(fault) => refused(heap, fault),
     }
 }
