@@ -1,7 +1,7 @@
 // Whether a world is as the plain model says.
 use crate::follow::id_of;
 use crate::log::{count_edit, count_joins, count_judged};
-use crate::model::{Model, count_made, document_at, edit_of, nth, overlay};
+use crate::model::{Model, count_made, document_at, edit_of, nth, shown};
 use crate::reading::{entry_in, rows_of};
 use crate::rows::{have_same, is_tree};
 use canvas_client::Client;
@@ -22,7 +22,8 @@ fn has_counts(world: &World, model: &Model) -> bool {
 fn has_document(alloc: Global, world: &World, model: &Model) -> Result<bool, AllocError> {
     let rows = rows_of(alloc, world.server().state().doc())?;
     let expected = document_at(alloc, &model.log, u64::MAX)?;
-    Ok(is_tree(&rows) && have_same(&rows, &expected))
+    let is_tree = is_tree(alloc, &rows)?;
+    Ok(is_tree && have_same(&rows, &expected))
 }
 
 // Whether the entries that the server may tell are the model's.
@@ -73,14 +74,7 @@ fn has_numbers(model: &Model, node: u64, client: &Client) -> bool {
 // Whether the client shows the document at its version with the unacknowledged edits of its node laid over it.
 fn shows(alloc: Global, model: &Model, node: u64, client: &Client) -> Result<bool, AllocError> {
     let rows = rows_of(alloc, client.view())?;
-    let mut expected = document_at(alloc, &model.log, client.version())?;
-    overlay(
-        alloc,
-        &mut expected,
-        &model.made,
-        node,
-        client.acknowledged(),
-    )?;
+    let expected = shown(alloc, model, node, client.version(), client.acknowledged())?;
     Ok(have_same(&rows, &expected))
 }
 

@@ -2,62 +2,15 @@
 use crate::dice::Dice;
 use crate::model::{Letter, Model, Prop, nth};
 use crate::reading::rows_of;
-use crate::rows::{Row, find};
+use crate::rows::{Row, deepest_frame, find};
 use crate::steps::{Step, Wish};
 use canvas_client::Received;
 use canvas_doc::{Kind, ObjId};
 use canvas_world::{Answer, World};
 use std::alloc::{AllocError, Global};
 
-// What node 1 draws in the opening.
-const PAGE: ObjId = ObjId {
-    client: 2,
-    counter: 1,
-};
-
-const FRAME: ObjId = ObjId {
-    client: 2,
-    counter: 2,
-};
-
-/// The first events of most scripts: three nodes get their ids, of which node 1 gets the second; it draws a page with two
-/// frames, and all three show them.
-pub const OPENING: [Step; 34] = [
-    Step::AddNode,
-    Step::AddNode,
-    Step::AddNode,
-    Step::AskJoin(1),
-    Step::AskJoin(2),
-    Step::AskJoin(3),
-    Step::Take(2),
-    Step::Take(1),
-    Step::Take(3),
-    Step::Sync,
-    Step::Publish,
-    Step::Welcome(1),
-    Step::Welcome(2),
-    Step::Welcome(3),
-    Step::Deliver(4),
-    Step::Deliver(5),
-    Step::Deliver(6),
-    Step::Edit(1, Wish::Create(Kind::Page, ObjId::ROOT, None)),
-    Step::Edit(1, Wish::Create(Kind::Frame, PAGE, None)),
-    Step::Edit(1, Wish::Create(Kind::Frame, PAGE, Some(FRAME))),
-    Step::Send(1, 1),
-    Step::Send(1, 2),
-    Step::Send(1, 3),
-    Step::Take(7),
-    Step::Take(8),
-    Step::Take(9),
-    Step::Sync,
-    Step::Publish,
-    Step::Copy(1),
-    Step::Copy(2),
-    Step::Copy(3),
-    Step::Deliver(10),
-    Step::Deliver(11),
-    Step::Deliver(12),
-];
+// More rows than so many are many.
+const MANY: u64 = 16;
 
 // An object that the node shows, or now and then any id.
 fn draw_object(dice: &mut Dice, rows: &[Row]) -> ObjId {
@@ -72,14 +25,30 @@ fn draw_object(dice: &mut Dice, rows: &[Row]) -> ObjId {
 
 // An object among the rows.
 fn draw_shown(dice: &mut Dice, rows: &[Row]) -> ObjId {
-    match nth(rows, dice.below(rows.len() as u64).saturating_add(1)) {
+    match nth(rows, draw_index(dice, rows.len() as u64).saturating_add(1)) {
         Some(row) => row.id,
         None => ObjId::ROOT,
     }
 }
 
-// A parent that the node shows, mostly one that may have children.
+// An index below the count; of many, one of the first or of the last, so that a long chain changes mostly at its ends.
+fn draw_index(dice: &mut Dice, count: u64) -> u64 {
+    if count <= MANY {
+        return dice.below(count);
+    }
+    let index = dice.below(MANY);
+    if index < MANY / 2 {
+        index
+    } else {
+        count.saturating_sub(MANY).saturating_add(index)
+    }
+}
+
+// A parent that the node shows, mostly one that may have children; where many objects are shown, often the deepest frame.
 fn draw_parent(dice: &mut Dice, rows: &[Row]) -> ObjId {
+    if rows.len() as u64 > MANY && dice.comes(3) {
+        return deepest_frame(rows);
+    }
     let id = draw_lower(dice, rows);
     match find(rows, id) {
         Some(row) => {
@@ -127,6 +96,18 @@ fn draw_kind(dice: &mut Dice, parent: ObjId) -> Kind {
     }
 }
 
+// What is deleted: this, or among many one of the last, so that a long chain isn't deleted as a whole.
+fn draw_removed(dice: &mut Dice, rows: &[Row], id: ObjId) -> ObjId {
+    let count = rows.len() as u64;
+    if count <= MANY {
+        return id;
+    }
+    match nth(rows, count.saturating_sub(dice.below(MANY / 2))) {
+        Some(row) => row.id,
+        None => id,
+    }
+}
+
 // What a user asks for, who sees these rows.
 fn draw_wish(dice: &mut Dice, rows: &[Row]) -> Wish {
     let id = draw_lower(dice, rows);
@@ -140,7 +121,7 @@ fn draw_wish(dice: &mut Dice, rows: &[Row]) -> Wish {
         6..=7 => Wish::Put(id, Prop::Fill, dice.below(4)),
         8 => Wish::Put(id, Prop::Size, dice.below(4)),
         9..=13 => Wish::Move(id, parent, draw_child(dice, rows, parent)),
-        _ => Wish::Delete(id),
+        _ => Wish::Delete(draw_removed(dice, rows, id)),
     }
 }
 

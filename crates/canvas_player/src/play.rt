@@ -1,11 +1,12 @@
 // Playing scripts.
 use crate::compare::{Pair, agrees, in_common};
 use crate::dice::Dice;
-use crate::draw::{OPENING, draw_any, next_step};
+use crate::draw::{draw_any, next_step};
 use crate::follow::{can_happen, follow};
 use crate::model::{Entry, Model, nth};
+use crate::openings::Opening;
 use crate::steps::{Step, event_of};
-use canvas_client::Received;
+use canvas_client::{EditError, Received};
 use canvas_world::{Answer, World};
 use std::alloc::{AllocError, Global};
 
@@ -15,8 +16,10 @@ pub struct Totals {
     pub events: u64,
     pub differences: u64,
     pub refused_by_node: u64,
+    pub too_deep_by_node: u64,
     pub granted: u64,
     pub refused_by_server: u64,
+    pub too_deep_by_server: u64,
     pub taken: u64,
     pub equal: u64,
     pub restarts: u64,
@@ -29,8 +32,10 @@ impl Totals {
             events: 0,
             differences: 0,
             refused_by_node: 0,
+            too_deep_by_node: 0,
             granted: 0,
             refused_by_server: 0,
+            too_deep_by_server: 0,
             taken: 0,
             equal: 0,
             restarts: 0,
@@ -41,10 +46,21 @@ impl Totals {
     fn count_verdict(&mut self, entry: Option<Entry>) {
         match entry {
             Some(Entry::Edit { reason: 0, .. }) => self.granted = self.granted.saturating_add(1),
-            Some(Entry::Edit { .. }) => {
+            Some(Entry::Edit { reason, .. }) => {
                 self.refused_by_server = self.refused_by_server.saturating_add(1);
+                if reason == 8 {
+                    self.too_deep_by_server = self.too_deep_by_server.saturating_add(1);
+                }
             }
             _ => {}
+        }
+    }
+
+    // Counts a refusal of a node.
+    fn count_refusal(&mut self, error: EditError) {
+        self.refused_by_node = self.refused_by_node.saturating_add(1);
+        if error == EditError::TooDeep {
+            self.too_deep_by_node = self.too_deep_by_node.saturating_add(1);
         }
     }
 
@@ -52,7 +68,7 @@ impl Totals {
     fn count_answer(&mut self, model: &Model, answer: Answer) {
         self.events = self.events.saturating_add(1);
         match answer {
-            Answer::RefusedEdit(_) => self.refused_by_node = self.refused_by_node.saturating_add(1),
+            Answer::RefusedEdit(error) => self.count_refusal(error),
             Answer::Judged(version) => self.count_verdict(nth(&model.log, version)),
             Answer::Delivered(Received::Took) => self.taken = self.taken.saturating_add(1),
             Answer::VersionIs(_) => self.restarts = self.restarts.saturating_add(1),
@@ -83,25 +99,27 @@ struct Script {
     world: World,
     model: Model,
     dice: Dice,
+    opening: Opening,
     next: Option<Step>,
 }
 
 impl Script {
-    // A script of this seed.
-    fn new(alloc: Global, seed: u64) -> Result<Script, AllocError> {
+    // A script of this seed, that begins so.
+    fn new(alloc: Global, seed: u64, opening: Opening) -> Result<Script, AllocError> {
         let world = World::new(alloc)?;
         Ok(Script {
             world,
             model: Model::new(alloc),
             dice: Dice::new(seed),
+            opening,
             next: None,
         })
     }
 
-    // The step of this turn; most scripts begin with the opening.
-    fn draw(&mut self, alloc: Global, turn: u64, opens: bool) -> Result<Step, AllocError> {
-        if opens && let Some(step) = OPENING.get(turn as usize) {
-            return Ok(*step);
+    // The step of this turn, drawn once the opening is over.
+    fn draw(&mut self, alloc: Global, turn: u64) -> Result<Step, AllocError> {
+        if let Some(step) = self.opening.step(turn) {
+            return Ok(step);
         }
         if let Some(step) = self.next
             && !self.dice.comes(5)
@@ -135,33 +153,36 @@ impl Script {
         Ok(())
     }
 
-    // Plays one turn, and compares the world with the model.
+    // Plays one turn, and compares the world with the model, but not at each turn of an opening.
     fn take_turn(
         &mut self,
         alloc: Global,
         turn: u64,
-        opens: bool,
         totals: &mut Totals,
     ) -> Result<(), AllocError> {
-        let step = self.draw(alloc, turn, opens)?;
+        let step = self.draw(alloc, turn)?;
         let is_right = self.play(alloc, step, totals)?;
+        if !self.opening.compares(turn) {
+            totals.count_right(is_right);
+            return Ok(());
+        }
         let agrees = agrees(alloc, &self.world, &self.model)?;
         totals.count_right(is_right && agrees);
         self.compare_pairs(alloc, totals)
     }
 }
 
-/// Plays the script of this seed, so many events long.
+/// Plays the script of this seed, which begins so and is so many events long.
 pub fn play_script(
     alloc: Global,
     seed: u64,
     events: u64,
+    opening: Opening,
     totals: &mut Totals,
 ) -> Result<(), AllocError> {
-    let mut script = Script::new(alloc, seed)?;
-    let opens = seed % 8 != 0;
+    let mut script = Script::new(alloc, seed, opening)?;
     for turn in 0..events {
-        script.take_turn(alloc, turn, opens, totals)?;
+        script.take_turn(alloc, turn, totals)?;
     }
     Ok(())
 }

@@ -13,6 +13,9 @@ pub struct Row {
     pub size: u64,
 }
 
+// How deep objects may be put, where the root is at 0.
+const LIMIT: u64 = 100;
+
 /// The row of the root.
 pub const ROOT: Row = Row {
     id: ObjId::ROOT,
@@ -68,6 +71,57 @@ pub fn is_below(rows: &[Row], from: ObjId, to: ObjId) -> bool {
     at == to
 }
 
+// How many parents lead from one object up to the other; none where they don't.
+fn steps_up(rows: &[Row], from: ObjId, to: ObjId) -> Option<u64> {
+    let mut at = from;
+    for steps in 0..rows.len() {
+        if at == to {
+            return Some(steps as u64);
+        }
+        at = parent_of(rows, at)?;
+    }
+    None
+}
+
+/// The frame that stands deepest below the root, or the root where none stands there.
+pub fn deepest_frame(rows: &[Row]) -> ObjId {
+    let mut deepest = ObjId::ROOT;
+    let mut most = 0u64;
+    for row in rows {
+        if row.kind == Kind::Frame
+            && let Some(depth) = steps_up(rows, row.id, ObjId::ROOT)
+            && depth >= most
+        {
+            deepest = row.id;
+            most = depth;
+        }
+    }
+    deepest
+}
+
+/// Whether a new object under the parent would stand deeper than objects may be put.
+pub fn is_at_limit(rows: &[Row], parent: ObjId) -> bool {
+    match steps_up(rows, parent, ObjId::ROOT) {
+        Some(depth) => depth >= LIMIT,
+        None => false,
+    }
+}
+
+/// Whether the object, or one below it, would stand deeper than objects may be put, if the object stood under the parent.
+pub fn goes_too_deep(rows: &[Row], id: ObjId, parent: ObjId) -> bool {
+    let Some(depth) = steps_up(rows, parent, ObjId::ROOT) else {
+        return false;
+    };
+    for row in rows {
+        if let Some(below) = steps_up(rows, row.id, id)
+            && depth.saturating_add(below) >= LIMIT
+        {
+            return true;
+        }
+    }
+    false
+}
+
 // The parent of the object, if it has one.
 fn parent_of(rows: &[Row], id: ObjId) -> Option<ObjId> {
     let row = find(rows, id)?;
@@ -75,11 +129,41 @@ fn parent_of(rows: &[Row], id: ObjId) -> Option<ObjId> {
 }
 
 /// Whether from each object a chain of parents leads to the root, and each but the root has a position.
-pub fn is_tree(rows: &[Row]) -> bool {
-    for row in rows {
-        if !is_below(rows, row.id, ObjId::ROOT) {
-            return false;
+pub fn is_tree(alloc: Global, rows: &[Row]) -> Result<bool, AllocError> {
+    let reached = below(alloc, rows, ObjId::ROOT)?;
+    Ok(reached.len() == rows.len() && have_positions(rows))
+}
+
+// The object and all those from which a chain of parents leads to it.
+fn below(alloc: Global, rows: &[Row], id: ObjId) -> Result<Vec<ObjId>, AllocError> {
+    let mut reached = Vec::new(alloc);
+    reached.push(id)?;
+    for _ in 0..rows.len() {
+        let before = reached.len();
+        reach_more(rows, &mut reached)?;
+        if reached.len() == before {
+            return Ok(reached);
         }
+    }
+    Ok(reached)
+}
+
+// Adds the objects that aren't reached yet and whose parent is.
+fn reach_more(rows: &[Row], reached: &mut Vec<ObjId>) -> Result<(), AllocError> {
+    for row in rows {
+        if let Some(parent) = row.parent
+            && reached.contains(&parent)
+            && !reached.contains(&row.id)
+        {
+            reached.push(row.id)?;
+        }
+    }
+    Ok(())
+}
+
+// Whether each object but the root has a position.
+fn have_positions(rows: &[Row]) -> bool {
+    for row in rows {
         if row.pos == 0 && row.id != ObjId::ROOT {
             return false;
         }
@@ -89,9 +173,10 @@ pub fn is_tree(rows: &[Row]) -> bool {
 
 /// The rows of the objects that aren't below this one.
 pub fn without_below(alloc: Global, rows: &[Row], id: ObjId) -> Result<Vec<Row>, AllocError> {
+    let gone = below(alloc, rows, id)?;
     let mut kept = Vec::new(alloc);
     for row in rows {
-        if !is_below(rows, row.id, id) {
+        if !gone.contains(&row.id) {
             kept.push(*row)?;
         }
     }
