@@ -135,7 +135,7 @@ fn handshakes(rt: HostRuntime) -> Result<(), Fail> {
 
 #[test]
 fn frames(rt: HostRuntime) -> Result<(), Fail> {
-    let unmasked = Sent::Behind(b"\x82\x0a[\"join\",1]");
+    let unmasked = Sent::Behind(b"\x82\x0a[\"join\",2]");
     let cut = Sent::Behind(b"\x82\x8a\x00\x00\x00\x00[\"jo");
     remove(&rt, "out/frames");
     assert_eq!(rt; goes_on(&rt, rt, "out/frames", unmasked, cut), Some(true));

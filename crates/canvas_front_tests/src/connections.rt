@@ -188,7 +188,7 @@ fn talks<K: Keeper + Drop, N: RoomName, Q: Wait + Drop, W: Wait>(
     seat: &mut SeatOf<K, N, Q>,
     talk: &mut Talk,
 ) -> Result<(), Fail> {
-    let _ = told(alloc, rt, seat, talk, "[\"join\",1]")?;
+    let _ = told(alloc, rt, seat, talk, "[\"join\",2]")?;
     let mut version = asks(alloc, rt, seat, talk, 0, Some(0))?;
     let mut judged = 0;
     for sent in 0..EDITS {

@@ -1,5 +1,5 @@
 //! Journals in real folders.
-use crate::bytes::{ABC, AFTER_JOIN, EMPTY, JOINED, JOINED_TWICE};
+use crate::bytes::{ABC, AFTER_JOIN, EMPTY, JOINED, JOINED_TWICE, OLD_JOINED};
 use crate::folders::{is_file, is_there, renew, shelf_in, write};
 use canvas_journal::{Journal, KeepError, Keeper, OpenError, open};
 use canvas_judge::{Entry, Outcome, State, What};
@@ -86,10 +86,11 @@ fn opened_again(rt: HostRuntime) -> Result<(), Fail> {
     Ok(())
 }
 
-// Whether a folder whose first segment is cut to so many bytes is opened at that version, and then holds this segment alone.
+// Whether a folder whose first segment is these bytes, cut to so many, is opened at that version, and then holds this segment alone.
 fn opens_cut(
     rt: &HostRuntime,
     folder: &str,
+    bytes: &[u8],
     size: usize,
     version: u64,
     then: &[u8],
@@ -99,7 +100,7 @@ fn opens_cut(
         rt,
         folder,
         "segment-0000000001",
-        JOINED.get(..size).unwrap_or(&[]),
+        bytes.get(..size).unwrap_or(&[]),
     )?;
     Ok(opened(rt, folder)? == Ok(version) && is_there(rt, folder, &[(2, then)])?)
 }
@@ -107,10 +108,20 @@ fn opens_cut(
 #[test]
 fn cut(rt: HostRuntime) -> Result<(), Fail> {
     let folder = "journal-cut";
-    for size in [0, 3, 53, 54, 57, 82] {
-        assert!(rt; opens_cut(&rt, folder, size, 0, EMPTY)?, "at {size}");
+    for size in [0, 3, 26, 27, 30, 56, 57, 60, 85] {
+        assert!(rt;
+            opens_cut(&rt, folder, JOINED, size, 0, EMPTY)?,
+            "at {size}"
+        );
     }
-    assert!(rt; opens_cut(&rt, folder, 83, 1, AFTER_JOIN)?);
+    assert!(rt; opens_cut(&rt, folder, JOINED, 86, 1, AFTER_JOIN)?);
+    for size in [0, 3, 53, 54, 57, 82] {
+        assert!(rt;
+            opens_cut(&rt, folder, OLD_JOINED, size, 0, EMPTY)?,
+            "of the old at {size}"
+        );
+    }
+    assert!(rt; opens_cut(&rt, folder, OLD_JOINED, 83, 1, AFTER_JOIN)?);
     let _ = fs::remove_dir_all(&rt, folder);
     Ok(())
 }
@@ -119,12 +130,12 @@ fn cut(rt: HostRuntime) -> Result<(), Fail> {
 fn torn(rt: HostRuntime) -> Result<(), Fail> {
     let folder = "journal-torn";
     renew(&rt, folder)?;
-    write(&rt, folder, "segment-0000000001", JOINED)?;
+    write(&rt, folder, "segment-0000000001", OLD_JOINED)?;
     write(
         &rt,
         folder,
         "segment-0000000002",
-        b"\x00\x00\x00\x37[\"chec",
+        AFTER_JOIN.get(..61).unwrap_or(&[]),
     )?;
     assert_eq!(rt; opened(&rt, folder)?, Ok(1));
     assert!(rt; is_there(&rt, folder, &[(3, AFTER_JOIN)])?);

@@ -10,7 +10,7 @@ use std::test::Fail;
 use tungstenite::{Message as Frame, NoMask, Role, WebSocket};
 
 // A Join.
-const JOIN: &str = "[\"join\",1]";
+const JOIN: &str = "[\"join\",2]";
 
 // Sends a text message, a ping and a Join, and closes.
 fn send_each(alloc: Global, client: &mut MemorySocket<'_>) -> Result<(), Fail> {
@@ -120,7 +120,7 @@ fn writes_for(alloc: Global, lines: &str) -> Result<u32, Fail> {
 
 #[test]
 fn one_write_an_answer(rt: HostRuntime) -> Result<(), Fail> {
-    let rows = [(JOIN, 1), ("[\"join\",1]\n[\"ask\",1,0]\n[\"ask\",1,1]", 3)];
+    let rows = [(JOIN, 1), ("[\"join\",2]\n[\"ask\",1,0]\n[\"ask\",1,1]", 3)];
     for (lines, wanted) in rows {
         assert_eq!(rt; writes_for(rt.alloc(), lines)?, wanted, "at {lines}");
     }

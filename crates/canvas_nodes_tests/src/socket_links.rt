@@ -89,7 +89,7 @@ fn told(alloc: Global) -> Result<Vec<u8>, Fail> {
 // Whether a round sends its message as one binary message.
 fn sends(alloc: Global) -> Result<bool, Fail> {
     let told = told(alloc)?;
-    Ok(told == sent(alloc, "[\"join\",1]", Role::Client)?)
+    Ok(told == sent(alloc, "[\"join\",2]", Role::Client)?)
 }
 
 #[test]
