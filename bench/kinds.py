@@ -3,6 +3,7 @@ import random
 from dataclasses import dataclass, field
 from typing import Callable
 
+DEPTH = 100  # the greatest depth at which an object may be put
 DIGITS = [chr(c) for c in range(33, 127)]  # without the blank, in which no position ends
 
 
@@ -55,13 +56,14 @@ class Log:
             shapes.append((self.create("shape", frame, position(i % size), author), frame))
         return page, shapes
 
-    def chain(self, count):
-        """Frames in one another, the last of them under all the others."""
-        page = self.page()
-        frames = [page]
-        for _ in range(count):
-            frames.append(self.create("frame", frames[-1], "O"))
-        return page, frames[1], frames[-1]
+    def chains(self, count):
+        """Chains of frames in one another, each as deep as an object may stand."""
+        page, last = self.page(), None
+        for i in range(count):
+            first = i % (DEPTH - 1) == 0
+            parent, position = (page, pos(i)) if first else (last, "O")
+            last = self.create("frame", parent, position)
+        return page, last
 
 
 def joins(count):
@@ -131,16 +133,16 @@ def half_deletion(count):
     return log
 
 
-def chain(count):
+def chains(count):
     log = Log()
     log.begin()
-    log.chain(count)
+    log.chains(count)
     return log
 
 
 def chain_deletion(count):
     log = Log()
-    page, _, _ = log.chain(count)
+    page, _ = log.chains(count)
     log.begin()
     log.add(f"1 delete {page}")
     log.operations = sum(log.used)
@@ -148,13 +150,31 @@ def chain_deletion(count):
 
 
 def chain_moves(count):
-    """A hundred moves of one shape, to the end of a chain and out again."""
+    """A hundred moves of one shape, to a parent as deep as one may stand and out again."""
     log = Log()
-    page, _, last = log.chain(count)
+    page, _ = log.chains(count)
+    _, last = log.chains(DEPTH - 2)
     shape = log.create("shape", page, "a")
     log.begin()
     for i in range(100):
         log.add(f"1 move {shape} {page if i % 2 else last} a")
+    return log
+
+
+def frame_moves(count, target):
+    """Four hundred moves of one frame with all the shapes, to and fro: among its siblings, to
+    another page, or into its sibling, where it stands a step deeper."""
+    log = Log()
+    page = log.page()
+    frame = log.create("frame", page, "O")
+    parents = {"sibling": page, "page": log.create("page", "0:0", "g"),
+               "deeper": log.create("frame", page, "g")}
+    for i in range(count):
+        log.create("shape", frame, pos(i))
+    log.begin()
+    for i in range(200):
+        log.add(f"1 move {frame} {parents[target]} P")
+        log.add(f"1 move {frame} {page} O")
     return log
 
 
@@ -177,7 +197,13 @@ KINDS = [
     Kind("moveall", "moves among n siblings", lambda n: moves(n, n)),
     Kind("delete", "one deletion of all objects", deletion),
     Kind("deletehalf", "one deletion of the older half", half_deletion),
-    Kind("chain", "creations, each under the last", chain),
-    Kind("chaindelete", "one deletion of such a chain", chain_deletion),
+    Kind("chain", "creations in chains as deep as may be", chains),
+    Kind("chaindelete", "one deletion of such chains", chain_deletion),
     Kind("chainmove", "100 moves to a chain's end or back", chain_moves),
+    Kind("framestay", "moves of a frame of n among its siblings",
+         lambda n: frame_moves(n, "sibling")),
+    Kind("framemove", "moves of a frame of n to another page and back",
+         lambda n: frame_moves(n, "page")),
+    Kind("framedeep", "moves of a frame of n a step deeper and back",
+         lambda n: frame_moves(n, "deeper")),
 ]

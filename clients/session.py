@@ -12,7 +12,7 @@ import websockets
 
 # What is sent, and the messages of its answer.
 SESSION = [
-    (["join", 1], [["welcome", 1]]),
+    (["join", 2], [["welcome", 1]]),
     (["ask", 1, 0], [["entry", 1, [0, 0, "join", ["joined", 1]]], ["idle"]]),
     (["edit", 1, 1, ["create", [1, 1], "page", [[0, 0], "O"]]], [["idle"]]),
     (["edit", 1, 1, ["create", [1, 1], "page", [[0, 0], "O"]]], [["idle"]]),

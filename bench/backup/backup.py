@@ -35,7 +35,7 @@ class Client(threading.Thread):
 
     async def edit(self):
         async with websockets.connect(f"ws://127.0.0.1:{PORT}/", compression=None) as socket:
-            await self.ask(socket, ["join", 1], ["welcome", 1])
+            await self.ask(socket, ["join", 2], ["welcome", 1])
             while not self.stopped:
                 self.sent += 1
                 page = ["create", [1, self.sent], "page", [[0, 0], f"{self.sent:06d}O"]]

@@ -28,7 +28,7 @@ async def edit(acknowledged):
     sent = 0
     try:
         async with websockets.connect(f"ws://127.0.0.1:{PORT}/", compression=None) as socket:
-            client = (await ask(socket, ["join", 1]))[1]
+            client = (await ask(socket, ["join", 2]))[1]
             while True:
                 sent += 1
                 page = ["create", [client, sent], "page", [[0, 0], f"{client:05d}{sent:06d}O"]]

@@ -88,7 +88,7 @@ fn asks(socket: &mut Socket, id: u32, edits: u64) {
 
 fn client(port: u16, edits: u64, alone: bool, start: &Barrier) {
     let mut socket = Socket::connect(port);
-    socket.send("[\"join\",1]");
+    socket.send("[\"join\",2]");
     let welcome = String::from_utf8(socket.receive()).expect("a text");
     let id: u32 = welcome["[\"welcome\",".len()..welcome.len() - 1].parse().expect("an id");
     socket.round(&format!("[\"edit\",{id},1,[\"create\",[{id},1],\"page\",[[0,0],\"{id:06}\"]]]"), b"[\"idle\"]");
