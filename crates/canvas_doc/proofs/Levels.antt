@@ -23,7 +23,7 @@ use Rattle.canvas_doc.proofs.Climbed.{Reaches, short}
 abbrev pub IsLevel : Doc → ℕ → ObjId → List ObjId → Type 0
 IsLevel d n o ids = (q : ObjId) → Contains ids q ↔ LiesBelow d n q o
 
-lone : (o q : ObjId) → Contains (o ∷ []) q → o ≡ q
+pub lone : (o q : ObjId) → Contains (o ∷ []) q → o ≡ q
 lone o q (zero, lt, is) = is
 lone o q (suc k, lt, is) = absurd (omega arith)
 

@@ -25,6 +25,7 @@ use Rattle.canvas_value.proofs.Forms.{both_hold, both_true}
 use Rattle.canvas_forms.specs.Ids.{client_form, id_form}
 use Rattle.canvas_forms.specs.Places.{place_form}
 use Rattle.canvas_forms.specs.Rows.{prop_form, row_form}
+use Rattle.canvas_model.proofs.Tests.{lt_true}
 
 -- a whole number of 64 bits
 abbrev is_whole : Num → Bool
@@ -49,19 +50,16 @@ abbrev mutual
 
 -- ---- a plain JSON tree's text is read as it
 
-below : (m n : ℕ) → nat_lt m n ≡ true → m < n
-below m n e = grind (arith, e)
-
 number_is : (n : Num) → is_whole n ≡ true → IsNumber (number_text n)
-number_is (unsigned n) e = IsNumber-decimal n (below n (2 ^ 64) e)
+number_is (unsigned n) e = IsNumber-decimal n (lt_true n (2 ^ 64) e)
 number_is (negative (pos n)) e = absurd (true≢false (sym e))
-number_is (negative (negsuc n)) e = IsNumber-signed_decimal (negsuc n) (below n (2 ^ 63) e)
+number_is (negative (negsuc n)) e = IsNumber-signed_decimal (negsuc n) (lt_true n (2 ^ 63) e)
 number_is (float x) e = absurd (true≢false (sym e))
 
 number_back : (n : Num) → is_whole n ≡ true → number_of (number_text n) ≡ Some n
-number_back (unsigned n) e = number_of-decimal n (below n (2 ^ 64) e)
+number_back (unsigned n) e = number_of-decimal n (lt_true n (2 ^ 64) e)
 number_back (negative (pos n)) e = absurd (true≢false (sym e))
-number_back (negative (negsuc n)) e = number_of-negative n (below n (2 ^ 63) e)
+number_back (negative (negsuc n)) e = number_of-negative n (lt_true n (2 ^ 63) e)
 number_back (float x) e = absurd (true≢false (sym e))
 
 mutual
