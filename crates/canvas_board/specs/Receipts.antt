@@ -10,5 +10,5 @@ pub record ReceiptValue : Type 0 where
   pub version : ℕ
 
 -- the entry ends the history, at this version
-abbrev pub Stands : Opening → List Mark → Entry → ℕ → Type 0
-Stands o history e version = (before : List Mark) × (history ≡ before ++ Logged e ∷ []) × (version ≡ (board o history).version)
+abbrev pub EndsWith : Opening → List Mark → Entry → ℕ → Type 0
+EndsWith o history e version = (before : List Mark) × (history ≡ before ++ Logged e ∷ []) × (version ≡ (board o history).version)

@@ -1,7 +1,7 @@
 // Receipts.
 ghost use Rattle.std.specs.Prelude.{◌≡◌, ◌+◌};
 ghost use Rattle.canvas_board.specs.Marks.{IsLegal};
-ghost use Rattle.canvas_board.specs.Receipts.{Stands};
+ghost use Rattle.canvas_board.specs.Receipts.{EndsWith};
 
 use crate::{Front, RoomName};
 use canvas_judge::Entry;
@@ -33,17 +33,17 @@ impl<N: RoomName> Model for Receipt<N> {
 
     ghost coded = { Prim.hlevel (codes, value_code) };
 
-    ghost use Rattle.canvas_board.specs.Receipts.{Stands};
+    ghost use Rattle.canvas_board.specs.Receipts.{EndsWith};
 
     ghost view = { λ r. record { history = r.front; entry = r.entry; version = r.version } };
 
-    ghost invariant = { λ r. Stands N.opening r.front r.entry r.version };
+    ghost invariant = { λ r. EndsWith N.opening r.front r.entry r.version };
 }
 
 impl<N: RoomName> Receipt<N> {
     /// The receipt of an entry that ends this history at this version.
     pub fn new(entry: Entry, version: u64, front: Front<N>) -> Receipt<N>
-        requires { Stands N.opening front entry version }
+        requires { EndsWith N.opening front entry version }
         ensures { result ≡ record { history = front; entry = entry; version = version } }
     {
         Receipt {
@@ -63,7 +63,7 @@ impl<N: RoomName> Receipt<N> {
     /// The version before its own.
     pub fn before(&self) -> u64
         ensures version { self.now.version ≡ result + 1 }
-        ensures stands { Stands N.opening self.now.history self.now.entry self.now.version }
+        ensures ends { EndsWith N.opening self.now.history self.now.entry self.now.version }
         ensures legal { IsLegal N.opening self.now.history }
     {
         let _marks = self.front.len();
@@ -80,7 +80,7 @@ impl<N: RoomName> Receipt<N> {
     /// The history that its entry ends.
     pub fn front(&self) -> &Front<N>
         ensures history { result.now ≡ self.now.history }
-        ensures stands { Stands N.opening self.now.history self.now.entry self.now.version }
+        ensures ends { EndsWith N.opening self.now.history self.now.entry self.now.version }
     {
         &self.front
     }

@@ -9,9 +9,11 @@ use Rattle.canvas_model.specs.Change.{Change}
 use Rattle.canvas_model.specs.View.{creates_it}
 use Rattle.canvas_model.specs.Log.{What, Join, Edit, Entry}
 use Rattle.canvas_model.specs.Receive.{IsEdit, IsNextEdit}
-use Rattle.canvas_model.specs.Client.{Client, nth}
+use Rattle.canvas_model.specs.Client.{Client}
+use Rattle.canvas_model.specs.Numbered.{nth}
 use Rattle.std.specs.Option.{unwrap_or}
-use Rattle.canvas_model.specs.Receive.{Message, Sends}
+use Rattle.canvas_model.specs.Messages.{Message}
+use Rattle.canvas_model.specs.Messages as messages
 use Rattle.canvas_model.proofs.Lists.{get_some}
 use Rattle.canvas_model.proofs.Owned.{own-drop}
 use Rattle.canvas_client.specs.Kept.{IsKept}
@@ -96,7 +98,7 @@ next_is client e change first b what there seq same = (λ t. (seq, to (same.0 t)
 
 -- an edit that waits, as a message
 pub message_waits : (client : Client) (i id : ℕ) (change : Change) (message : Message) → IsKept client → 0 < i → i ≤ length client.waiting → id ≡ unwrap_or client.id 0 → change ≡ get_or client.waiting (i - 1) change
-    → message ≡ Sends id (client.acknowledged + i) change → IsWaiting client i message
+    → message ≡ messages.Edit id (client.acknowledged + i) change → IsWaiting client i message
 message_waits client i id change message k least most given there is = go client.id refl
   where
     at : (i : ℕ) → 0 < i → i ≤ length client.waiting → change ≡ get_or client.waiting (i - 1) change → nth client.waiting i ≡ Some change
@@ -113,4 +115,4 @@ message_waits client i id change message k least most given there is = go client
 
     go : (o : Option ℕ) → client.id ≡ o → IsWaiting client i message
     go None e = let l = ap length (k.idle e) in absurd (omega arith)
-    go (Some c) e = let same : id ≡ c = given ∙ ap (λ o. unwrap_or o 0) e in (c, change, e, at i least most there, is ∙ ap (λ n. Sends n (client.acknowledged + i) change) same)
+    go (Some c) e = let same : id ≡ c = given ∙ ap (λ o. unwrap_or o 0) e in (c, change, e, at i least most there, is ∙ ap (λ n. messages.Edit n (client.acknowledged + i) change) same)

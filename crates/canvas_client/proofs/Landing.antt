@@ -1,5 +1,5 @@
 -- Where an object lands at a target.
-use Rattle.std.proofs.Common.{◌≡◌, List, ℕ, length, Option, Some, None, IfSome, IfNone, refl, sym, ap, subst, ◌∙◌}
+use Rattle.std.proofs.Common.{◌≡◌, List, ℕ, length, Option, Some, None, IfSome, IfNone, refl, sym, ap, subst, ◌∙◌, IsSomeAnd}
 use Rattle.std.specs.Ordering.{nat_cmp, ordering_reverse}
 use Rattle.std.specs.Cmp.Lexicographic.{slice_cmp, nat_list_cmp_total}
 use Rattle.std.specs.declared.cmp.Ordering.TheVariants.{Less, Equal, Greater}
@@ -11,13 +11,13 @@ use Rattle.canvas_model.specs.Document.{Doc, Place, Pos}
 use Rattle.canvas_model.specs.Order.{IsBefore}
 use Rattle.canvas_model.specs.Middle.{LiesBetween}
 use Rattle.canvas_model.specs.Sibling.{IsSibling, IsNext}
-use Rattle.canvas_model.specs.Local.{Target, Has, IsPosAfter, Lands}
+use Rattle.canvas_model.specs.Local.{Target, IsPosAfter, Lands}
 
 -- the position of the child that is named, which is one
-pub comes_after : (view : Doc) (parent except q : ObjId) (after : Option ObjId) (r : Option (Bor Pos)) → after ≡ Some q → (Has after (λ a. (pos : List ℕ) → IsSibling view parent except a pos → ⊥) → ⊥)
+pub comes_after : (view : Doc) (parent except q : ObjId) (after : Option ObjId) (r : Option (Bor Pos)) → after ≡ Some q → (IsSomeAnd after (λ a. (pos : List ℕ) → IsSibling view parent except a pos → ⊥) → ⊥)
     → IfSome r (λ pos. IsSibling view parent except q pos.now) → IfNone r ((pos : Pos) → IsSibling view parent except q pos → ⊥) → IsPosAfter view parent except after (option_copied r)
 comes_after view parent except q after (Some pos) is has some none = subst (λ a. IsPosAfter view parent except a (Some pos.now)) (sym is) (pos.now, refl, some)
-comes_after view parent except q after None is has some none = absurd (has (subst (λ a. Has a (λ a. (pos : List ℕ) → IsSibling view parent except a pos → ⊥)) (sym is) none))
+comes_after view parent except q after None is has some none = absurd (has (subst (λ a. IsSomeAnd a (λ a. (pos : List ℕ) → IsSibling view parent except a pos → ⊥)) (sym is) none))
 
 -- positions of which neither is before the other are one
 neither : (a b : Pos) → (IsBefore a b → ⊥) → (IsBefore b a → ⊥) → a ≡ b

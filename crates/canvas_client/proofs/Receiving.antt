@@ -7,7 +7,8 @@ use Rattle.canvas_model.specs.Overlay.{over}
 use Rattle.canvas_model.specs.View.{refreshed}
 use Rattle.canvas_model.specs.Log.{Entry}
 use Rattle.canvas_model.specs.Client.{Client}
-use Rattle.canvas_model.specs.Receive.{Message, Received, NotForMe, after_entry, after_copy, ReceivesBy, Receives, staying}
+use Rattle.canvas_model.specs.Messages.{Message}
+use Rattle.canvas_model.specs.Receive.{Received, NotForMe, after_entry, after_copy, ReceivesBy, Receives, staying}
 use Rattle.canvas_judge.specs.declared.message.DocCopy.{DocCopy}
 use Rattle.canvas_judge.specs.declared.message.Message.{Message as Stored}
 use Rattle.canvas_judge.specs.declared.message.Message.TheVariants as stored

@@ -1,5 +1,5 @@
 -- What contracts see of stored requests and of refusals.
-use Rattle.std.specs.Prelude.{◌≡◌, ℕ, ◌<◌, Option, Some, None}
+use Rattle.std.specs.Prelude.{◌≡◌, ℕ, ◌<◌, Option, Some, None, IsSomeAnd}
 use Rattle.canvas_model.specs.declared.ObjId.{ObjId}
 use Rattle.canvas_model.specs.declared.Kind.{Kind}
 use Rattle.canvas_model.specs.Value.{IsShallow}
@@ -8,7 +8,7 @@ use Rattle.canvas_model.specs.Sibling.{IsSibling}
 use Rattle.canvas_model.specs.Change.{Change}
 use Rattle.canvas_model.specs.Change as change
 use Rattle.canvas_model.specs.Client.{Client}
-use Rattle.canvas_model.specs.Local.{EditRequest, Create, Set, Clear, Move, Delete, Has, Lands, rank, error_number, Blocks, Refuses, Makes, edited}
+use Rattle.canvas_model.specs.Local.{EditRequest, Create, Set, Clear, Move, Delete, Lands, rank, error_number, Blocks, Refuses, Makes, edited}
 use Rattle.canvas_model.specs.Local as local
 use Rattle.canvas_model.specs.Standing.{Stands}
 use Rattle.canvas_client.specs.declared.error.EditError.{EditError}
@@ -64,7 +64,7 @@ IsRefusal client r (Some e) = Refuses client r e
 
 -- the child to come after isn't denied to be another child of that parent
 abbrev pub HasAfter : Doc → ObjId → local.Target → Type 0
-HasAfter view except target = Has target.after (λ after. (pos : Pos) → IsSibling view target.parent except after pos → ⊥) → ⊥
+HasAfter view except target = IsSomeAnd target.after (λ after. (pos : Pos) → IsSibling view target.parent except after pos → ⊥) → ⊥
 
 -- there is no room at the target; want of memory can be met at any
 abbrev pub IsCrowded : Doc → ObjId → local.Target → Option local.EditError → Type 0

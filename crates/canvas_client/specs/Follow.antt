@@ -6,7 +6,8 @@ use Rattle.canvas_model.specs.Change.{Create, Move, Delete}
 use Rattle.canvas_model.specs.Verdict.{Outcome, Created, Moved, Removed, Refused}
 use Rattle.canvas_model.specs.State.{State, IsSound}
 use Rattle.canvas_model.specs.Log.{What, Edit, Entry}
-use Rattle.canvas_model.specs.Receive.{Message, Tells}
+use Rattle.canvas_model.specs.Messages.{Message}
+use Rattle.canvas_model.specs.Messages as messages
 use Rattle.canvas_model.specs.Standing.{HasVerdict}
 
 -- what became of what was asked gives the root no place, and doesn't remove it
@@ -23,7 +24,7 @@ LeavesRoot e = SparesRoot e.what e.outcome
 
 -- a document can follow the message: an entry that is told leaves the root where it is
 abbrev pub CanFollow : Message → Type 0
-CanFollow (Tells v e) = LeavesRoot e
+CanFollow (messages.Entry v e) = LeavesRoot e
 CanFollow _ = Unit {0}
 
 -- an entry whose outcome is a verdict of a sound state leaves the root where it is

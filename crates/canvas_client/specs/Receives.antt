@@ -5,8 +5,11 @@ use Rattle.canvas_model.specs.Change.{Change}
 use Rattle.canvas_model.specs.Overlay.{over}
 use Rattle.canvas_model.specs.State.{State, IsSound}
 use Rattle.canvas_model.specs.Log.{effect}
-use Rattle.canvas_model.specs.Client.{Client, nth}
-use Rattle.canvas_model.specs.Receive.{Message, Sends, Tells, Welcome, Copies, Received, Took, Receives}
+use Rattle.canvas_model.specs.Client.{Client}
+use Rattle.canvas_model.specs.Numbered.{nth}
+use Rattle.canvas_model.specs.Messages.{Message, Welcome}
+use Rattle.canvas_model.specs.Messages as messages
+use Rattle.canvas_model.specs.Receive.{Received, Took, Receives}
 use Rattle.canvas_model.specs.Standing.{Stands, HasVerdict, MeetsOwn}
 use Rattle.canvas_model.specs.Laws.{HasNoneOf}
 
@@ -25,14 +28,14 @@ ReceivesApart old message answer new = (view : Doc) × Receives old message answ
 -- On every document on which the client stood, it stands after a message that it took: after an entry that is a verdict of a sound state
 -- with that document, on the document after it; after an id that has no object there, on the same. After a copy it shows that copy.
 abbrev pub StaysUpright : Client → Message → Received → Client → Type 0
-StaysUpright old (Tells v e) Took new = (s : State) → IsSound s → HasVerdict s e → MeetsOwn old e → Stands old s.doc → Stands new (effect s e).doc
+StaysUpright old (messages.Entry v e) Took new = (s : State) → IsSound s → HasVerdict s e → MeetsOwn old e → Stands old s.doc → Stands new (effect s e).doc
 StaysUpright old (Welcome c) Took new = (d : Doc) → HasNoneOf c d → Stands old d → Stands new d
-StaysUpright old (Copies v n d) Took new = new.view ≡ over d new.waiting
+StaysUpright old (messages.Copy v n d) Took new = new.view ≡ over d new.waiting
 StaysUpright old message answer new = Unit {0}
 
 -- the message sends the i-th edit that waits, under the client's id and the edit's number
 abbrev pub IsWaiting : Client → ℕ → Message → Type 0
-IsWaiting client i message = (c : ℕ) × (change : Change) × (client.id ≡ Some c) × (nth client.waiting i ≡ Some change) × (message ≡ Sends c (client.acknowledged + i) change)
+IsWaiting client i message = (c : ℕ) × (change : Change) × (client.id ≡ Some c) × (nth client.waiting i ≡ Some change) × (message ≡ messages.Edit c (client.acknowledged + i) change)
 
 -- unless the client took the message, nothing has changed
 abbrev pub ChangesOnlyWhereTook : Client → Received → Client → Type 0

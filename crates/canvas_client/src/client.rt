@@ -2,7 +2,9 @@
 ghost use Rattle.std.specs.Prelude.{◌≡◌, ◌↔◌, ℕ, ◌≤◌, ◌<◌, ◌+◌, ◌-◌, true, false, Some, cond, IsTrue, IfOk, OnOk, OnErr, length};
 ghost use Rattle.std.specs.Option.{option_map};
 ghost use Rattle.canvas_model.specs.Client.{last_number, new_client};
-ghost use Rattle.canvas_model.specs.Receive.{Asks, Copies, IsNextEdit, Joins, Receives, Tells, Welcome, after_copy, after_entry};
+ghost use Rattle.canvas_model.specs.Messages.{Welcome};
+ghost use Rattle.canvas_model.specs.Messages as messages;
+ghost use Rattle.canvas_model.specs.Receive.{IsNextEdit, Receives, after_copy, after_entry};
 ghost use Rattle.canvas_judge.specs.Seen.{seen_copy, seen_message};
 ghost use Rattle.canvas_client.specs.Follow.{CanFollow, LeavesRoot};
 ghost use Rattle.canvas_client.specs.Kept.{IsKept};
@@ -108,14 +110,14 @@ impl<A: Allocator> Client<A> {
 
     /// The message with which a node asks for an id.
     pub fn join_message() -> Message<A>
-        ensures { seen_message result ≡ Joins }
+        ensures { seen_message result ≡ messages.Join }
     {
         Message::Join
     }
 
     /// The message with which it asks for what came after its version; none while it has no id.
     pub fn ask_message(&self) -> Option<Message<A>>
-        ensures { option_map seen_message result ≡ option_map (λ client. Asks client self.now.version) self.now.id }
+        ensures { option_map seen_message result ≡ option_map (λ client. messages.Ask client self.now.version) self.now.id }
     {
         let client = self.id?;
         Some(Message::Ask {
@@ -244,8 +246,8 @@ impl<A: Allocator + Copy> Client<A> {
         version: u64,
         entry: &Entry<B>,
     ) -> Result<Received, AllocError>
-        ensures apart { IfOk result (λ answer. ReceivesApart self.old (Tells version entry.now) (seen_received answer) self.new) }
-        ensures receives { IfOk result (λ answer. LeavesRoot entry.now → Receives self.old (Tells version entry.now) (seen_received answer) self.new) }
+        ensures apart { IfOk result (λ answer. ReceivesApart self.old (messages.Entry version entry.now) (seen_received answer) self.new) }
+        ensures receives { IfOk result (λ answer. LeavesRoot entry.now → Receives self.old (messages.Entry version entry.now) (seen_received answer) self.new) }
         ensures unchanged { IfOk result (λ answer. ChangesOnlyWhereTook self.old (seen_received answer) self.new) }
         ensures err { OnErr result (self.new ≡ self.old) }
     {

@@ -1,9 +1,9 @@
 // What speaks against a request in a view, and where what it asks for is to stand.
-ghost use Rattle.std.specs.Prelude.{◌≡◌, ◌↔◌, IsTrue, IfOk, IfErr, IfSome, IfNone, Some, length};
+ghost use Rattle.std.specs.Prelude.{◌≡◌, ◌↔◌, IsTrue, IfOk, IfErr, IfSome, IfNone, Some, length, IsSomeAnd};
 ghost use Rattle.std.specs.Option.{option_copied};
 ghost use Rattle.canvas_model.specs.Chain.{InTree};
 ghost use Rattle.canvas_model.specs.Document as document;
-ghost use Rattle.canvas_model.specs.Local.{ComesAfterNone, GoesBelowItself, GoesTooDeep, Has, IsHidden, IsPosAfter};
+ghost use Rattle.canvas_model.specs.Local.{ComesAfterNone, GoesBelowItself, GoesTooDeep, IsHidden, IsPosAfter};
 ghost use Rattle.canvas_model.specs.Local.{Lands, MovesRoot, kind_asked, target_asked};
 ghost use Rattle.canvas_model.specs.Sibling.{IsSibling};
 ghost use Rattle.canvas_model.specs.Verdict.{MayNotStand};
@@ -50,7 +50,7 @@ pub(crate) fn comes_after_none<A: Allocator, C: Allocator>(
     let Some(after) = target.after else {
         return false;
     };
-    sibling_position(view, target.parent, request.moved(), after).is_none()
+    sibling_position(view, target.parent, request.left_out(), after).is_none()
 }
 
 // Whether the parent isn't in the view's tree.
@@ -58,7 +58,7 @@ pub(crate) fn has_hidden_parent<A: Allocator, C: Allocator>(
     view: &Doc<A>,
     request: &EditRequest<C>,
 ) -> bool
-    ensures { IsTrue result ↔ Has (target_asked request.now) (λ target. InTree view.now target.parent → ⊥) }
+    ensures { IsTrue result ↔ IsSomeAnd (target_asked request.now) (λ target. InTree view.now target.parent → ⊥) }
 {
     match request.target() {
         Some(target) => !is_above(view, ObjId::ROOT, target.parent),
@@ -71,7 +71,7 @@ pub(crate) fn has_bad_parent<A: Allocator, C: Allocator>(
     view: &Doc<A>,
     request: &EditRequest<C>,
 ) -> bool
-    ensures { IsTrue result ↔ Has (target_asked request.now)
+    ensures { IsTrue result ↔ IsSomeAnd (target_asked request.now)
         (λ target. MayNotStand (kind_asked view.now request.now) (document.kind_of view.now target.parent)) }
 {
     match request.target() {

@@ -1,8 +1,8 @@
 // A client's edits of its own.
-ghost use Rattle.std.specs.Prelude.{◌≡◌, ◌≢◌, ◌↔◌, ℕ, ◌+◌, ◌^◌, IsTrue, IfOk, IfErr, IfSome, IfNone, OnOk, OnErr, Some, None};
+ghost use Rattle.std.specs.Prelude.{◌≡◌, ◌≢◌, ◌↔◌, ℕ, ◌+◌, ◌^◌, IsTrue, IfOk, IfErr, IfSome, IfNone, OnOk, OnErr, Some, None, IsSomeAnd};
 ghost use Rattle.canvas_model.specs.Change.{object_of};
 ghost use Rattle.canvas_model.specs.Client.{last_number};
-ghost use Rattle.canvas_model.specs.Local.{Clear, Create, Delete, EditRequest as Asked, Has, Makes, Move, Refuses, Set};
+ghost use Rattle.canvas_model.specs.Local.{Clear, Create, Delete, EditRequest as Asked, Makes, Move, Refuses, Set};
 ghost use Rattle.canvas_model.specs.Local.{counter_after, edited};
 ghost use Rattle.canvas_model.specs.Value.{IsShallow};
 ghost use Rattle.canvas_client.specs.Asked.{HasCreated, HasMade, IsRefusal, NoneBefore, StandsStill};
@@ -46,7 +46,7 @@ impl<A: Allocator> Client<A> {
     // The first refusal that the view gives, apart from depth and want of room.
     fn refusal_shown<C: Allocator>(&self, request: &EditRequest<C>) -> Option<EditError>
         requires { self.now.id ≡ None → ⊥ }
-        ensures some { IfSome result (λ error. Has (refusal error) (Refuses self.now request.now)) }
+        ensures some { IfSome result (λ error. IsSomeAnd (refusal error) (Refuses self.now request.now)) }
         ensures none { IfNone result (NoneBefore self.now request.now 6) }
     {
         if moves_root(request) {

@@ -1,7 +1,7 @@
 // What a client shows and what waits, with the count of their changes.
 ghost use Rattle.std.specs.Prelude.{◌≡◌, ◌≤◌, ◌+◌, [], ◌∷◌, ◌++◌, true, false, IfOk, OnOk, OnErr, cond, drop, length};
 ghost use Rattle.std.specs.List.{list_any};
-ghost use Rattle.canvas_model.specs.Client.{nth};
+ghost use Rattle.canvas_model.specs.Numbered.{nth};
 ghost use Rattle.canvas_model.specs.Document.{blank};
 ghost use Rattle.canvas_model.specs.Ids.{root};
 ghost use Rattle.canvas_model.specs.Overlay.{lay, over};

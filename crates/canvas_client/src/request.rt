@@ -1,7 +1,7 @@
 // What a user asks of a client.
 ghost use Rattle.std.specs.Prelude.{◌≡◌, ◌↔◌, IsTrue, IsOk, IfOk};
 ghost use Rattle.std.specs.Option.{option_map};
-ghost use Rattle.canvas_model.specs.Local.{Clear, Create, Delete, Move, Set, moved, target_asked, subject};
+ghost use Rattle.canvas_model.specs.Local.{Clear, Create, Delete, Move, Set, left_out, target_asked, subject};
 ghost use Rattle.canvas_client.specs.Asked.{HoldsShallow, seen_edit_request, seen_target};
 
 use canvas_doc::{Kind, Name, ObjId, TooDeep, Value};
@@ -241,9 +241,9 @@ impl<A: Allocator> EditRequest<A> {
         }
     }
 
-    // The object that is no sibling of itself: the moved one, and for a new one the root, which is nobody's child.
-    pub(crate) fn moved(&self) -> ObjId
-        ensures { result ≡ moved self.now }
+    // The object that isn't counted among the siblings: the moved one, and for a new one the root, which is nobody's child.
+    pub(crate) fn left_out(&self) -> ObjId
+        ensures { result ≡ left_out self.now }
     {
         match &self.variant {
             EditRequestVariant::Move { id, .. } => *id,

@@ -8,7 +8,7 @@ use Rattle.canvas_tree.specs.Trees.{IsTreeOf}
 use Rattle.canvas_tree.specs.Texts.{tree_text}
 use Rattle.canvas_shelf.specs.Disk.{Segment, seen}
 use Rattle.canvas_journal.specs.Meaning.{Versioned}
-use Rattle.canvas_journal.specs.Found.{Finds, Stands}
+use Rattle.canvas_journal.specs.Found.{Finds, IsState}
 use Rattle.canvas_daemon.specs.declared.fault.Fault.{Fault}
 use Rattle.canvas_daemon.specs.declared.fault.Fault.TheVariants.{Usage, BadLine, Memory, Device, Damaged, TooLarge}
 
@@ -23,7 +23,7 @@ IsReport text = (version : ℕ) × (doc : Doc) × IsReportText version doc text
 
 -- the text of the state that recovery finds on the disk
 abbrev pub IsReportOf : List Segment → List ℕ → Type 0
-IsReportOf disk text = (state : Versioned) × Finds (seen disk) (Stands state) × IsReportText state.1 state.0.doc text
+IsReportOf disk text = (state : Versioned) × Finds (seen disk) (IsState state) × IsReportText state.1 state.0.doc text
 
 -- the text of some version of some document was written
 abbrev pub WritesReport : Option (List ℕ) → Option (List ℕ) → Type 0

@@ -9,8 +9,8 @@ use canvas_journal::Keeper;
 /// each receipt that it had given by then. And all that is found after such crashes is of one legal history, the one that is due; only where
 /// the keeper has failed may entries of the call in which it did stand behind that.
 pub fn found_after_every_crash<K: Keeper, N: RoomName>()
-    ensures history { EachRunHasOneHistory N.opening K.honest K.moment K.left_since K.finds K.stands }
-    ensures seen { EachRunKeepsSeen N.opening K.honest K.moment K.left_since K.finds K.stands }
+    ensures history { EachRunHasOneHistory N.opening K.honest K.moment K.left_since K.finds K.keeps }
+    ensures seen { EachRunKeepsSeen N.opening K.honest K.moment K.left_since K.finds K.keeps }
     ensures receipt { EachReceiptIsDue N.opening }
     ensures receipts { EachOfBatchIsDue N.opening }
 {}

@@ -12,7 +12,7 @@ use Rattle.std.proofs.lemmas.Map.Keys.{Less-from_sorted}
 use Rattle.canvas_model.specs.declared.ObjId.{ObjId}
 use Rattle.canvas_model.specs.Ids.{id_cmp, root}
 use Rattle.canvas_model.specs.Document.{Doc, Place, Pos, place_of}
-use Rattle.canvas_model.specs.Order.{IsAfter}
+use Rattle.canvas_model.specs.Order.{IsLowEnd}
 use Rattle.canvas_model.specs.Sibling.{IsNext, IsSibling}
 use Rattle.canvas_doc.specs.declared.spots.Spot.{Spot}
 use Rattle.canvas_doc.specs.Spots.{AreSpots, IsFirst, Places, new_spot, pos_at, position_at, spot_cmp}
@@ -57,7 +57,7 @@ position_is p q place e = ap (λ (o : Option Place). option_map_or (λ (s : Plac
 module _ (d : Doc) (spots : List Spot) (parent : ObjId) (low : Option Pos) (except : ObjId) where
   -- no spot before the nth is of another child at a position greater than `low`
   abbrev pub Passed : ℕ → Type 0
-  Passed n = (k : ℕ) (x : Spot) → k < n → k < length spots → (get_or spots k x).parent ≡ parent → (get_or spots k x).id ≢ except → IsAfter low (position_at (place_of d) (get_or spots k x).id) → ⊥
+  Passed n = (k : ℕ) (x : Spot) → k < n → k < length spots → (get_or spots k x).parent ≡ parent → (get_or spots k x).id ≢ except → IsLowEnd low (position_at (place_of d) (get_or spots k x).id) → ⊥
 
   -- no spot from the nth on is under a lesser parent
   abbrev pub From : ℕ → Type 0
@@ -65,14 +65,14 @@ module _ (d : Doc) (spots : List Spot) (parent : ObjId) (low : Option Pos) (exce
 
 module _ (d : Doc) (spots : List Spot) (are : AreSpots (place_of d) spots) (parent : ObjId) (low : Option Pos) (except : ObjId) where
   -- one spot more
-  pub passed_more : (n : ℕ) (s : Spot) → Passed d spots parent low except n → ((x : Spot) → get_or spots n x ≡ s) → (s.parent ≡ parent → s.id ≢ except → IsAfter low (position_at (place_of d) s.id) → ⊥) → Passed d spots parent low except (suc n)
+  pub passed_more : (n : ℕ) (s : Spot) → Passed d spots parent low except n → ((x : Spot) → get_or spots n x ≡ s) → (s.parent ≡ parent → s.id ≢ except → IsLowEnd low (position_at (place_of d) s.id) → ⊥) → Passed d spots parent low except (suc n)
   passed_more n s passed is here k x lt inside under other after =
       elim (cases_lt k n) as (λ _. ⊥) [
         | inl before ↦ passed k x before inside under other after
         | inr not_before ↦
             let same : k ≡ n = omega arith in
             let at : get_or spots k x ≡ s = ap (λ k. get_or spots k x) same ∙ is x in
-            here (ap (λ (y : Spot). y.parent) (sym at) ∙ under) (λ e. other (ap (λ (y : Spot). y.id) at ∙ e)) (subst (λ (y : Spot). IsAfter low (position_at (place_of d) y.id)) at after)
+            here (ap (λ (y : Spot). y.parent) (sym at) ∙ under) (λ e. other (ap (λ (y : Spot). y.id) at ∙ e)) (subst (λ (y : Spot). IsLowEnd low (position_at (place_of d) y.id)) at after)
       ]
 
   -- the spot of a sibling
@@ -86,12 +86,12 @@ module _ (d : Doc) (spots : List Spot) (are : AreSpots (place_of d) spots) (pare
   sibling_at q pos sibling = position_is (place_of d) q (record { parent = parent; pos = pos }) sibling.1
 
   -- a sibling greater than `low` isn't before the nth spot
-  not_passed : (n : ℕ) → Passed d spots parent low except n → (q : ObjId) (pos : Pos) (sibling : IsSibling d parent except q pos) → IsAfter low pos → n ≤ (sibling_there q pos sibling).0
+  not_passed : (n : ℕ) → Passed d spots parent low except n → (q : ObjId) (pos : Pos) (sibling : IsSibling d parent except q pos) → IsLowEnd low pos → n ≤ (sibling_there q pos sibling).0
   not_passed n passed q pos sibling after =
       let there = sibling_there q pos sibling in
       elim (cases_lt there.0 n) as (λ _. n ≤ there.0) [
         | inl before ↦ absurd (passed there.0 (own_spot q pos) before there.1 (ap (λ (y : Spot). y.parent) there.2) (λ e. sibling.0 (sym (ap (λ (y : Spot). y.id) there.2) ∙ e))
-            (subst (λ (y : Spot). IsAfter low (position_at (place_of d) y.id)) (sym there.2) (subst (IsAfter low) (sym (sibling_at q pos sibling)) after)))
+            (subst (λ (y : Spot). IsLowEnd low (position_at (place_of d) y.id)) (sym there.2) (subst (IsLowEnd low) (sym (sibling_at q pos sibling)) after)))
         | inr later ↦ omega arith
       ]
 
@@ -120,7 +120,7 @@ module _ (d : Doc) (spots : List Spot) (are : AreSpots (place_of d) spots) (pare
       apart_ids Greater n ne ng = ng refl
 
   -- this is the next one
-  pub next_here : (n : ℕ) (s : Spot) (pos : Pos) → Passed d spots parent low except n → n < length spots → ((x : Spot) → get_or spots n x ≡ s) → s.parent ≡ parent → s.id ≢ except → Some pos ≡ pos_at (place_of d) s.id → IsAfter low pos → IsNext d parent except low (Some pos)
+  pub next_here : (n : ℕ) (s : Spot) (pos : Pos) → Passed d spots parent low except n → n < length spots → ((x : Spot) → get_or spots n x ≡ s) → s.parent ≡ parent → s.id ≢ except → Some pos ≡ pos_at (place_of d) s.id → IsLowEnd low pos → IsNext d parent except low (Some pos)
   next_here n s pos passed lt is under other at after = (
     (s.id, (other, stands)),
     after,

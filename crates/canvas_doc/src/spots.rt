@@ -7,7 +7,7 @@ ghost use Rattle.std.specs.FinMap as map;
 ghost use Rattle.canvas_model.specs.Ids.{id_cmp};
 ghost use Rattle.canvas_model.specs.Children.{AreChildren, parent_of};
 ghost use Rattle.canvas_model.specs.Document.{place_of};
-ghost use Rattle.canvas_model.specs.Order.{IsAfter};
+ghost use Rattle.canvas_model.specs.Order.{IsLowEnd};
 ghost use Rattle.canvas_model.specs.Sibling.{IsNext};
 ghost use Rattle.canvas_pos.specs.Digits.{first_digits};
 ghost use Rattle.canvas_doc.specs.Known.{HasObjects};
@@ -304,7 +304,7 @@ pub fn next_of<'a, A: Allocator, B: Allocator>(
 
 // Whether the position is greater than this one, if there is one.
 fn is_after<A: Allocator, B: Allocator>(pos: &Pos<A>, after: Option<&Pos<B>>) -> bool
-    ensures { IsTrue result ↔ IsAfter (option_copied after.entry) pos.now }
+    ensures { IsTrue result ↔ IsLowEnd (option_copied after.entry) pos.now }
 {
     match after {
         Some(low) => low.compare(pos) == Ordering::Less,

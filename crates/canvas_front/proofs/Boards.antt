@@ -3,7 +3,8 @@ use Rattle.std.proofs.Common.{◌≡◌, ◌⊎◌, ℕ, zero, suc, ◌+◌, ◌
 use Rattle.std.specs.Prelude.{is_some, nat_lt}
 use mathlib.Core.List.{IsPrefix}
 use Rattle.canvas_model.specs.declared.Counts.{Counts}
-use Rattle.canvas_model.specs.State.{counts, joined}
+use Rattle.canvas_model.specs.State.{joined}
+use Rattle.canvas_model.specs.Numbered.{nth}
 use Rattle.canvas_model.specs.Log.{Edit, Entry, Join, What, change_at, change_counts, clients_after, last_version}
 use Rattle.canvas_model.proofs.Tests.{lt_false}
 use Rattle.canvas_server.specs.Served.{Served, tail_of}
@@ -26,12 +27,12 @@ some_changed (x ∷ xs) zero (suc i) f = refl
 some_changed (x ∷ xs) (suc a) zero f = refl
 some_changed (x ∷ xs) (suc a) (suc i) f = some_changed xs a i f
 
-counts_changed : (xs : List Counts) (a c : ℕ) (f : Counts → Counts) → is_some (counts (change_counts xs a f) c) ≡ is_some (counts xs c)
+counts_changed : (xs : List Counts) (a c : ℕ) (f : Counts → Counts) → is_some (nth (change_counts xs a f) c) ≡ is_some (nth xs c)
 counts_changed xs zero c f = refl
 counts_changed xs (suc a) zero f = refl
 counts_changed xs (suc a) (suc i) f = some_changed xs a i f
 
-counts_after : (xs : List Counts) (e : Entry) (w : What) (c : ℕ) → is_some (counts xs c) ≡ true → is_some (counts (clients_after xs e w) c) ≡ true
+counts_after : (xs : List Counts) (e : Entry) (w : What) (c : ℕ) → is_some (nth xs c) ≡ true → is_some (nth (clients_after xs e w) c) ≡ true
 counts_after xs e Join zero h = h
 counts_after xs e Join (suc i) h = some_front xs _ i h
 counts_after xs e (Edit change) c h = counts_changed xs e.author c _ ∙ h

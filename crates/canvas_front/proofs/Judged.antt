@@ -3,7 +3,7 @@ use Rattle.std.proofs.Common.{◌≡◌, ◌⊎◌, List, [], ◌∷◌, ◌++�
 use Rattle.std.proofs.lemmas.List.{append-nil}
 use mathlib.Core.List.{IsPrefix}
 use Rattle.canvas_model.specs.Log.{Entry, What}
-use Rattle.canvas_model.specs.Receive.{Message}
+use Rattle.canvas_model.specs.Messages.{Message}
 use Rattle.canvas_server.specs.Asked.{Asked}
 use Rattle.canvas_board.specs.Marks.{Logged, Mark, Opening, board}
 use Rattle.canvas_board.specs.Receipts.{ReceiptValue}
@@ -22,18 +22,18 @@ ends_rest (x ∷ xs) p (y ∷ before) m is = ends_rest xs p before m (cc is)
 
 -- the entry of a receipt stands in each later history beyond what was seen
 since_of : (o : Opening) (old new : List Mark) (q : Asked) (r : ReceiptValue) → IsTold o old q r → IsPrefix r.history new → IsSince old new r.entry
-since_of o old new q r told later = ⊎_elim nothing something (ends_rest old pre.0 before (Logged r.entry) (pre.1 ∙ told.stands.1))
+since_of o old new q r told later = ⊎_elim nothing something (ends_rest old pre.0 before (Logged r.entry) (pre.1 ∙ told.ends.1))
   where
     pre : IsPrefix old r.history
     pre = told.sees.0
 
     before : List Mark
-    before = told.stands.0
+    before = told.ends.0
 
     nothing : pre.0 ≡ [] → IsSince old new r.entry
     nothing none =
         let same : old ≡ r.history = sym (append-nil old) ∙ (ap (λ (p : List Mark). old ++ p) (sym none) ∙ pre.1) in
-        let version : (board o old).version ≡ r.version = ap (λ (h : List Mark). (board o h).version) same ∙ sym told.stands.2 in
+        let version : (board o old).version ≡ r.version = ap (λ (h : List Mark). (board o h).version) same ∙ sym told.ends.2 in
         let above = told.above in
         absurd (omega (arith, version, above))
 

@@ -5,7 +5,7 @@ use Rattle.std.specs.Option.{option_map}
 use Rattle.canvas_model.proofs.Tests.{lt_false, lt_true}
 use Rattle.canvas_model.specs.State.{joined}
 use Rattle.canvas_model.specs.Log.{Entry}
-use Rattle.canvas_model.specs.Receive.{Message, Idle}
+use Rattle.canvas_model.specs.Messages.{Message, Idle}
 use Rattle.canvas_judge.specs.declared.message.DocCopy.{DocCopy}
 use Rattle.canvas_judge.specs.Seen.{seen_copy}
 use Rattle.canvas_server.specs.Served.{Served, tail_of}

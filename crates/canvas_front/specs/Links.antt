@@ -1,6 +1,6 @@
 -- What a round over a link to a seat gives.
 use Rattle.std.specs.Prelude.{List, [], ◌∷◌}
-use Rattle.canvas_model.specs.Receive.{Message, No}
+use Rattle.canvas_model.specs.Messages.{Message, No}
 use Rattle.canvas_board.specs.Marks.{Mark, Opening}
 use Rattle.canvas_nodes.specs.Answers.{refused}
 use Rattle.canvas_nodes.specs.declared.link.LinkError.{LinkError}

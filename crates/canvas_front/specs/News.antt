@@ -2,17 +2,18 @@
 use Rattle.std.specs.Prelude.{ℕ, ◌+◌, List, [], ◌∷◌, Option, Some, None}
 use Rattle.canvas_model.specs.State.{done}
 use Rattle.canvas_model.specs.Log.{Entry}
-use Rattle.canvas_model.specs.Receive.{Message, Tells, Copies}
+use Rattle.canvas_model.specs.Messages.{Message}
+use Rattle.canvas_model.specs.Messages as messages
 use Rattle.canvas_server.specs.Served.{Served, tail_of}
 
 -- the entries, told in their order, the first with the version after this one
 abbrev pub tells : ℕ → List Entry → List Message
 tells from [] = []
-tells from (e ∷ es) = Tells (from + 1) e ∷ tells (from + 1) es
+tells from (e ∷ es) = messages.Entry (from + 1) e ∷ tells (from + 1) es
 
 -- the board's copy for a client
 abbrev pub copies : Served → ℕ → Message
-copies b client = Copies b.version (done b.state client) b.state.doc
+copies b client = messages.Copy b.version (done b.state client) b.state.doc
 
 -- these entries are told, or, where there are none, the board's copy
 abbrev pub tells_or_copies : Served → ℕ → ℕ → Option (List Entry) → List Message

@@ -3,7 +3,8 @@ use Rattle.std.specs.Prelude.{◌≡◌, ◌⊎◌, ℕ, true, false, List, [], 
 use Rattle.canvas_model.specs.State.{joined}
 use Rattle.canvas_model.specs.Log.{What, Join, Edit, Entry}
 use Rattle.canvas_model.specs.Verdict.{Outcome, Joined}
-use Rattle.canvas_model.specs.Receive.{Message, Joins, Welcome, Sends, Asks, Idle, No}
+use Rattle.canvas_model.specs.Messages.{Message, Welcome, Idle, No}
+use Rattle.canvas_model.specs.Messages as messages
 use Rattle.canvas_judge.specs.declared.message.NoReason.TheVariants as no
 use Rattle.canvas_judge.specs.Reasons.{number_of}
 use Rattle.canvas_server.specs.Asked.{Asked}
@@ -88,9 +89,9 @@ AnswersAsk b client from answer =
 
 -- what is answered a message, and what has been seen then: by the kind of the message
 abbrev pub IsAnswerTo : Opening → List Mark → Message → List Message → List Mark → Type 0
-IsAnswerTo o old Joins answer new = AnswersRequest o (record { author = 0; seq = 0; what = Join }) old answer new
-IsAnswerTo o old (Sends client seq change) answer new = AnswersRequest o (record { author = client; seq = seq; what = Edit change }) old answer new
-IsAnswerTo o old (Asks client version) answer new = AnswersAsk (board o new) client version answer
+IsAnswerTo o old messages.Join answer new = AnswersRequest o (record { author = 0; seq = 0; what = Join }) old answer new
+IsAnswerTo o old (messages.Edit client seq change) answer new = AnswersRequest o (record { author = client; seq = seq; what = Edit change }) old answer new
+IsAnswerTo o old (messages.Ask client version) answer new = AnswersAsk (board o new) client version answer
 IsAnswerTo o old _ answer new = (answer ≡ refused no.NotRead) × (new ≡ old)
 
 -- an answer by the table, and no more was seen than goes on from what was

@@ -1,6 +1,6 @@
 // What is answered an Ask.
 ghost use Rattle.std.specs.Prelude.{◌≡◌, ◌+◌, ◌<◌, ◌^◌, ◌++◌, ◌∷◌, [], IfErr, IfOk, length, map};
-ghost use Rattle.canvas_model.specs.Receive.{Idle};
+ghost use Rattle.canvas_model.specs.Messages.{Idle};
 ghost use Rattle.canvas_judge.specs.Seen.{seen_copy, seen_message};
 ghost use Rattle.canvas_board.specs.Marks.{Sees, board};
 ghost use Rattle.canvas_front.specs.News.{tells};

@@ -1,7 +1,7 @@
 // Messages between nodes and the server.
 ghost use Rattle.std.specs.Prelude.{◌≡◌, ◌↔◌, ℕ, IfOk, IfSome, IfNone, IsTrue};
 ghost use Rattle.canvas_model.specs.Change as change;
-ghost use Rattle.canvas_model.specs.Receive.{Sends};
+ghost use Rattle.canvas_model.specs.Messages as messages;
 ghost use Rattle.canvas_judge.specs.Reasons.{number_of};
 ghost use Rattle.canvas_judge.specs.Seen.{seen_copy, seen_message};
 
@@ -215,8 +215,8 @@ impl<A: Allocator> Message<A> {
 
     /// The client, the number and the change of an Edit. None of any other message.
     pub fn into_edit(self) -> Option<(u32, u64, Change<A>)>
-        ensures some { IfSome result (λ edit. seen_message self ≡ Sends edit.0 edit.1 edit.2) }
-        ensures none { IfNone result ((client seq : ℕ) (change : change.Change) → seen_message self ≡ Sends client seq change → ⊥) }
+        ensures some { IfSome result (λ edit. seen_message self ≡ messages.Edit edit.0 edit.1 edit.2) }
+        ensures none { IfNone result ((client seq : ℕ) (change : change.Change) → seen_message self ≡ messages.Edit client seq change → ⊥) }
     {
         match self {
             Message::Edit {

@@ -10,6 +10,7 @@ ghost use Rattle.canvas_model.specs.Document.{IsDocument};
 ghost use Rattle.canvas_model.specs.Sibling.{IsTaken};
 ghost use Rattle.canvas_model.specs.State.{IsSound};
 ghost use Rattle.canvas_model.specs.State as state;
+ghost use Rattle.canvas_model.specs.Numbered.{nth};
 ghost use Rattle.canvas_judge.specs.Sound.{IsSoundAt, MayStandAt};
 
 use crate::chains::below;
@@ -89,14 +90,14 @@ fn may_stand_at<A: Allocator>(doc: &Doc<A>, kind: Kind, place: &Place<A>) -> boo
 
 // Whether the id is the root's, or its counter is one that its client has used.
 fn has_used(clients: &[Counts], id: ObjId) -> bool
-    ensures { IsTrue result ↔ (id ≢ root → id.counter ≤ unwrap_or (option_map (λ k. k.used) (state.counts clients.now id.client)) 0) }
+    ensures { IsTrue result ↔ (id ≢ root → id.counter ≤ unwrap_or (option_map (λ k. k.used) (nth clients.now id.client)) 0) }
 {
     id == ObjId::ROOT || id.counter <= counts_of(clients, id.client).map_or(0, |counts| counts.used)
 }
 
 /// The counts of a client that has joined.
 pub(crate) fn counts_of(clients: &[Counts], client: u32) -> Option<&Counts>
-    ensures { option_copied result ≡ state.counts clients.now client }
+    ensures { option_copied result ≡ nth clients.now client }
 {
     if client == 0 {
         None

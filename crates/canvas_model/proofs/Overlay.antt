@@ -9,7 +9,7 @@ use Rattle.canvas_model.specs.declared.Kind.{Kind}
 use Rattle.canvas_model.specs.Document.{Object, Doc, Place, live, revise}
 use Rattle.canvas_model.specs.Change.{Change, Create, Set, Move, Delete, object_of}
 use Rattle.canvas_model.specs.Overlay.{laid, is_idle, lay, over}
-use Rattle.canvas_model.specs.Client.{nth}
+use Rattle.canvas_model.specs.Numbered.{nth}
 use Rattle.canvas_model.specs.Good.{IsCreation}
 use Rattle.canvas_model.proofs.Ids.{same_id_true, get-revise}
 

@@ -1,5 +1,5 @@
 -- A client: what it shows, and which of its edits still wait for the server.
-use Rattle.std.specs.Prelude.{◌≡◌, ℕ, zero, suc, ◌+◌, List, [], length, Option, None, slice_get}
+use Rattle.std.specs.Prelude.{◌≡◌, ℕ, ◌+◌, List, [], length, Option, None}
 use Rattle.canvas_model.specs.Document.{Doc, blank}
 use Rattle.canvas_model.specs.Change.{Change}
 
@@ -19,11 +19,6 @@ new_client = record { id = None; counter = 0; version = 0; acknowledged = 0; wai
 -- the number of its last edit
 abbrev pub last_number : Client → ℕ
 last_number client = client.acknowledged + length client.waiting
-
--- the element of this number, counted from 1
-abbrev pub nth : {X : Type 0} → List X → ℕ → Option X
-nth xs zero = None
-nth xs (suc i) = slice_get xs i
 
 -- the answer is the wanted one, and the new thing is what was made
 abbrev pub Yields : {A X : Type 0} → A → X → A → X → Type 0

@@ -9,8 +9,10 @@ use Rattle.canvas_model.specs.Overlay.{over}
 use Rattle.canvas_model.specs.State.{State, opening, done, used, IsSound}
 use Rattle.canvas_model.specs.Log.{What, Edit, Entry, IsLegal, at_version}
 use Rattle.canvas_model.specs.Verdict.{Joined}
-use Rattle.canvas_model.specs.Client.{nth}
-use Rattle.canvas_model.specs.Receive.{Message, Joins, Welcome, Sends, Asks, Tells, Copies, Idle, No, is_own, IsEdit}
+use Rattle.canvas_model.specs.Numbered.{nth}
+use Rattle.canvas_model.specs.Messages.{Message, Welcome, Idle, No}
+use Rattle.canvas_model.specs.Messages as messages
+use Rattle.canvas_model.specs.Receive.{is_own, IsEdit}
 use Rattle.canvas_model.specs.World.{Letter, Node, World, state, node}
 
 -- node k is n, and holds the id c
@@ -35,12 +37,12 @@ WasGiven log askers published k c = (v : ℕ) × (v ≤ published) × Gave log a
 
 -- the message to this node is true
 abbrev pub IsTrueOf : World → ℕ → Message → Type 0
-IsTrueOf w to Joins = Unit {0}
+IsTrueOf w to messages.Join = Unit {0}
 IsTrueOf w to (Welcome c) = WasGiven w.log w.askers w.published to c
-IsTrueOf w to (Sends c n change) = (k : ℕ) × (holder : Node) × HoldsId w.nodes k c holder × (nth holder.edits n ≡ Some change)
-IsTrueOf w to (Asks c v) = Unit {0}
-IsTrueOf w to (Tells v e) = (v ≤ w.published) × (nth w.log v ≡ Some e)
-IsTrueOf w to (Copies v n d) = (c : ℕ) × (holder : Node) × HoldsId w.nodes to c holder × (v ≤ w.published) × (d ≡ (at_version w.log v).doc) × (n ≡ done (at_version w.log v) c)
+IsTrueOf w to (messages.Edit c n change) = (k : ℕ) × (holder : Node) × HoldsId w.nodes k c holder × (nth holder.edits n ≡ Some change)
+IsTrueOf w to (messages.Ask c v) = Unit {0}
+IsTrueOf w to (messages.Entry v e) = (v ≤ w.published) × (nth w.log v ≡ Some e)
+IsTrueOf w to (messages.Copy v n d) = (c : ℕ) × (holder : Node) × HoldsId w.nodes to c holder × (v ≤ w.published) × (d ≡ (at_version w.log v).doc) × (n ≡ done (at_version w.log v) c)
 IsTrueOf w to Idle = Unit {0}
 IsTrueOf w to (No reason) = Unit {0}
 

@@ -9,9 +9,12 @@ use Rattle.canvas_model.specs.Overlay.{over}
 use Rattle.canvas_model.specs.State.{State, opening, IsSound, joined, done}
 use Rattle.canvas_model.specs.Log.{Entry, What, Edit, Fits, FitsSome, IsLegal, effect, at_version}
 use Rattle.canvas_model.specs.Verdict.{Outcome, Created, Moved}
-use Rattle.canvas_model.specs.Client.{Client, nth}
+use Rattle.canvas_model.specs.Client.{Client}
+use Rattle.canvas_model.specs.Numbered.{nth}
 use Rattle.canvas_model.specs.Local.{EditRequest, Makes, edited}
-use Rattle.canvas_model.specs.Receive.{Message, Welcome, Tells, Copies, Received, Took, is_own, IsEdit, Receives, after_entry, after_copy}
+use Rattle.canvas_model.specs.Messages.{Message, Welcome}
+use Rattle.canvas_model.specs.Messages as messages
+use Rattle.canvas_model.specs.Receive.{Received, Took, is_own, IsEdit, Receives, after_entry, after_copy}
 use Rattle.canvas_model.specs.Standing.{Stands, OwnsWaiting, HasVerdict, MeetsOwn}
 use Rattle.canvas_model.specs.World.{Node, World, state, node, Event, Answer, Step, Run, empty}
 use Rattle.canvas_model.specs.Good.{HoldsId, unacknowledged, IsTrueOf, IsGood}
@@ -50,7 +53,7 @@ EachDoneIsWithin = (log : List Entry) → IsLegal opening log → (v c : ℕ) �
 -- it stands on the document after the entry.
 abbrev pub EachEntryStands : Type 0
 EachEntryStands = (s : State) (old new : Client) (v : ℕ) (e : Entry) → IsSound s → HasVerdict s e → OwnsWaiting old → MeetsOwn old e
-    → Stands old s.doc → Receives old (Tells v e) Took new → Stands new (effect s e).doc
+    → Stands old s.doc → Receives old (messages.Entry v e) Took new → Stands new (effect s e).doc
 
 -- For every document on which the client stands: it stands there after an edit of its own.
 abbrev pub EachEditStands : Type 0
@@ -67,7 +70,7 @@ EachWelcomeStands = (d : Doc) (old new : Client) (c : ℕ) → Stands old d → 
 
 -- when a client takes a copy, its view is the copy with the edits that stay laid over it
 abbrev pub EachCopyShows : Type 0
-EachCopyShows = (d : Doc) (old new : Client) (v n : ℕ) → Receives old (Copies v n d) Took new → new.view ≡ over d new.waiting
+EachCopyShows = (d : Doc) (old new : Client) (v n : ℕ) → Receives old (messages.Copy v n d) Took new → new.view ≡ over d new.waiting
 
 -- whatever reaches a client with an id, the objects that its waiting edits create stay its own
 abbrev pub EachMessageLeavesOwn : Type 0
@@ -116,8 +119,8 @@ NodesFollow w = (k c : ℕ) (n : Node) → HoldsId w.nodes k c n → (e : Entry)
 -- the next true entry, and each true copy of a later version, is taken
 abbrev pub NodesTakeTruth : World → Type 0
 NodesTakeTruth w = (k c : ℕ) (n : Node) → HoldsId w.nodes k c n
-    → ((e : Entry) → IsTrueOf w k (Tells (n.client.version + 1) e) → Receives n.client (Tells (n.client.version + 1) e) Took (after_entry (is_own c e) n.client (n.client.version + 1) e))
-    × ((v d : ℕ) (copy : Doc) → IsTrueOf w k (Copies v d copy) → n.client.version < v → Receives n.client (Copies v d copy) Took (after_copy n.client v d copy))
+    → ((e : Entry) → IsTrueOf w k (messages.Entry (n.client.version + 1) e) → Receives n.client (messages.Entry (n.client.version + 1) e) Took (after_entry (is_own c e) n.client (n.client.version + 1) e))
+    × ((v d : ℕ) (copy : Doc) → IsTrueOf w k (messages.Copy v d copy) → n.client.version < v → Receives n.client (messages.Copy v d copy) Took (after_copy n.client v d copy))
 
 -- each entry of the log is a verdict of some sound state
 abbrev pub EntriesAreVerdicts : World → Type 0
@@ -135,17 +138,23 @@ NodesAgree w = (k j : ℕ) (n m : Node) → node w k ≡ Some n → node w j ≡
 abbrev pub HasNoCycle : World → Type 0
 HasNoCycle w = (q : ObjId) → IsCycle (state w).doc q → ⊥
 
--- the entry of version v is the i-th edit of this node, of id c, and no other entry is
-pub record StandsOnce (w : World) (c : ℕ) (n : Node) (i v : ℕ) : Type 0 where
+-- The i-th edit of the node is in the published log under the node's id, among the entries that the node has reached, and no other
+-- entry has that author and number.
+pub record IsLoggedOnce (w : World) (n : Node) (i : ℕ) : Type 0 where
+  pub id : ℕ
+  pub holds : n.client.id ≡ Some id
+  pub change : Change
+  pub edit : nth n.edits i ≡ Some change
+  pub version : ℕ
+  pub published : version ≤ w.published
+  pub reached : version ≤ n.client.version
   pub entry : Entry
-  pub published : v ≤ w.published
-  pub reached : v ≤ n.client.version
-  pub stands : nth w.log v ≡ Some entry
-  pub author : entry.author ≡ c
+  pub logged : nth w.log version ≡ Some entry
+  pub author : entry.author ≡ id
   pub number : entry.seq ≡ i
-  pub what : IsEdit entry.what (nth n.edits i)
-  pub once : (u : ℕ) (other : Entry) → nth w.log u ≡ Some other → other.author ≡ c → other.seq ≡ i → u ≡ v
+  pub what : entry.what ≡ Edit change
+  pub once : (v : ℕ) (e : Entry) → nth w.log v ≡ Some e → e.author ≡ id → e.seq ≡ i → v ≡ version
 
--- each acknowledged edit stands in the log exactly once, in the published part
+-- each acknowledged edit is in the log exactly once, in the published part
 abbrev pub KeepsAcknowledged : World → Type 0
-KeepsAcknowledged w = (k c i : ℕ) (n : Node) → HoldsId w.nodes k c n → 0 < i → i ≤ n.client.acknowledged → (v : ℕ) × StandsOnce w c n i v
+KeepsAcknowledged w = (k i : ℕ) (n : Node) → node w k ≡ Some n → 0 < i → i ≤ n.client.acknowledged → IsLoggedOnce w n i

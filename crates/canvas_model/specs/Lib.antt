@@ -1,3 +1,4 @@
+pub mod Numbered
 pub mod Position
 pub mod Middle
 pub mod Order
@@ -18,6 +19,7 @@ pub mod Log
 pub mod Client
 pub mod Local
 pub mod View
+pub mod Messages
 pub mod Receive
 pub mod Standing
 pub mod World

@@ -1,5 +1,5 @@
 -- A client's own edits: which it refuses and why, and what change it makes of the others.
-use Rattle.std.specs.Prelude.{◌≡◌, ◌⊎◌, ℕ, ◌+◌, ◌^◌, ◌<◌, [], ◌∷◌, ◌++◌, Option, Some, None}
+use Rattle.std.specs.Prelude.{◌≡◌, ◌⊎◌, ℕ, ◌+◌, ◌^◌, ◌<◌, [], ◌∷◌, ◌++◌, Option, Some, None, IsSomeAnd}
 use Rattle.canvas_model.specs.declared.ObjId.{ObjId}
 use Rattle.canvas_model.specs.declared.Kind.{Kind}
 use Rattle.canvas_model.specs.Ids.{root}
@@ -86,15 +86,10 @@ kind_asked view (Create kind target) = Some kind
 kind_asked view (Move id target) = kind_of view id
 kind_asked view _ = None
 
--- the object that is no sibling of itself: the moved one, and for a new one the root, which is nobody's child
-abbrev pub moved : EditRequest → ObjId
-moved (Move id target) = id
-moved _ = root
-
--- there is one, and P is true of it
-abbrev pub Has : {X : Type 0} → Option X → (X → Type 0) → Type 0
-Has None P = ⊥
-Has (Some x) P = P x
+-- the object that isn't counted among the siblings: the moved one, and for a new one the root, which is nobody's child
+abbrev pub left_out : EditRequest → ObjId
+left_out (Move id target) = id
+left_out _ = root
 
 -- the request moves or deletes the root
 abbrev pub MovesRoot : EditRequest → Type 0
@@ -104,11 +99,11 @@ MovesRoot _ = ⊥
 
 -- the named object isn't in the view's tree
 abbrev pub IsHidden : Doc → EditRequest → Type 0
-IsHidden view r = Has (subject r) (λ id. InTree view id → ⊥)
+IsHidden view r = IsSomeAnd (subject r) (λ id. InTree view id → ⊥)
 
 -- the child to come after is no other child of that parent
 abbrev pub ComesAfterNone : Doc → EditRequest → Type 0
-ComesAfterNone view r = Has (target_asked r) (λ target. Has target.after (λ after. (pos : Pos) → IsSibling view target.parent (moved r) after pos → ⊥))
+ComesAfterNone view r = IsSomeAnd (target_asked r) (λ target. IsSomeAnd target.after (λ after. (pos : Pos) → IsSibling view target.parent (left_out r) after pos → ⊥))
 
 -- the new parent is the moved object or lies below it
 abbrev pub GoesBelowItself : Doc → EditRequest → Type 0
@@ -140,11 +135,11 @@ abbrev pub Blocks : Client → EditRequest → EditError → Type 0
 Blocks client r NotOpen = client.id ≡ None
 Blocks client r IsRoot = MovesRoot r
 Blocks client r NotShown = IsHidden client.view r ⊎ ComesAfterNone client.view r
-Blocks client r ParentNotShown = Has (target_asked r) (λ target. InTree client.view target.parent → ⊥)
-Blocks client r BadParent = Has (target_asked r) (λ target. MayNotStand (kind_asked client.view r) (kind_of client.view target.parent))
+Blocks client r ParentNotShown = IsSomeAnd (target_asked r) (λ target. InTree client.view target.parent → ⊥)
+Blocks client r BadParent = IsSomeAnd (target_asked r) (λ target. MayNotStand (kind_asked client.view r) (kind_of client.view target.parent))
 Blocks client r OwnDescendant = GoesBelowItself client.view r
 Blocks client r TooDeep = GoesTooDeep client.view r
-Blocks client r Crowded = Has (target_asked r) (λ target. Lands client.view (moved r) target None)
+Blocks client r Crowded = IsSomeAnd (target_asked r) (λ target. Lands client.view (left_out r) target None)
 Blocks client r IdsSpent = IsCreate r × (client.counter ≡ 4294967295)
 Blocks client r Full = last_number client ≡ 2 ^ 62
 

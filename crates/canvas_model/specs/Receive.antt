@@ -1,30 +1,14 @@
--- Messages, and what a client does with each: from its own data and the message alone.
+-- What a client does with each message: from its own data and the message alone.
 use Rattle.std.specs.Prelude.{◌≡◌, ◌⊎◌, ◌||◌, ◌==◌, ℕ, ◌+◌, ◌-◌, Bool, true, false, cond, List, drop, Option, Some, None, nat_lt, nat_le}
 use Rattle.canvas_model.specs.Document.{Doc}
 use Rattle.canvas_model.specs.Change.{Change}
 use Rattle.canvas_model.specs.Overlay.{over}
 use Rattle.canvas_model.specs.Log.{What, Join, Edit, Entry}
 use Rattle.canvas_model.specs.View.{refreshed}
-use Rattle.canvas_model.specs.Client.{Client, last_number, nth, Yields}
-
--- what a node and the server send each other
-pub data Message : Type 0 where
-  -- a node asks for an id
-  Joins : Message
-  -- the server gives an id
-  Welcome : ℕ → Message
-  -- a client's edit: its id, the edit's number, and the change
-  Sends : ℕ → ℕ → Change → Message
-  -- a client, at a version, asks for what came after
-  Asks : ℕ → ℕ → Message
-  -- the entry of this version
-  Tells : ℕ → Entry → Message
-  -- a version, the number of the client's last edit judged by then, and the document there
-  Copies : ℕ → ℕ → Doc → Message
-  -- there is no more
-  Idle : Message
-  -- what was asked is refused, with a number that says why
-  No : ℕ → Message
+use Rattle.canvas_model.specs.Messages as messages
+use Rattle.canvas_model.specs.Messages.{Message, Welcome}
+use Rattle.canvas_model.specs.Client.{Client, last_number, Yields}
+use Rattle.canvas_model.specs.Numbered.{nth}
 
 -- a client's answer to a message
 pub data Received : Type 0 where
@@ -88,11 +72,11 @@ ReceivesNext false old v e answer new = Yields Took (after_entry false old v e) 
 -- a message that reaches a client with id c
 abbrev pub ReceivesWith : ℕ → Client → Message → Received → Client → Type 0
 ReceivesWith c old (Welcome other) answer new = Yields Old old answer new
-ReceivesWith c old (Tells v e) answer new =
+ReceivesWith c old (messages.Entry v e) answer new =
     cond (nat_le v old.version) (Yields Old old answer new)
     (cond (nat_lt (old.version + 1) v) (Yields Ahead old answer new)
     (ReceivesNext (is_own c e) old v e answer new))
-ReceivesWith c old (Copies v n copy) answer new =
+ReceivesWith c old (messages.Copy v n copy) answer new =
     cond (nat_le v old.version) (Yields Old old answer new)
     (cond (nat_lt n old.acknowledged || nat_lt (last_number old) n) (Yields NotForMe old answer new)
     (Yields Took (after_copy old v n copy) answer new))

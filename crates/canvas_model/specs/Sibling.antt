@@ -2,7 +2,7 @@
 use Rattle.std.specs.Prelude.{◌≡◌, ◌≢◌, ◌⊎◌, Option, Some, None}
 use Rattle.canvas_model.specs.declared.ObjId.{ObjId}
 use Rattle.canvas_model.specs.Position.{IsPosition}
-use Rattle.canvas_model.specs.Order.{IsBefore, IsAfter}
+use Rattle.canvas_model.specs.Order.{IsBefore, IsLowEnd}
 use Rattle.canvas_model.specs.Document.{Doc, Place, Pos, place_of}
 
 -- q is a child of this parent other than `except`, at this position
@@ -27,5 +27,5 @@ HasNoRoom d id ask = IsTaken d ask.parent id ask.pos × ((pos : Pos) → IsFree 
 
 -- the least position of another child that is greater than this one (or of all, at none), if there is one
 abbrev pub IsNext : Doc → ObjId → ObjId → Option Pos → Option Pos → Type 0
-IsNext d parent except low None = (q : ObjId) (other : Pos) → IsSibling d parent except q other → IsAfter low other → ⊥
-IsNext d parent except low (Some pos) = IsTaken d parent except pos × IsAfter low pos × ((q : ObjId) (other : Pos) → IsSibling d parent except q other → IsAfter low other → IsBefore other pos → ⊥)
+IsNext d parent except low None = (q : ObjId) (other : Pos) → IsSibling d parent except q other → IsLowEnd low other → ⊥
+IsNext d parent except low (Some pos) = IsTaken d parent except pos × IsLowEnd low pos × ((q : ObjId) (other : Pos) → IsSibling d parent except q other → IsLowEnd low other → IsBefore other pos → ⊥)

@@ -1,5 +1,5 @@
 -- What the server may answer a change: the first reason against it, or what it grants.
-use Rattle.std.specs.Prelude.{◌≡◌, ◌≢◌, ◌⊎◌, ℕ, ◌≤◌, ◌<◌, false, Option, Some, None, List}
+use Rattle.std.specs.Prelude.{◌≡◌, ◌≢◌, ◌⊎◌, ℕ, ◌≤◌, ◌<◌, false, Option, Some, None, IsSomeAnd, List}
 use Rattle.canvas_model.specs.declared.ObjId.{ObjId}
 use Rattle.canvas_model.specs.declared.Kind.{Kind}
 use Rattle.canvas_model.specs.declared.Reason.{Reason}
@@ -98,21 +98,16 @@ IsTooDeep d (Move id _) place = MovesTooDeep d id place.parent
 IsTooDeep d (Set id name value) place = ⊥
 IsTooDeep d (Delete id) place = ⊥
 
--- there is an asked place, of which P is true
-abbrev pub AtPlace : Option Place → (Place → Type 0) → Type 0
-AtPlace None P = ⊥
-AtPlace (Some place) P = P place
-
 -- by this rule the reason holds, whether or not an earlier one does
 abbrev pub Holds : Rule → State → ℕ → Change → Reason → Type 0
 Holds rule s author change IsRoot = IsOfRoot change
 Holds rule s author change BadId = IsMisnamed s author change
 Holds rule s author change Gone = IsMissing s.doc change
-Holds rule s author change ParentGone = AtPlace (asked change) (λ place. live s.doc place.parent ≡ false)
-Holds rule s author change BadParent = AtPlace (asked change) (λ place. MayNotStand (kind_at s.doc change) (kind_of s.doc place.parent))
-Holds rule s author change Cycle = AtPlace (asked change) (IsCircular s.doc change)
-Holds rule s author change Crowded = AtPlace (asked change) (HasNoRoom s.doc (object_of change))
-Holds rule s author change TooDeep = LimitsDepth rule × AtPlace (asked change) (IsTooDeep s.doc change)
+Holds rule s author change ParentGone = IsSomeAnd (asked change) (λ place. live s.doc place.parent ≡ false)
+Holds rule s author change BadParent = IsSomeAnd (asked change) (λ place. MayNotStand (kind_at s.doc change) (kind_of s.doc place.parent))
+Holds rule s author change Cycle = IsSomeAnd (asked change) (IsCircular s.doc change)
+Holds rule s author change Crowded = IsSomeAnd (asked change) (HasNoRoom s.doc (object_of change))
+Holds rule s author change TooDeep = LimitsDepth rule × IsSomeAnd (asked change) (IsTooDeep s.doc change)
 
 -- by this rule no reason of a lower rank than n holds
 abbrev pub NoneBefore : Rule → State → ℕ → Change → ℕ → Type 0

@@ -1,12 +1,15 @@
 -- All nodes, the server and every message ever sent, and what one event does to them.
-use Rattle.std.specs.Prelude.{◌≡◌, ◌⊎◌, ◌&&◌, ◌||◌, ◌==◌, ℕ, zero, suc, ◌+◌, Bool, not, cond, List, [], ◌∷◌, ◌++◌, length, take, Option, Some, None, is_some, nat_lt, nat_le}
+use Rattle.std.specs.Prelude.{◌≡◌, ◌⊎◌, ◌&&◌, ◌||◌, ◌==◌, ℕ, zero, suc, ◌+◌, Bool, not, cond, List, [], ◌∷◌, ◌++◌, length, take, Option, Some, None, is_some, nat_lt, nat_le, slice_set}
 use Rattle.canvas_model.specs.Change.{Change}
 use Rattle.canvas_model.specs.State.{State, opening, joined, done, next}
 use Rattle.canvas_model.specs.Log.{What, Join, Edit, Entry, Fits, fold, last_version}
 use Rattle.canvas_model.specs.Verdict.{Outcome, Joined}
-use Rattle.canvas_model.specs.Client.{Client, new_client, last_number, nth, Yields}
+use Rattle.canvas_model.specs.Client.{Client, new_client, last_number, Yields}
+use Rattle.canvas_model.specs.Numbered.{nth}
 use Rattle.canvas_model.specs.Local.{EditRequest, EditError, Refuses, Makes, edited}
-use Rattle.canvas_model.specs.Receive.{Message, Joins, Welcome, Sends, Tells, Copies, Received, Receives}
+use Rattle.canvas_model.specs.Messages.{Message, Welcome}
+use Rattle.canvas_model.specs.Messages as messages
+use Rattle.canvas_model.specs.Receive.{Received, Receives}
 
 -- a message that was sent, by whom and to whom: 0 is the server
 pub record Letter : Type 0 where
@@ -97,16 +100,10 @@ posted w letter = record w { letters = w.letters ++ letter ∷ [] }
 abbrev pub Posts : World → Letter → Answer → World → Type 0
 Posts old letter answer new = Yields (MessageIs (length old.letters + 1)) (posted old letter) answer new
 
--- the node at this index is now this one
-abbrev pub put_at : List Node → ℕ → Node → List Node
-put_at [] i n = []
-put_at (x ∷ xs) zero n = n ∷ xs
-put_at (x ∷ xs) (suc i) n = x ∷ put_at xs i n
-
 -- node k is now this one
 abbrev pub put_node : World → ℕ → Node → World
 put_node w zero n = w
-put_node w (suc i) n = record w { nodes = put_at w.nodes i n }
+put_node w (suc i) n = record w { nodes = slice_set w.nodes i n }
 
 -- an event that needs what isn't there can't happen
 abbrev pub At : {X : Type 0} → Option X → World → Answer → World → (X → Type 0) → Type 0
@@ -144,8 +141,8 @@ is_full w (Edit change) = length w.log == last_version
 
 -- the server takes a message of this node: only an edit that is its author's next is judged
 abbrev pub Takes : World → ℕ → Message → Answer → World → Type 0
-Takes old from Joins answer new = cond (is_full old Join) (Yields FullServer old answer new) (Appends old 0 0 Join from answer new)
-Takes old from (Sends c n change) answer new =
+Takes old from messages.Join answer new = cond (is_full old Join) (Yields FullServer old answer new) (Appends old 0 0 Join from answer new)
+Takes old from (messages.Edit c n change) answer new =
     cond (not (joined (state old) c)) (Yields Stranger old answer new)
     (cond (nat_le n (done (state old) c)) (Yields Repeat old answer new)
     (cond (nat_lt (done (state old) c + 1) n) (Yields Gap old answer new)
@@ -171,11 +168,11 @@ restarted w n = record w { log = take n w.log; askers = take n w.askers; floor =
 abbrev pub Step : World → Event → Answer → World → Type 0
 Step old AddNode answer new = Yields (NodeIs (length old.nodes + 1)) (record old { nodes = old.nodes ++ new_node ∷ [] }) answer new
 Step old (AskJoin k) answer new =
-    At (node old k) old answer new (λ n. If (not (is_some n.client.id)) old answer new (Posts old (record { from = k; to = 0; message = Joins }) answer new))
+    At (node old k) old answer new (λ n. If (not (is_some n.client.id)) old answer new (Posts old (record { from = k; to = 0; message = messages.Join }) answer new))
 Step old (MakeEdit k request) answer new = At (node old k) old answer new (λ n. Edits old k n request answer new)
 Step old (Send k i) answer new =
     At (node old k) old answer new (λ n. At n.client.id old answer new (λ c. At (nth n.client.waiting i) old answer new (λ change.
-    Posts old (record { from = k; to = 0; message = Sends c (n.client.acknowledged + i) change }) answer new)))
+    Posts old (record { from = k; to = 0; message = messages.Edit c (n.client.acknowledged + i) change }) answer new)))
 Step old (Take m) answer new =
     At (nth old.letters m) old answer new (λ letter. If (letter.to == 0) old answer new (Takes old letter.from letter.message answer new))
 Step old Sync answer new = Yields (SyncedIs (length old.log)) (record old { synced = length old.log }) answer new
@@ -185,10 +182,10 @@ Step old (SendWelcome v) answer new =
     Posts old (record { from = 0; to = k; message = Welcome c }) answer new))))
 Step old (Tell v k) answer new =
     At (node old k) old answer new (λ n. If (nat_lt old.floor v && nat_le v old.published) old answer new (At (nth old.log v) old answer new (λ e.
-    Posts old (record { from = 0; to = k; message = Tells v e }) answer new)))
+    Posts old (record { from = 0; to = k; message = messages.Entry v e }) answer new)))
 Step old (Copy k) answer new =
     At (node old k) old answer new (λ n. At n.client.id old answer new (λ c. If (old.published == length old.log) old answer new (
-    Posts old (record { from = 0; to = k; message = Copies (length old.log) (done (state old) c) (state old).doc }) answer new)))
+    Posts old (record { from = 0; to = k; message = messages.Copy (length old.log) (done (state old) c) (state old).doc }) answer new)))
 Step old (Deliver m) answer new =
     At (nth old.letters m) old answer new (λ letter. At (node old letter.to) old answer new (λ n. Delivers old letter.to n letter.message answer new))
 Step old Checkpoint answer new = If (old.published == length old.log) old answer new (Yields (FloorIs (length old.log)) (record old { floor = length old.log }) answer new)

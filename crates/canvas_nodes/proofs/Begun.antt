@@ -2,7 +2,7 @@
 use Rattle.std.proofs.Common.{◌≡◌, ◌∷◌, ◌++◌, List, [], Bool, true, false, refl, map, ap, sym, ◌∙◌, subst}
 use Rattle.std.specs.Prelude.{◌↔◌, IsTrue}
 use Rattle.std.proofs.lemmas.List.{map-append}
-use Rattle.canvas_model.specs.Receive.{Message}
+use Rattle.canvas_model.specs.Messages.{Message}
 use Rattle.canvas_nodes.specs.Answers.{IsEnd, IsAnswer, IsBegun, Extends}
 
 ends : (ms : List Message) (m : Message) → IsBegun ms → IsEnd m → IsAnswer (ms ++ m ∷ [])

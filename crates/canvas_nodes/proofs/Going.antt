@@ -5,8 +5,11 @@ use mathlib.Core.Logic.{inl, inr}
 use Rattle.std.proofs.lemmas.List.{length-drop}
 use Rattle.canvas_model.specs.Document.{Doc}
 use Rattle.canvas_model.specs.Log.{Join, Edit, Entry}
-use Rattle.canvas_model.specs.Client.{Client, last_number, nth, Yields}
-use Rattle.canvas_model.specs.Receive.{Message, Joins, Welcome, Sends, Asks, Tells, Copies, Idle, No, Received, Took, Old, Ahead, NotForMe, IsEdit, IsNextEdit, ReceivesBy, ReceivesNext, is_own, welcomed, after_entry, after_copy}
+use Rattle.canvas_model.specs.Client.{Client, last_number, Yields}
+use Rattle.canvas_model.specs.Numbered.{nth}
+use Rattle.canvas_model.specs.Messages.{Message, Welcome, Idle, No}
+use Rattle.canvas_model.specs.Messages as messages
+use Rattle.canvas_model.specs.Receive.{Received, Took, Old, Ahead, NotForMe, IsEdit, IsNextEdit, ReceivesBy, ReceivesNext, is_own, welcomed, after_entry, after_copy}
 use Rattle.canvas_model.proofs.Lists.{drop-drop, nth-within}
 use Rattle.canvas_model.proofs.Tests.{le_false, lt_false}
 use Rattle.canvas_client.specs.Receives.{ReceivesApart, showing}
@@ -103,19 +106,19 @@ module _ (old : Client) where
 
     by_id : (id : Option ℕ) (m : Message) → old.id ≡ id → ReceivesBy id old m answer (showing view new) → GoesOn old new
     by_id None (Welcome c) is y = shown new (welcomed old c) view y.1 (goes_by_welcome c is)
-    by_id None Joins is y = none NotForMe y
-    by_id None (Sends k n change) is y = none NotForMe y
-    by_id None (Asks k v) is y = none NotForMe y
-    by_id None (Tells v e) is y = none NotForMe y
-    by_id None (Copies v n d) is y = none NotForMe y
+    by_id None messages.Join is y = none NotForMe y
+    by_id None (messages.Edit k n change) is y = none NotForMe y
+    by_id None (messages.Ask k v) is y = none NotForMe y
+    by_id None (messages.Entry v e) is y = none NotForMe y
+    by_id None (messages.Copy v n d) is y = none NotForMe y
     by_id None Idle is y = none NotForMe y
     by_id None (No reason) is y = none NotForMe y
     by_id (Some c) (Welcome other) is y = none Old y
-    by_id (Some c) Joins is y = none NotForMe y
-    by_id (Some c) (Sends k n change) is y = none NotForMe y
-    by_id (Some c) (Asks k v) is y = none NotForMe y
-    by_id (Some c) (Tells v e) is y = entry c v e (nat_le v old.version) (nat_lt (old.version + 1) v) refl refl y
-    by_id (Some c) (Copies v n d) is y = copy v n d (nat_le v old.version) (nat_lt n old.acknowledged) (nat_lt (last_number old) n) refl refl refl y
+    by_id (Some c) messages.Join is y = none NotForMe y
+    by_id (Some c) (messages.Edit k n change) is y = none NotForMe y
+    by_id (Some c) (messages.Ask k v) is y = none NotForMe y
+    by_id (Some c) (messages.Entry v e) is y = entry c v e (nat_le v old.version) (nat_lt (old.version + 1) v) refl refl y
+    by_id (Some c) (messages.Copy v n d) is y = copy v n d (nat_le v old.version) (nat_lt n old.acknowledged) (nat_lt (last_number old) n) refl refl refl y
     by_id (Some c) Idle is y = none NotForMe y
     by_id (Some c) (No reason) is y = none NotForMe y
 

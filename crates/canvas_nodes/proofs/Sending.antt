@@ -5,7 +5,7 @@ use Rattle.std.proofs.lemmas.List.{map-append, take_more}
 use Rattle.tungstenite.specs.Connection.{write_step}
 use Rattle.tungstenite.specs.Content.{Content, binary}
 use Rattle.tungstenite.specs.Socket.{Socket, Writes, Flushed}
-use Rattle.canvas_model.specs.Receive.{Message}
+use Rattle.canvas_model.specs.Messages.{Message}
 use Rattle.canvas_nodes.specs.Served.{WritesEach, SendsAnswer, Handles, Turns, GoesThrough}
 use Rattle.canvas_judge.specs.declared.message.NoReason.TheVariants.{Memory}
 use Rattle.canvas_nodes.specs.Answers.{AreTexts, Replies, refused}

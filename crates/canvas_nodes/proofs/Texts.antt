@@ -1,7 +1,7 @@
 -- Texts of messages, one after the other.
 use Rattle.std.proofs.Common.{◌≡◌, ℕ, ◌+◌, ◌<◌, List, [], ◌∷◌, ◌++◌, length, get_or, map, take, ap, sym, ◌∙◌, subst}
 use Rattle.std.proofs.lemmas.List.{map-append, take_more}
-use Rattle.canvas_model.specs.Receive.{Message}
+use Rattle.canvas_model.specs.Messages.{Message}
 use Rattle.canvas_wire.specs.Text.{EncodesMessage}
 use Rattle.canvas_nodes.specs.Answers.{AreTexts}
 

@@ -1,6 +1,6 @@
 -- Bytes that aren't asked.
 use Rattle.std.proofs.Common.{◌≡◌, ℕ, List, sym, subst}
-use Rattle.canvas_model.specs.Receive.{Message}
+use Rattle.canvas_model.specs.Messages.{Message}
 use Rattle.canvas_judge.specs.declared.message.NoReason.{NoReason}
 use Rattle.canvas_wire.specs.Text.{SpellsMessage}
 use Rattle.canvas_wire.specs.declared.fault.WireError.{WireError}

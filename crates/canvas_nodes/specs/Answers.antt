@@ -1,6 +1,7 @@
 -- What a client asks, and which answers there are.
 use Rattle.std.specs.Prelude.{◌≡◌, ◌⊎◌, ℕ, Bool, true, false, List, [], ◌∷◌}
-use Rattle.canvas_model.specs.Receive.{Message, Joins, Welcome, Sends, Asks, Idle, No}
+use Rattle.canvas_model.specs.Messages.{Message, Welcome, Idle, No}
+use Rattle.canvas_model.specs.Messages as messages
 use Rattle.canvas_judge.specs.declared.message.NoReason.{NoReason}
 use Rattle.canvas_judge.specs.declared.message.NoReason.TheVariants.{Memory, NotRead}
 use Rattle.canvas_judge.specs.Reasons.{number_of}
@@ -10,9 +11,9 @@ use Rattle.canvas_wire.specs.Text.{SpellsMessage, EncodesMessage}
 
 -- a client sends such messages
 abbrev pub IsAsked : Message → Type 0
-IsAsked Joins = Unit {0}
-IsAsked (Sends client seq change) = Unit {0}
-IsAsked (Asks client version) = Unit {0}
+IsAsked messages.Join = Unit {0}
+IsAsked (messages.Edit client seq change) = Unit {0}
+IsAsked (messages.Ask client version) = Unit {0}
 IsAsked _ = ⊥
 
 -- the bytes are a text of this message, and a client sends such messages

@@ -4,7 +4,7 @@ use Rattle.tungstenite.specs.Connection.{write_step}
 use Rattle.tungstenite.specs.Content.{Content, text, binary, ping, pong, close}
 use Rattle.tungstenite.specs.Socket.{Socket, Writes, Flushed, Reads, content_of}
 use Rattle.tungstenite.specs.declared.message.Message.{Message as Frame}
-use Rattle.canvas_model.specs.Receive.{Message}
+use Rattle.canvas_model.specs.Messages.{Message}
 use Rattle.canvas_judge.specs.declared.message.NoReason.TheVariants.{Memory, NotRead}
 use Rattle.canvas_nodes.specs.Answers.{AreTexts, Replies, refused}
 

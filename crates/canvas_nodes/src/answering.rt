@@ -11,10 +11,10 @@ use std::alloc::{AllocError, Global};
 /// What answers a client's messages.
 pub trait Answerer {
     ghost use Rattle.std.specs.Prelude.{List};
-    ghost use Rattle.canvas_model.specs.Receive as receive;
+    ghost use Rattle.canvas_model.specs.Messages as messages;
 
     /// What it may answer a message, and how it may stand afterwards.
-    ghost gives: { Self → receive.Message → List receive.Message → Self → Type 0 };
+    ghost gives: { Self → messages.Message → List messages.Message → Self → Type 0 };
 
     /// The messages that answer a Join, an edit or an Ask, in order. The last is a Welcome, an Idle or a No, and no other.
     ///

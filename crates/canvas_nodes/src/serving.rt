@@ -1,7 +1,7 @@
 // A server's side of a connection.
 ghost use Rattle.std.specs.Prelude.{List, IfOk, OnOk, map};
 ghost use Rattle.tungstenite.specs.Socket.{content_of};
-ghost use Rattle.canvas_model.specs.Receive as receive;
+ghost use Rattle.canvas_model.specs.Messages as messages;
 ghost use Rattle.canvas_judge.specs.Seen.{seen_message};
 ghost use Rattle.canvas_nodes.specs.Answers.{Replies, refused};
 ghost use Rattle.canvas_nodes.specs.Served.{Handles, SendsAnswer, Serves, Turns, WritesEach};
@@ -82,7 +82,7 @@ fn answer_bytes<A: Answerer, S: Read + Write + Drop>(
     socket: &mut WebSocket<S, NoMask>,
     bytes: &[u8],
 ) -> Result<(), Error>
-    ensures { OnOk result ((answer : List receive.Message) × Replies A.gives answerer.old bytes.now answer answerer.new × SendsAnswer S.contents socket.old answer socket.new) }
+    ensures { OnOk result ((answer : List messages.Message) × Replies A.gives answerer.old bytes.now answer answerer.new × SendsAnswer S.contents socket.old answer socket.new) }
 {
     let answer = reply(alloc, answerer, bytes)?;
     send(alloc, socket, &answer)

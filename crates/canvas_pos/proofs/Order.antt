@@ -9,7 +9,7 @@ use Rattle.std.specs.Cmp.{ranks}
 use Rattle.std.specs.Cmp.Lexicographic.{slice_cmp}
 use Rattle.canvas_model.specs.Position.{IsDigitByte, IsPosition, IsSmaller, num}
 use Rattle.canvas_model.specs.Middle.{AreInOrder, IsInside}
-use Rattle.canvas_model.specs.Order.{IsBefore, IsAfter, IsUnder, AreApart, FitsBetween}
+use Rattle.canvas_model.specs.Order.{IsBefore, IsLowEnd, IsHighEnd, AreApart, FitsBetween}
 use Rattle.canvas_pos.specs.Ends.{IsEnd}
 use Rattle.canvas_pos.proofs.Numbers.{num-add, num-cons, num-empty, num-below, num-past, digits-tail}
 use Rattle.canvas_pos.proofs.EndsLemmas.{digits-drop, num-pos, power-pos}
@@ -98,11 +98,11 @@ pub before-smaller : (s t : List ℕ) → IsPosition s → IsPosition t → IsBe
 before-smaller s t p q = (smaller-from_cmp s t p q, cmp-from_smaller s t p q)
 
 -- the same for an end that may be missing
-after-above : (lo : Option (List ℕ)) (p : List ℕ) → IsEnd lo → IsPosition p → IsAfter lo p ↔ AreInOrder lo (Some p)
+after-above : (lo : Option (List ℕ)) (p : List ℕ) → IsEnd lo → IsPosition p → IsLowEnd lo p ↔ AreInOrder lo (Some p)
 after-above None p e h = (λ _. tt, λ _. tt)
 after-above (Some s) p e h = before-smaller s p e h
 
-under-below : (p : List ℕ) (hi : Option (List ℕ)) → IsPosition p → IsEnd hi → IsUnder hi p ↔ AreInOrder (Some p) hi
+under-below : (p : List ℕ) (hi : Option (List ℕ)) → IsPosition p → IsEnd hi → IsHighEnd hi p ↔ AreInOrder (Some p) hi
 under-below p None h f = (λ _. tt, λ _. tt)
 under-below p (Some t) h f = before-smaller p t h f
 

@@ -52,7 +52,7 @@ told_next o q e seen due due' v pre at is more legal =
     let less = version_before (start o) seen due pre in
     record {
       answers = answers_of (board o due).state q e is.next;
-      stands = stands_next o due next e (v + 1) refl (ap (λ n. n + 1) at);
+      ends = stands_next o due next e (v + 1) refl (ap (λ n. n + 1) at);
       sees = (prefix_trans seen due next pre (Logged e ∷ [], refl), legal_before o next due' more legal);
       above = omega (arith, less, at);
     }

@@ -12,7 +12,7 @@ use Rattle.canvas_server.specs.Served.{Served}
 use Rattle.canvas_server.specs.declared.taking.TakeError.TheVariants as take
 use Rattle.canvas_server.specs.declared.taking.Took.TheVariants as took
 use Rattle.canvas_board.specs.Marks.{IsLegal, Logged, Mark, Opening, board, start}
-use Rattle.canvas_board.specs.Receipts.{ReceiptValue, Stands}
+use Rattle.canvas_board.specs.Receipts.{ReceiptValue, EndsWith}
 use Rattle.canvas_board.proofs.Boards.{version_before}
 use Rattle.canvas_board.proofs.Fronts.{prefix_self, prefix_trans}
 use Rattle.canvas_desk.specs.declared.faults.SubmitError.{SubmitError}
@@ -38,19 +38,19 @@ answers_of s q e n = record {
 
 told_of : (o : Opening) (seen shown old new due' : List Mark) (failed failed' : Bool) (q : Asked) (result : Result ReceiptValue SubmitError) → IsPrefix seen shown → IfOk result (λ _. IsPrefix shown old)
     → IfOk result (IsPublished o q old new due' failed failed')
-    → IfOk result (λ r. Stands o r.history r.entry r.version × IsLegal o r.history)
+    → IfOk result (λ r. EndsWith o r.history r.entry r.version × IsLegal o r.history)
     → IfOk result (λ r. IsTold o seen q r)
-told_of o seen shown old new due' failed failed' q (Ok r) pre more ok stands =
+told_of o seen shown old new due' failed failed' q (Ok r) pre more ok ends =
     let longer : IsPrefix old r.history = (Logged r.entry ∷ [], sym (ok.history_is ∙ ok.more)) in
     let pre' = prefix_trans seen shown old pre more in
     let less = version_before (start o) seen old pre' in
     record {
       answers = answers_of (board o old).state q r.entry ok.entry_is.next;
-      stands = stands.0;
-      sees = (prefix_trans seen old r.history pre' longer, stands.1);
+      ends = ends.0;
+      sees = (prefix_trans seen old r.history pre' longer, ends.1);
       above = omega (arith, less, ok.version_is);
     }
-told_of o seen shown old new due' failed failed' q (Err e) pre more ok stands = tt
+told_of o seen shown old new due' failed failed' q (Err e) pre more ok ends = tt
 
 -- ---- refusals
 
@@ -125,10 +125,10 @@ refusal_of o q TooLarge seen shown shown' due due' front failed failed' pre l s 
 
 -- what the desk says is an answer to the seat
 pub answer_to : (o : Opening) (q : Asked) (a : Result ReceiptValue SubmitError) (seen shown shown' due due' front : List Mark) (failed failed' : Bool) → IsPrefix seen shown → IfOk a (λ _. IsPrefix shown due)
-    → IfOk a (IsPublished o q due shown' due' failed failed') → IfOk a (λ r. Stands o r.history r.entry r.version × IsLegal o r.history)
+    → IfOk a (IsPublished o q due shown' due' failed failed') → IfOk a (λ r. EndsWith o r.history r.entry r.version × IsLegal o r.history)
     → IfErr a (λ e. LeavesAt o q e due due' failed failed') → IfErr a (λ e. SettlesAt e shown shown' due') → Learns a seen shown' front → IsLegal o front → IsAnswerTo o seen q a front
-answer_to o q (Ok r) seen shown shown' due due' front failed failed' pre more ok stands l s k legal = (told_of o seen shown due shown' due' failed failed' q (Ok r) pre more ok stands, k)
-answer_to o q (Err e) seen shown shown' due due' front failed failed' pre more ok stands l s k legal = (refuses_edit o q e due due' failed failed' l, refusal_of o q e seen shown shown' due due' front failed failed' pre l s k legal)
+answer_to o q (Ok r) seen shown shown' due due' front failed failed' pre more ok ends l s k legal = (told_of o seen shown due shown' due' failed failed' q (Ok r) pre more ok ends, k)
+answer_to o q (Err e) seen shown shown' due due' front failed failed' pre more ok ends l s k legal = (refuses_edit o q e due due' failed failed' l, refusal_of o q e seen shown shown' due due' front failed failed' pre l s k legal)
 
 -- the seat has seen more than what it was to learn
 refused_more : (o : Opening) (q : Asked) (e : SubmitError) (old front new : List Mark) → IsPrefix front new → IsLegal o new → IsRefusedAt o old front q e → IsRefusedAt o old new q e

@@ -5,7 +5,7 @@ use Rattle.canvas_model.specs.Log.{What, Join, Edit, Entry}
 use Rattle.canvas_model.specs.Verdict.{Joined, Outcome}
 use Rattle.canvas_server.specs.Asked.{Asked}
 use Rattle.canvas_board.specs.Marks.{IsLegal, Mark, Opening, Sees, board}
-use Rattle.canvas_board.specs.Receipts.{ReceiptValue, Stands}
+use Rattle.canvas_board.specs.Receipts.{ReceiptValue, EndsWith}
 use Rattle.canvas_desk.specs.declared.faults.SubmitError.{SubmitError}
 use Rattle.canvas_desk.specs.declared.faults.SubmitError.TheVariants.{Stranger, Repeat, Gap, Full, Device, Failed, Memory, TooLarge}
 use Rattle.canvas_desk.specs.Judging.{Refuses}
@@ -30,7 +30,7 @@ pub record Answers (q : Asked) (e : Entry) : Type 0 where
 -- The entry answers the request, and ends a legal history that begins with what was seen, above every version that was seen.
 pub record IsTold (o : Opening) (seen : List Mark) (q : Asked) (r : ReceiptValue) : Type 0 where
   pub answers : Answers q r.entry
-  pub stands : Stands o r.history r.entry r.version
+  pub ends : EndsWith o r.history r.entry r.version
   pub sees : Sees o seen r.history
   pub above : (board o seen).version < r.version
 

@@ -69,7 +69,7 @@ impl<K: Keeper> Model for BlankRoom<K> {
 
     ghost view = { λ b. record { keeper = b.keeper; opening = b.opening; book = b.blank.seen.book; seats = b.seats } };
 
-    ghost invariant = { λ b. (0 < b.seats) × (b.seats ≤ 64) × (b.opening.version ≤ last_version) × (K.failed b.keeper ≡ false) × (IsTrue (K.honest b.keeper) → IsKeptAt (K.stands b.keeper) K.finds (K.left_since b.keeper (K.moment b.keeper)) (b.opening.state, b.opening.version)) };
+    ghost invariant = { λ b. (0 < b.seats) × (b.seats ≤ 64) × (b.opening.version ≤ last_version) × (K.failed b.keeper ≡ false) × (IsTrue (K.honest b.keeper) → IsKeptAt (K.keeps b.keeper) K.finds (K.left_since b.keeper (K.moment b.keeper)) (b.opening.state, b.opening.version)) };
 }
 
 /// A room of so many seats over a keeper that stands at what the room opens with. SeatCount where they aren't 1 to 64, and then the
@@ -82,7 +82,7 @@ pub fn blank_room<K: Keeper>(
 ) -> Result<BlankRoom<K>, (K, RoomError)>
     requires few { opening.version ≤ last_version }
     requires alive { K.failed keeper ≡ false }
-    requires kept { IsTrue (K.honest keeper) → IsKeptAt (K.stands keeper) K.finds (K.left_since keeper (K.moment keeper)) (opening.state, opening.version) }
+    requires kept { IsTrue (K.honest keeper) → IsKeptAt (K.keeps keeper) K.finds (K.left_since keeper (K.moment keeper)) (opening.state, opening.version) }
     ensures blank { IfOk result (λ b. (b.keeper ≡ keeper) × (b.opening ≡ opening) × (b.seats ≡ seats)) }
     ensures back { IfErr result (λ e. (e.0 ≡ keeper) × (e.1 ≡ RoomError.SeatCount) × ((seats ≡ 0) ⊎ (64 < seats))) }
 {

@@ -8,7 +8,7 @@ use Rattle.std.proofs.lemmas.List.Folds.{list_any_at}
 use Rattle.std.proofs.lemmas.List.Quantifiers.{position-Some}
 use Rattle.std.proofs.lemmas.Option.{slice_get-map, slice_get-get_or, slice_get_within, get_or_from_slice_get}
 use Rattle.std.proofs.lemmas.Slice.Eq.{bytes_eq-Decides}
-use Rattle.canvas_model.specs.Client.{nth}
+use Rattle.canvas_model.specs.Numbered.{nth}
 use Rattle.canvas_model.proofs.Lists.{get-append_inv}
 use Rattle.canvas_script.specs.Names.{IsNodeName, IsNumber, AreNames, is_used, used}
 

@@ -1,7 +1,7 @@
 -- The names of nodes, and the numbers that a script gives them.
 use Rattle.std.specs.Prelude.{◌≡◌, ◌≢◌, ℕ, ◌<◌, ◌≤◌, ◌&&◌, ◌||◌, nat_le, Bool, true, List, [], ◌∷◌, ◌++◌, length, codes, bytes_eq, Some, if◌then◌else◌}
 use Rattle.std.specs.List.{list_all, list_any}
-use Rattle.canvas_model.specs.Client.{nth}
+use Rattle.canvas_model.specs.Numbered.{nth}
 
 -- one of `a` to `z`, or a digit
 abbrev pub is_node_byte : ℕ → Bool

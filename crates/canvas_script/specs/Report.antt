@@ -1,7 +1,8 @@
 -- The blocks of a world, and its report.
 use Rattle.std.specs.Prelude.{◌≡◌, ℕ, zero, suc, List, [], ◌++◌, codes, length, Option, None, Some}
 use Rattle.std.specs.Fmt.{decimal}
-use Rattle.canvas_model.specs.Client.{Client, nth}
+use Rattle.canvas_model.specs.Client.{Client}
+use Rattle.canvas_model.specs.Numbered.{nth}
 use Rattle.canvas_model.specs.World.{Node, World, node, state}
 use Rattle.canvas_lines.specs.Blocks.{IsBlockText}
 

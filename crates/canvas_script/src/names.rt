@@ -2,7 +2,7 @@
 ghost use Rattle.std.specs.Prelude.{◌≡◌, ◌↔◌, IfOk, IsTrue, OnErr, OnOk, length};
 ghost use Rattle.std.specs.List.{list_all};
 ghost use Rattle.std.specs.Option.{option_copied};
-ghost use Rattle.canvas_model.specs.Client.{nth};
+ghost use Rattle.canvas_model.specs.Numbered.{nth};
 ghost use Rattle.canvas_script.specs.Names.{IsNodeName, IsNumber, is_node_byte, is_used, used};
 
 use indexmap::IndexSet;

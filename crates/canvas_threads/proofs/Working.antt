@@ -3,7 +3,8 @@ use Rattle.std.proofs.Common.{◌≡◌, ℕ, ◌+◌, ◌<◌, ◌≤◌, [], �
 use Rattle.std.specs.Prelude.{IsSome}
 use Rattle.canvas_model.specs.Client.{Client, new_client}
 use Rattle.canvas_model.specs.Local.{EditRequest}
-use Rattle.canvas_model.specs.Receive.{Welcome, Received, Receives}
+use Rattle.canvas_model.specs.Messages.{Welcome}
+use Rattle.canvas_model.specs.Receive.{Received, Receives}
 use Rattle.canvas_client.specs.Asked.{HasMade}
 use Rattle.canvas_nodes.specs.GoesOn.{GoesOn}
 use Rattle.canvas_threads.specs.Worked.{HasWorked, HasWorkedOn}

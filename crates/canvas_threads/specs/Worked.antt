@@ -1,7 +1,8 @@
 -- What a client has done that ran as a node.
 use Rattle.std.specs.Prelude.{◌≡◌, ◌≤◌, ◌+◌, ℕ, List, [], ◌∷◌, length, IsSome, Some}
 use Rattle.canvas_model.specs.Change.{Change}
-use Rattle.canvas_model.specs.Client.{Client, last_number, nth}
+use Rattle.canvas_model.specs.Client.{Client, last_number}
+use Rattle.canvas_model.specs.Numbered.{nth}
 use Rattle.canvas_model.specs.Log.{Edit}
 use Rattle.canvas_server.specs.Asked.{Asked}
 

@@ -1,24 +1,21 @@
 -- The headline, from the laws of the model and those of trees.
-use Rattle.std.proofs.Common.{◌≡◌, ℕ, ◌≤◌, ◌<◌, List, take, length, refl, sym, ◌∙◌, ap, subst, arith}
-use Rattle.std.specs.Prelude.{◌≢◌, Option, None, Some}
+use Rattle.std.proofs.Common.{◌≡◌, ℕ, ◌≤◌, ◌<◌, List, refl, sym, ◌∙◌, ap, subst, arith}
+use Rattle.std.specs.Prelude.{◌≢◌, Some}
 use Rattle.canvas_model.specs.declared.ObjId.{ObjId}
 use Rattle.canvas_model.specs.Ids.{root}
 use Rattle.canvas_model.specs.Document.{Doc, Place, IsDocument, place_of}
 use Rattle.canvas_model.specs.Chain.{Below, itself, through, IsCycle}
 use Rattle.canvas_model.specs.Children.{parent_of}
-use Rattle.canvas_model.specs.Change.{Change}
 use Rattle.canvas_model.specs.Overlay.{over}
 use Rattle.canvas_model.specs.State.{State, IsSound}
-use Rattle.canvas_model.specs.Log.{What, Join, Edit, Entry, at_version}
-use Rattle.canvas_model.specs.Client.{nth}
-use Rattle.canvas_model.specs.Receive.{IsEdit}
-use Rattle.canvas_model.specs.World.{Node, World, state}
-use Rattle.canvas_model.specs.Good.{HasClaims, edits_in}
-use Rattle.canvas_model.specs.Laws.{EachVersionIsSound, AfterEachRun, NodesAgree, HasNoCycle, StandsOnce, KeepsAcknowledged}
+use Rattle.canvas_model.specs.Log.{at_version}
+use Rattle.canvas_model.specs.World.{state}
+use Rattle.canvas_model.specs.Good.{HasClaims}
+use Rattle.canvas_model.specs.Laws.{EachVersionIsSound, AfterEachRun, NodesAgree, HasNoCycle, KeepsAcknowledged}
 use Rattle.canvas_tree.specs.Trees.{IsTreeOf}
 use Rattle.canvas_tree.specs.Chains.{LeadTo}
 use Rattle.canvas_tree.specs.Laws.{EachHasTree, NoneHasTwo, ChainsAreBelow}
-use Rattle.canvas_tree.specs.Headline.{HaveOneTree, StandsInLog, HoldOneDocument}
+use Rattle.canvas_tree.specs.Headline.{HaveOneTree, HoldOneDocument}
 use Rattle.canvas_model.proofs.Children.{child_place}
 use Rattle.canvas_tree.proofs.Rows.{child_live}
 
@@ -30,35 +27,6 @@ placed (through place is up) e apart = (place, is)
 
 document_of : (s : State) → IsSound s → IsDocument s.doc
 document_of s h = record { root_kind = h.at_root.0; root_place = h.at_root.1; others = λ q apart here. placed (h.in_tree q here) refl apart }
-
--- ---- one edit in the log
-
-edit_of : (what : What) (edit : Option Change) → IsEdit what edit → (change : Change) × (edit ≡ Some change) × (what ≡ Edit change)
-edit_of Join edit h = absurd h
-edit_of (Edit change) edit h = (change, h, refl)
-
-id_of : (log : List Entry) (id : Option ℕ) (i n : ℕ) → 0 < i → i ≤ n → n ≡ length (edits_in log id) → (c : ℕ) × (id ≡ Some c)
-id_of log None i n low high e = absurd (omega (arith, e))
-id_of log (Some c) i n low high e = (c, refl)
-
-stands_in : (w : World) (n : Node) (i c : ℕ) → n.client.id ≡ Some c → (v : ℕ) → StandsOnce w c n i v → StandsInLog w n i
-stands_in w n i c holds v s =
-    let e = edit_of s.entry.what (nth n.edits i) s.what in
-    record {
-      id = c;
-      holds = holds;
-      change = e.0;
-      edit = e.1;
-      version = v;
-      published = s.published;
-      reached = s.reached;
-      entry = s.entry;
-      stands = s.stands;
-      author = s.author;
-      number = s.number;
-      what = e.2;
-      once = s.once;
-    }
 
 -- ---- the headline
 
@@ -91,8 +59,5 @@ module _ (states : EachVersionIsSound) (claims : AfterEachRun HasClaims) (agree 
             let same : m.client.view ≡ n.client.view = sym (agree events w run k j n m h.first h.second h.version h.nothing_left h.nothing_left_of_second) in
             trees_agree (at_version w.log n.client.version).doc n.client.view m.client.view (document_of _ (states w.log c.legal.0 n.client.version)) shown (same ∙ shown);
         no_cycle = no_way_back (state w).doc (cycles events w run);
-        once = λ k i n is low high.
-            let h = id_of (take n.client.version w.log) n.client.id i n.client.acknowledged low high (c.acknowledged k n is) in
-            let s = kept events w run k h.0 i n (record { is = is; id = h.1 }) low high in
-            stands_in w n i h.0 h.1 s.0 s.1;
+        once = kept events w run;
       }

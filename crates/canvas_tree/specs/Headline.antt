@@ -3,12 +3,11 @@ use Rattle.std.specs.Prelude.{◌≡◌, ℕ, ◌≤◌, ◌<◌, List, [], Some
 use Rattle.canvas_model.specs.declared.ObjId.{ObjId}
 use Rattle.canvas_model.specs.Document.{Doc}
 use Rattle.canvas_model.specs.Children.{parent_of}
-use Rattle.canvas_model.specs.Change.{Change}
 use Rattle.canvas_model.specs.Overlay.{over}
-use Rattle.canvas_model.specs.Log.{Edit, Entry, at_version}
-use Rattle.canvas_model.specs.Client.{nth}
+use Rattle.canvas_model.specs.Log.{at_version}
 use Rattle.canvas_model.specs.World.{Node, World, state, node}
 use Rattle.canvas_model.specs.Good.{unacknowledged}
+use Rattle.canvas_model.specs.Laws.{IsLoggedOnce}
 use Rattle.canvas_tree.specs.Shapes.{Branch}
 use Rattle.canvas_tree.specs.Trees.{IsTreeOf}
 use Rattle.canvas_tree.specs.Chains.{LeadTo}
@@ -29,23 +28,6 @@ pub record HaveOneTree (d e : Doc) : Type 0 where
   pub only : (t : Branch) → IsTreeOf d t → t ≡ tree
   pub only_of_second : (t : Branch) → IsTreeOf e t → t ≡ tree
 
--- the i-th edit of the node stands in the published log under the node's id, among the entries that the node has reached, and
--- no other entry has that author and number
-pub record StandsInLog (w : World) (n : Node) (i : ℕ) : Type 0 where
-  pub id : ℕ
-  pub holds : n.client.id ≡ Some id
-  pub change : Change
-  pub edit : nth n.edits i ≡ Some change
-  pub version : ℕ
-  pub published : version ≤ w.published
-  pub reached : version ≤ n.client.version
-  pub entry : Entry
-  pub stands : nth w.log version ≡ Some entry
-  pub author : entry.author ≡ id
-  pub number : entry.seq ≡ i
-  pub what : entry.what ≡ Edit change
-  pub once : (v : ℕ) (e : Entry) → nth w.log v ≡ Some e → e.author ≡ id → e.seq ≡ i → v ≡ version
-
 -- The server and all nodes hold one document:
 pub record HoldOneDocument (w : World) : Type 0 where
   -- each node shows the server's document at the node's version with its unacknowledged edits laid over it;
@@ -58,5 +40,5 @@ pub record HoldOneDocument (w : World) : Type 0 where
   pub one_tree : (k j : ℕ) (n m : Node) → AreSettled w k j n m → HaveOneTree n.client.view m.client.view
   -- the server's parents never form a cycle: no chain of parents leads from an object's parent back to the object;
   pub no_cycle : (q p : ObjId) (chain : List ObjId) → parent_of (state w).doc q ≡ Some p → LeadTo (state w).doc p q chain → ⊥
-  -- each acknowledged edit stands in the log exactly once.
-  pub once : (k i : ℕ) (n : Node) → node w k ≡ Some n → 0 < i → i ≤ n.client.acknowledged → StandsInLog w n i
+  -- each acknowledged edit is in the log exactly once.
+  pub once : (k i : ℕ) (n : Node) → node w k ≡ Some n → 0 < i → i ≤ n.client.acknowledged → IsLoggedOnce w n i

@@ -5,7 +5,7 @@ use Rattle.serde_json.specs.Data.{unsigned, string, array, Items, no_items, item
 use Rattle.serde_json.specs.Written.{compact_text}
 use Rattle.serde_json.proofs.OnLiterals.{serde_json_on_literals}
 use Rattle.canvas_model.specs.Document.{Doc}
-use Rattle.canvas_model.specs.Receive.{Copies}
+use Rattle.canvas_model.specs.Messages as messages
 use Rattle.std.specs.FinMap as map
 use Rattle.canvas_forms.specs.Version.{version_two}
 use Rattle.canvas_forms.specs.Rows.{rows_form}
@@ -27,5 +27,5 @@ copy_whole version done rows start most all whole h k l same = same ∙ l ∙ ap
 below : (n : ℕ) → n < 2 ^ 64 → nat_lt n (2 ^ 64) ≡ true
 below n h = grind (arith, h)
 
-pub copy_plain : (version done : ℕ) (doc : Doc) → version < 2 ^ 64 → done < 2 ^ 64 → rows_form.fits (map.entries doc) ≡ true → is_plain (message_json version_two (Copies version done doc)) ≡ true
+pub copy_plain : (version done : ℕ) (doc : Doc) → version < 2 ^ 64 → done < 2 ^ 64 → rows_form.fits (map.entries doc) ≡ true → is_plain (message_json version_two (messages.Copy version done doc)) ≡ true
 copy_plain version done doc h k fits = rw (below version h, below done k, rows_plain (map.entries doc) fits) refl

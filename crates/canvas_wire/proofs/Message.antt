@@ -6,7 +6,8 @@ use Rattle.serde_json.specs.Data.{Data, Items, no_items, item}
 use Rattle.canvas_model.specs.declared.ObjId.{ObjId}
 use Rattle.canvas_model.specs.Ids.{id_cmp}
 use Rattle.canvas_model.specs.Document.{Object}
-use Rattle.canvas_model.specs.Receive.{Message, Joins, Welcome, Sends, Asks, Tells, Copies, Idle, No}
+use Rattle.canvas_model.specs.Messages.{Message, Welcome, Idle, No}
+use Rattle.canvas_model.specs.Messages as messages
 use Rattle.canvas_value.specs.Shape.{shape}
 use Rattle.canvas_value.specs.Codec.{IsCodec, StandsFor}
 use Rattle.canvas_value.specs.Parts.{is_within, whole_in}
@@ -35,12 +36,12 @@ is_form = parts_are version_two (omega arith)
 
 -- a message is that of its parts
 pub message_back : (m : Message) → message_of (parts_of m) ≡ m
-message_back Joins = refl
+message_back messages.Join = refl
 message_back (Welcome client) = refl
-message_back (Sends client seq change) = refl
-message_back (Asks client version) = refl
-message_back (Tells version entry) = refl
-message_back (Copies version done doc) = ap (Copies version done) (map.same_entries_map _ _ (map.entries-from_sorted id_cmp (map.entries doc) (map.entries_sorted doc)))
+message_back (messages.Edit client seq change) = refl
+message_back (messages.Ask client version) = refl
+message_back (messages.Entry version entry) = refl
+message_back (messages.Copy version done doc) = ap (messages.Copy version done) (map.same_entries_map _ _ (map.entries-from_sorted id_cmp (map.entries doc) (map.entries_sorted doc)))
 message_back Idle = refl
 message_back (No reason) = refl
 

@@ -3,7 +3,8 @@ use Rattle.std.proofs.Common.{◌≡◌, ℕ, zero, suc, ◌≤◌, List, [], �
 use Rattle.std.specs.Option.{option_map, unwrap_or}
 use Rattle.std.proofs.lemmas.List.Elements.{All-head, All-tail}
 use Rattle.canvas_model.specs.declared.Counts.{Counts}
-use Rattle.canvas_model.specs.State.{counts, done}
+use Rattle.canvas_model.specs.State.{done}
+use Rattle.canvas_model.specs.Numbered.{nth}
 use Rattle.canvas_model.specs.Log.{Entry, last_version}
 use Rattle.canvas_value.specs.Parts.{each_test}
 use Rattle.canvas_forms.specs.Version.{version_two}
@@ -22,7 +23,7 @@ entry_fits e author what outcome seq = rw (author, version_fits e.seq seq, what,
 
 -- what a client of this list has done
 abbrev done_in : List Counts → ℕ → ℕ
-done_in xs c = unwrap_or (option_map (λ k. k.done) (counts xs c)) 0
+done_in xs c = unwrap_or (option_map (λ k. k.done) (nth xs c)) 0
 
 done_later : (x : Counts) (xs : List Counts) → ((c : ℕ) → done_in (x ∷ xs) c ≤ 4611686018427387904) → (c : ℕ) → done_in xs c ≤ 4611686018427387904
 done_later x xs h zero = omega arith

@@ -8,7 +8,8 @@ use Rattle.canvas_model.specs.declared.ObjId.{ObjId}
 use Rattle.canvas_model.specs.Document.{Object}
 use Rattle.canvas_model.specs.Change.{Change}
 use Rattle.canvas_model.specs.Log.{Entry}
-use Rattle.canvas_model.specs.Receive.{Message, Joins, Welcome, Sends, Asks, Tells, Copies, Idle, No}
+use Rattle.canvas_model.specs.Messages.{Message, Welcome, Idle, No}
+use Rattle.canvas_model.specs.Messages as messages
 use Rattle.canvas_value.specs.Codec.{Codec, Members, Worded, HasShape, StandsFor}
 use Rattle.canvas_value.specs.Parts.{whole, array_of, headed, choice, after, member, end}
 use Rattle.canvas_forms.specs.Version.{Version}
@@ -58,29 +59,29 @@ parts_form v = array_of (headed (message_words v))
 
 -- the message of these parts
 abbrev pub message_of : MessageParts → Message
-message_of (inl p) = Joins
+message_of (inl p) = messages.Join
 message_of (inr (inl p)) = Welcome p.0
-message_of (inr (inr (inl p))) = Sends p.0 p.1.0 p.1.1.0
-message_of (inr (inr (inr (inl p)))) = Asks p.0 p.1.0
-message_of (inr (inr (inr (inr (inl p))))) = Tells p.0 p.1.0
-message_of (inr (inr (inr (inr (inr (inl p)))))) = Copies p.0 p.1.0 (map.from_sorted p.1.1.0)
+message_of (inr (inr (inl p))) = messages.Edit p.0 p.1.0 p.1.1.0
+message_of (inr (inr (inr (inl p)))) = messages.Ask p.0 p.1.0
+message_of (inr (inr (inr (inr (inl p))))) = messages.Entry p.0 p.1.0
+message_of (inr (inr (inr (inr (inr (inl p)))))) = messages.Copy p.0 p.1.0 (map.from_sorted p.1.1.0)
 message_of (inr (inr (inr (inr (inr (inr (inl p))))))) = Idle
 message_of (inr (inr (inr (inr (inr (inr (inr p))))))) = No p.0
 
 -- the parts of a message
 abbrev pub parts_of : Message → MessageParts
-parts_of Joins = inl (tt, tt)
+parts_of messages.Join = inl (tt, tt)
 parts_of (Welcome client) = inr (inl (client, tt))
-parts_of (Sends client seq change) = inr (inr (inl (client, (seq, (change, tt)))))
-parts_of (Asks client version) = inr (inr (inr (inl (client, (version, tt)))))
-parts_of (Tells version entry) = inr (inr (inr (inr (inl (version, (entry, tt))))))
-parts_of (Copies version done doc) = inr (inr (inr (inr (inr (inl (version, (done, (map.entries doc, tt))))))))
+parts_of (messages.Edit client seq change) = inr (inr (inl (client, (seq, (change, tt)))))
+parts_of (messages.Ask client version) = inr (inr (inr (inl (client, (version, tt)))))
+parts_of (messages.Entry version entry) = inr (inr (inr (inr (inl (version, (entry, tt))))))
+parts_of (messages.Copy version done doc) = inr (inr (inr (inr (inr (inl (version, (done, (map.entries doc, tt))))))))
 parts_of Idle = inr (inr (inr (inr (inr (inr (inl tt))))))
 parts_of (No reason) = inr (inr (inr (inr (inr (inr (inr (reason, tt)))))))
 
 -- it isn't a copy, whose rows are written one by one
 abbrev pub IsNoCopy : Message → Type 0
-IsNoCopy (Copies version done doc) = ⊥
+IsNoCopy (messages.Copy version done doc) = ⊥
 IsNoCopy _ = Unit {0}
 
 -- the rows of a copy stand in order

@@ -1,12 +1,14 @@
 -- What events do to the number of synced entries and the number of nodes.
-use Rattle.std.proofs.Common.{◌≡◌, ℕ, zero, suc, ◌+◌, ◌≤◌, refl, sym, ap, subst, ◌∙◌, inl, inr, Bool, true, false, List, [], ◌∷◌, length, arith, length-append}
+use Rattle.std.proofs.Common.{◌≡◌, ℕ, zero, suc, ◌+◌, ◌≤◌, refl, sym, ap, subst, ◌∙◌, inl, inr, Bool, true, false, List, [], ◌∷◌, length, arith, length-append, slice_set}
 use Rattle.std.specs.Prelude.{Option, Some, None, not, cond, ◌&&◌, nat_le, nat_lt}
 use Rattle.std.proofs.lemmas.Bool.{and_parts}
 use Rattle.canvas_model.specs.State.{joined, done}
 use Rattle.canvas_model.specs.Log.{What, Join, Edit}
-use Rattle.canvas_model.specs.Client.{nth, Yields}
-use Rattle.canvas_model.specs.Receive.{Message, Joins, Welcome, Sends, Asks, Tells, Copies, Idle, No}
-use Rattle.canvas_model.specs.World.{Letter, Node, World, Event, Answer, new_node, state, node, put_at, put_node, posted, appended, restarted, Appends, Takes, At, If, is_full, Edits, joined_as, Step, Run, nothing, and_then}
+use Rattle.canvas_model.specs.Client.{Yields}
+use Rattle.canvas_model.specs.Numbered.{nth}
+use Rattle.canvas_model.specs.Messages.{Message, Welcome, Idle, No}
+use Rattle.canvas_model.specs.Messages as messages
+use Rattle.canvas_model.specs.World.{Letter, Node, World, Event, Answer, new_node, state, node, put_node, posted, appended, restarted, Appends, Takes, At, If, is_full, Edits, joined_as, Step, Run, nothing, and_then}
 use Rattle.canvas_model.specs.World as world
 use Rattle.canvas_model.specs.World.{AddNode, AskJoin, MakeEdit, Send, Take, Sync, Publish, SendWelcome, Tell, Copy, Deliver, Checkpoint, Restart}
 use Rattle.canvas_model.specs.Good.{IsGood}
@@ -66,20 +68,20 @@ appends_grows : (old : World) (author seq : ℕ) (what : What) (asker : ℕ) (an
 appends_grows old author seq what asker answer new a = yields 0 _ answer old (appended old a.entry asker) new (itself old) a.yields
 
 takes_grows : (old : World) (from : ℕ) (m : Message) (answer : Answer) (new : World) → Takes old from m answer new → Grows 0 old new
-takes_grows old from Joins answer new t = either (is_full old Join) _ _ _ (stays world.FullServer answer old new) (appends_grows old 0 0 Join from answer new) t
-takes_grows old from (Sends c n change) answer new t =
+takes_grows old from messages.Join answer new t = either (is_full old Join) _ _ _ (stays world.FullServer answer old new) (appends_grows old 0 0 Join from answer new) t
+takes_grows old from (messages.Edit c n change) answer new t =
     either (not (joined (state old) c)) _ _ _ (stays world.Stranger answer old new)
     (either (nat_le n (done (state old) c)) _ _ _ (stays world.Repeat answer old new)
     (either (nat_lt (done (state old) c + 1) n) _ _ _ (stays world.Gap answer old new)
     (either (is_full old (Edit change)) _ _ _ (stays world.FullServer answer old new) (appends_grows old c n (Edit change) 0 answer new)))) t
 takes_grows old from (Welcome c) answer new t = stays world.Nothing answer old new t
-takes_grows old from (Tells v e) answer new t = stays world.Nothing answer old new t
-takes_grows old from (Copies v n d) answer new t = stays world.Nothing answer old new t
-takes_grows old from (Asks c v) answer new t = stays world.Nothing answer old new t
+takes_grows old from (messages.Entry v e) answer new t = stays world.Nothing answer old new t
+takes_grows old from (messages.Copy v n d) answer new t = stays world.Nothing answer old new t
+takes_grows old from (messages.Ask c v) answer new t = stays world.Nothing answer old new t
 takes_grows old from Idle answer new t = stays world.Nothing answer old new t
 takes_grows old from (No reason) answer new t = stays world.Nothing answer old new t
 
-put_length : (ns : List Node) (i : ℕ) (n : Node) → length (put_at ns i n) ≡ length ns
+put_length : (ns : List Node) (i : ℕ) (n : Node) → length (slice_set ns i n) ≡ length ns
 put_length [] i n = refl
 put_length (x ∷ ns) zero n = refl
 put_length (x ∷ ns) (suc i) n = ap suc (put_length ns i n)
@@ -94,7 +96,7 @@ posts_grows old letter answer new s = yields 0 (world.MessageIs (length old.lett
 -- what each event does to them
 pub step_grows : (old : World) (event : Event) (answer : Answer) (new : World) → old.synced ≤ length old.log → Step old event answer new → Grows (adds event) old new
 step_grows old AddNode answer new high s = yields 1 _ answer old _ new (as_many old.synced, length-append old.nodes (new_node ∷ [])) s
-step_grows old (AskJoin k) answer new high s = at_grows (node old k) old answer new _ s (λ n s. if_grows _ old answer new _ s (λ b s. posts_grows old (record { from = k; to = 0; message = Joins }) answer new s))
+step_grows old (AskJoin k) answer new high s = at_grows (node old k) old answer new _ s (λ n s. if_grows _ old answer new _ s (λ b s. posts_grows old (record { from = k; to = 0; message = messages.Join }) answer new s))
 step_grows old (MakeEdit k request) answer new high s = at_grows (node old k) old answer new _ s (λ n s. each n s)
   where
     each : (n : Node) → Edits old k n request answer new → Grows 0 old new
@@ -102,7 +104,7 @@ step_grows old (MakeEdit k request) answer new high s = at_grows (node old k) ol
     each n (inr r) = yields 0 _ answer old _ new (put_grows old k _) r.2
 step_grows old (Send k i) answer new high s =
     at_grows (node old k) old answer new _ s (λ n s. at_grows n.client.id old answer new _ s (λ c s. at_grows (nth n.client.waiting i) old answer new _ s (λ change s.
-    posts_grows old (record { from = k; to = 0; message = Sends c (n.client.acknowledged + i) change }) answer new s)))
+    posts_grows old (record { from = k; to = 0; message = messages.Edit c (n.client.acknowledged + i) change }) answer new s)))
 step_grows old (Take m) answer new high s = at_grows (nth old.letters m) old answer new _ s (λ letter s. if_grows _ old answer new _ s (λ b s. takes_grows old letter.from letter.message answer new s))
 step_grows old Sync answer new high s = yields 0 _ answer old _ new (high, (itself old).1) s
 step_grows old Publish answer new high s = yields 0 _ answer old _ new (itself old) s
@@ -110,10 +112,10 @@ step_grows old (SendWelcome v) answer new high s =
     if_grows _ old answer new _ s (λ b s. at_grows (nth old.log v) old answer new _ s (λ e s. at_grows (joined_as e.outcome) old answer new _ s (λ c s. at_grows (nth old.askers v) old answer new _ s (λ k s.
     posts_grows old (record { from = 0; to = k; message = Welcome c }) answer new s))))
 step_grows old (Tell v k) answer new high s =
-    at_grows (node old k) old answer new _ s (λ n s. if_grows _ old answer new _ s (λ b s. at_grows (nth old.log v) old answer new _ s (λ e s. posts_grows old (record { from = 0; to = k; message = Tells v e }) answer new s)))
+    at_grows (node old k) old answer new _ s (λ n s. if_grows _ old answer new _ s (λ b s. at_grows (nth old.log v) old answer new _ s (λ e s. posts_grows old (record { from = 0; to = k; message = messages.Entry v e }) answer new s)))
 step_grows old (Copy k) answer new high s =
     at_grows (node old k) old answer new _ s (λ n s. at_grows n.client.id old answer new _ s (λ c s. if_grows _ old answer new _ s (λ b s.
-    posts_grows old (record { from = 0; to = k; message = Copies (length old.log) (done (state old) c) (state old).doc }) answer new s)))
+    posts_grows old (record { from = 0; to = k; message = messages.Copy (length old.log) (done (state old) c) (state old).doc }) answer new s)))
 step_grows old (Deliver m) answer new high s =
     at_grows (nth old.letters m) old answer new _ s (λ letter s. at_grows (node old letter.to) old answer new _ s (λ n s. yields 0 _ answer old _ new (put_grows old letter.to _) s.3))
 step_grows old Checkpoint answer new high s = if_grows _ old answer new _ s (λ b s. yields 0 (world.FloorIs (length old.log)) answer old (record old { floor = length old.log }) new (itself old) s)

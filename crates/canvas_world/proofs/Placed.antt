@@ -1,12 +1,15 @@
 -- Nodes by their numbers, and steps that change one.
-use Rattle.std.proofs.Common.{◌≡◌, inl, inr, ℕ, zero, suc, ◌+◌, ◌<◌, refl, sym, ap, subst, ◌∙◌, Bool, true, false, List, [], ◌∷◌, ◌++◌, length, get_or, set, arith}
+use Rattle.std.proofs.Common.{◌≡◌, inl, inr, ℕ, zero, suc, ◌+◌, ◌<◌, refl, sym, ap, subst, ◌∙◌, Bool, true, false, List, [], ◌∷◌, ◌++◌, length, get_or, set, arith, slice_set}
 use Rattle.std.specs.Prelude.{Option, Some, None, slice_get}
 use Rattle.std.proofs.lemmas.List.{set-get_or}
 use Rattle.canvas_model.specs.Change.{Change}
-use Rattle.canvas_model.specs.Client.{Client, nth, last_number}
+use Rattle.canvas_model.specs.Client.{Client, last_number}
+use Rattle.canvas_model.specs.Numbered.{nth}
 use Rattle.canvas_model.specs.Local.{EditRequest, Makes, edited}
-use Rattle.canvas_model.specs.Receive.{Message, Joins, Welcome, Sends, Asks, Tells, Copies, Idle, No, Received, Receives}
-use Rattle.canvas_model.specs.World.{Letter, Node, World, Answer, Nothing, Delivered, EditIs, RefusedEdit, MakeEdit, Deliver, node, put_at, put_node, At, If, Step}
+use Rattle.canvas_model.specs.Messages.{Message, Welcome, Idle, No}
+use Rattle.canvas_model.specs.Messages as messages
+use Rattle.canvas_model.specs.Receive.{Received, Receives}
+use Rattle.canvas_model.specs.World.{Letter, Node, World, Answer, Nothing, Delivered, EditIs, RefusedEdit, MakeEdit, Deliver, node, put_node, At, If, Step}
 use Rattle.canvas_model.specs.Good.{IsTrueOf, IsGood}
 use Rattle.canvas_model.specs.Laws.{EntriesAreVerdicts}
 use Rattle.canvas_client.specs.Follow.{CanFollow, EachVerdictLeavesRoot}
@@ -30,7 +33,7 @@ if_not b w P is = subst (λ (b : Bool). If b w Nothing w P) (sym is) (refl, refl
 pub if_so : (b : Bool) (w : World) (answer : Answer) (new : World) (P : Type 0) → b ≡ true → P → If b w answer new P
 if_so b w answer new P is p = subst (λ (b : Bool). If b w answer new P) (sym is) p
 
-set_put : (xs : List Node) (i : ℕ) (n : Node) → i < length xs → set xs i n ≡ put_at xs i n
+set_put : (xs : List Node) (i : ℕ) (n : Node) → i < length xs → set xs i n ≡ slice_set xs i n
 set_put [] i n lt = absurd (omega arith)
 set_put (x ∷ xs) zero n lt = refl
 set_put (x ∷ xs) (suc i) n lt = ap (λ ys. x ∷ ys) (set_put xs i n (omega arith))
@@ -60,12 +63,12 @@ pub orderly : EachVerdictLeavesRoot → (w : World) → IsGood w → EntriesAreV
 orderly leaves w good verdicts m letter is = by letter.message (good.letters m letter is)
   where
     by : (message : Message) → IsTrueOf w letter.to message → CanFollow message
-    by Joins t = tt
+    by messages.Join t = tt
     by (Welcome c) t = tt
-    by (Sends c n change) t = tt
-    by (Asks c v) t = tt
-    by (Tells v e) t = let s = verdicts v e t.1 in leaves s.0 e s.1 s.2
-    by (Copies v n d) t = tt
+    by (messages.Edit c n change) t = tt
+    by (messages.Ask c v) t = tt
+    by (messages.Entry v e) t = let s = verdicts v e t.1 in leaves s.0 e s.1 s.2
+    by (messages.Copy v n d) t = tt
     by Idle t = tt
     by (No reason) t = tt
 

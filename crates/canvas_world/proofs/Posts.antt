@@ -5,8 +5,9 @@ use Rattle.std.proofs.lemmas.Bool.Decides.{nat_tests}
 use Rattle.std.proofs.lemmas.Option.{slice_get_past}
 use Rattle.canvas_model.specs.State.{done}
 use Rattle.canvas_model.specs.Log.{Entry}
-use Rattle.canvas_model.specs.Client.{nth}
-use Rattle.canvas_model.specs.Receive.{Message, Joins, Welcome, Sends, Tells, Copies}
+use Rattle.canvas_model.specs.Numbered.{nth}
+use Rattle.canvas_model.specs.Messages.{Message, Welcome}
+use Rattle.canvas_model.specs.Messages as messages
 use Rattle.canvas_model.specs.World.{Letter, Node, World, Nothing, AskJoin, Send, SendWelcome, Tell, Copy, node, state, joined_as, posted, At, Posts}
 use Rattle.canvas_model.specs.Good.{IsGood, InOrder}
 use Rattle.canvas_model.proofs.Lists.{get-take, get-take_inv, get-drop, get_some}
@@ -24,7 +25,7 @@ use Rattle.canvas_model.specs.State.{joined}
 use Rattle.std.specs.Prelude.{IsTrue}
 
 -- a node asks for an id
-pub asks : (w : World) (k : ℕ) (n : Node) → node w k ≡ Some n → n.client.id ≡ None → IsPost w (AskJoin k) (Some (record { from = k; to = 0; message = Joins }))
+pub asks : (w : World) (k : ℕ) (n : Node) → node w k ≡ Some n → n.client.id ≡ None → IsPost w (AskJoin k) (Some (record { from = k; to = 0; message = messages.Join }))
 asks w k n is none =
     at_some (node w k) n w _ _ _ is (if_so (not (is_some n.client.id)) w _ _ _ (ap (λ (o : Option ℕ). not (is_some o)) none) (refl, refl))
 
@@ -52,7 +53,7 @@ outside xs (suc i) (inr lt) = slice_get_past xs i (omega arith)
 pub sends_nothing : (w : World) (k i : ℕ) (n : Node) → node w k ≡ Some n → (i ≡ 0) ⊎ (length n.client.waiting < i) → IsPost w (Send k i) None
 sends_nothing w k i n is out = at_some (node w k) n w Nothing w _ is (by n.client.id)
   where
-    by : (id : Option ℕ) → At id w Nothing w (λ c. At (nth n.client.waiting i) w Nothing w (λ change. Posts w (record { from = k; to = 0; message = Sends c (n.client.acknowledged + i) change }) Nothing w))
+    by : (id : Option ℕ) → At id w Nothing w (λ c. At (nth n.client.waiting i) w Nothing w (λ change. Posts w (record { from = k; to = 0; message = messages.Edit c (n.client.acknowledged + i) change }) Nothing w))
     by None = (refl, refl)
     by (Some c) = at_none (nth n.client.waiting i) w _ (outside n.client.waiting i out)
 
@@ -122,7 +123,7 @@ short_take (x ∷ xs) = omega arith
 
 -- the last of the tail is the entry, which is told
 pub tells : (w : World) (v k : ℕ) (n : Node) (e : Entry) (xs ys : List Entry) → node w k ≡ Some n → 0 < v → Some xs ≡ tail_of (served_in w) (v - 1) 1 → xs ≡ ys ++ e ∷ []
-    → IsPost w (Tell v k) (Some (record { from = 0; to = k; message = Tells v e }))
+    → IsPost w (Tell v k) (Some (record { from = 0; to = k; message = messages.Entry v e }))
 tells w v k n e xs ys is some tail popped =
     let t = tail_at w v some xs tail in
     let past = t.0 in
@@ -161,11 +162,11 @@ tells_passed w v k n is some none = at_some (node w k) n w Nothing w _ is (if_no
 
 -- the document goes to a node
 pub copies : (w : World) (k c : ℕ) (n : Node) → node w k ≡ Some n → n.client.id ≡ Some c → (w.published == length w.log) ≡ true
-    → IsPost w (Copy k) (Some (record { from = 0; to = k; message = Copies (length w.log) (done (state w) c) (state w).doc }))
+    → IsPost w (Copy k) (Some (record { from = 0; to = k; message = messages.Copy (length w.log) (done (state w) c) (state w).doc }))
 copies w k c n is id all = at_some (node w k) n w _ _ _ is (at_some n.client.id c w _ _ _ id (if_so (w.published == length w.log) w _ _ _ all (refl, refl)))
 
 -- the same, for the world as its contracts see it
-pub tells_at : (w old : World) (s : Served) (v k : ℕ) (ns : List Node) (n : Node) (e : Entry) (xs ys : List Entry) (message : Message) → w ≡ old → s ≡ served_in w → Some n ≡ nth ns k → ns ≡ w.nodes → (v ≡ 0 → ⊥) → Some xs ≡ tail_of s (v - 1) 1 → xs ≡ ys ++ e ∷ [] → message ≡ Tells v e
+pub tells_at : (w old : World) (s : Served) (v k : ℕ) (ns : List Node) (n : Node) (e : Entry) (xs ys : List Entry) (message : Message) → w ≡ old → s ≡ served_in w → Some n ≡ nth ns k → ns ≡ w.nodes → (v ≡ 0 → ⊥) → Some xs ≡ tail_of s (v - 1) 1 → xs ≡ ys ++ e ∷ [] → message ≡ messages.Entry v e
     → IsPost old (Tell v k) (Some (record { from = 0; to = k; message = message }))
 tells_at w old s v k ns n e xs ys message here serves is same some tail popped says =
     subst (λ (u : World). IsPost u (Tell v k) (Some (record { from = 0; to = k; message = message }))) here

@@ -4,8 +4,10 @@ use Rattle.std.specs.Prelude.{Option, Some, None, Result, Ok, Err, IfOk, not, co
 use Rattle.canvas_model.specs.Change.{Change}
 use Rattle.canvas_model.specs.State.{joined, done}
 use Rattle.canvas_model.specs.Log.{What, Join, Edit, Entry, Fits, last_version}
-use Rattle.canvas_model.specs.Client.{nth, Yields}
-use Rattle.canvas_model.specs.Receive.{Message, Joins, Welcome, Sends, Asks, Tells, Copies, Idle, No}
+use Rattle.canvas_model.specs.Client.{Yields}
+use Rattle.canvas_model.specs.Numbered.{nth}
+use Rattle.canvas_model.specs.Messages.{Message, Welcome, Idle, No}
+use Rattle.canvas_model.specs.Messages as messages
 use Rattle.canvas_model.specs.World.{Letter, World, Answer, Take, Appends, Takes, If, At, is_full, state, appended, Step}
 use Rattle.canvas_model.specs.World as world
 use Rattle.canvas_model.proofs.Tests.{eq_true}
@@ -54,14 +56,14 @@ appends w r asker (Ok (looked.Gap d)) a new n f = absurd n
 appends w r asker (Err e) a new n f = absurd n
 
 -- the server takes a join
-takes_join : {A : Type 0} (w : World) (from : ℕ) (result : Result (Looked A) TakeError) (a : Answer) (new : World) → LooksAs (served_in w) (record { author = 0; seq = 0; what = Join }) Join result → Follows w from result a new → Takes w from Joins a new
+takes_join : {A : Type 0} (w : World) (from : ℕ) (result : Result (Looked A) TakeError) (a : Answer) (new : World) → LooksAs (served_in w) (record { author = 0; seq = 0; what = Join }) Join result → Follows w from result a new → Takes w from messages.Join a new
 takes_join {A} w from result a new l f =
     both (is_full w Join) (result ≡ Err refusal.Full) (IsNext (state w) (record { author = 0; seq = 0; what = Join }) result) _ _
     (λ is. subst (λ (x : Result (Looked A) TakeError). Follows w from x a new) is f) (λ n. appends w (record { author = 0; seq = 0; what = Join }) from result a new n f) l
 
 -- the server takes an edit
 takes_edit : {A : Type 0} (w : World) (from c n : ℕ) (change : Change) (result : Result (Looked A) TakeError) (a : Answer) (new : World)
-    → LooksAs (served_in w) (record { author = c; seq = n; what = Edit change }) (Edit change) result → Follows w 0 result a new → Takes w from (Sends c n change) a new
+    → LooksAs (served_in w) (record { author = c; seq = n; what = Edit change }) (Edit change) result → Follows w 0 result a new → Takes w from (messages.Edit c n change) a new
 takes_edit {A} w from c n change result a new l f =
     both (not (joined (state w) c)) _ _ _ _ as_it_is
     (both (nat_le n (done (state w) c)) _ _ _ _ as_it_is
@@ -81,18 +83,18 @@ takes {A} w from message r asker result a new is asks looks follows = by message
     stripped_now = stripped w (served_in w) r asker result a new looks follows
 
     by : (message : Message) → Some r ≡ asked_by message → Takes w from message a new
-    by Joins is =
+    by messages.Join is =
         let same : r ≡ record { author = 0; seq = 0; what = Join } = cc in
         takes_join w from result a new (subst (λ (r : Asked). LooksAs (served_in w) r r.what result) same stripped_now)
         (subst (λ (k : ℕ). Follows w k result a new) (asks ∙ ap (λ (r : Asked). asker_of r from) same) follows)
-    by (Sends c n change) is =
+    by (messages.Edit c n change) is =
         let same : r ≡ record { author = c; seq = n; what = Edit change } = cc in
         takes_edit w from c n change result a new (subst (λ (r : Asked). LooksAs (served_in w) r r.what result) same stripped_now)
         (subst (λ (k : ℕ). Follows w k result a new) (asks ∙ ap (λ (r : Asked). asker_of r from) same) follows)
     by (Welcome c) is = absurd (cc)
-    by (Asks c v) is = absurd (cc)
-    by (Tells v e) is = absurd (cc)
-    by (Copies v n d) is = absurd (cc)
+    by (messages.Ask c v) is = absurd (cc)
+    by (messages.Entry v e) is = absurd (cc)
+    by (messages.Copy v n d) is = absurd (cc)
     by Idle is = absurd (cc)
     by (No reason) is = absurd (cc)
 
@@ -147,12 +149,12 @@ pub no_request : (w : World) (m : ℕ) (letter : Letter) → nth w.letters m ≡
 no_request w m letter is server none = at_some (nth w.letters m) letter w world.Nothing w _ is (if_so (letter.to == 0) w _ _ _ (ap (λ (k : ℕ). k == 0) server) (by letter.message none))
   where
     by : (message : Message) → None ≡ asked_by message → Takes w letter.from message world.Nothing w
-    by Joins h = absurd (cc)
-    by (Sends c n change) h = absurd (cc)
+    by messages.Join h = absurd (cc)
+    by (messages.Edit c n change) h = absurd (cc)
     by (Welcome c) h = (refl, refl)
-    by (Asks c v) h = (refl, refl)
-    by (Tells v e) h = (refl, refl)
-    by (Copies v n d) h = (refl, refl)
+    by (messages.Ask c v) h = (refl, refl)
+    by (messages.Entry v e) h = (refl, refl)
+    by (messages.Copy v n d) h = (refl, refl)
     by Idle h = (refl, refl)
     by (No reason) h = (refl, refl)
 

@@ -1,7 +1,7 @@
 // The parts of a world.
 ghost use Rattle.std.specs.Prelude.{◌≡◌, ◌<◌, ◌+◌, length, OnErr, IfOk, IfSome, IfNone, None, Some};
 ghost use Rattle.std.specs.Option.{option_copied, option_map};
-ghost use Rattle.canvas_model.specs.Client.{nth};
+ghost use Rattle.canvas_model.specs.Numbered.{nth};
 ghost use Rattle.canvas_model.specs.Receive.{Receives};
 ghost use Rattle.canvas_model.specs.World as world;
 ghost use Rattle.canvas_model.specs.Local as local;

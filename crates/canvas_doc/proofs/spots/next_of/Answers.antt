@@ -3,7 +3,7 @@ use Rattle.std.specs.Option.{option_copied, option_map}
 use Rattle.std.specs.FinMap as map
 use Rattle.canvas_model.specs.Ids.{id_cmp}
 use Rattle.canvas_model.specs.Document.{place_of}
-use Rattle.canvas_model.specs.Order.{IsAfter}
+use Rattle.canvas_model.specs.Order.{IsLowEnd}
 use Rattle.canvas_doc.specs.Spots.{pos_at}
 use Rattle.canvas_doc.proofs.Told.{told_other, not_other}
 use Rattle.canvas_doc.proofs.Standing.{rest_done, rest_step}
@@ -43,7 +43,7 @@ loop-spot-preserved-else-is_after g c =
       omega arith,
       passed_more (map.from_sorted {R = id_cmp} c.args.rows.now) c.args.spots.now c.requires.spots c.args.parent (option_copied c.args.after) c.args.except inv.2 x inv.5 step.1
           (λ under other after.
-          let yes = c.is_after.ensures.1 (subst (IsAfter (option_copied c.args.after)) (position_told (place_of (map.from_sorted {R = id_cmp} c.args.rows.now) x.id) c.in_ok-pos.pos.now at) after) in
+          let yes = c.is_after.ensures.1 (subst (IsLowEnd (option_copied c.args.after)) (position_told (place_of (map.from_sorted {R = id_cmp} c.args.rows.now) x.id) c.in_ok-pos.pos.now at) after) in
           let no = c.if-is_after.false in cc),
     )
 

@@ -1,6 +1,8 @@
 use Rattle.std.proofs.Common.{refl, ap}
 use Rattle.std.proofs.lemmas.Result.{IfOk-weaker}
-use Rattle.canvas_model.specs.Receive.{Welcome, Tells, NotForMe, Receives}
+use Rattle.canvas_model.specs.Messages.{Welcome}
+use Rattle.canvas_model.specs.Messages as messages
+use Rattle.canvas_model.specs.Receive.{NotForMe, Receives}
 use Rattle.canvas_judge.specs.Seen.{seen_copy, seen_message}
 use Rattle.canvas_client.specs.Seen.{seen_received}
 use Rattle.canvas_client.proofs.Receiving.{apart_as, apart_now, other_message}
@@ -12,7 +14,7 @@ returns-in-Welcome-clause-apart g c =
 
 pub returns-in-Entry-clause-apart : goal.returns-in-Entry-clause-apart
 returns-in-Entry-clause-apart g c = IfOk-weaker c.receive_entry.result _ _ (λ answer r.
-    apart_as c.args.self.now c.receive_entry.new.self (seen_message c.args.message.now) (Tells c.in-Entry.version c.in-Entry.entry) (seen_received answer) (ap seen_message c.in-Entry.is) r) c.receive_entry.ensures.apart
+    apart_as c.args.self.now c.receive_entry.new.self (seen_message c.args.message.now) (messages.Entry c.in-Entry.version c.in-Entry.entry) (seen_received answer) (ap seen_message c.in-Entry.is) r) c.receive_entry.ensures.apart
 
 pub returns-in-Copy-clause-apart : goal.returns-in-Copy-clause-apart
 returns-in-Copy-clause-apart g c = IfOk-weaker c.receive_copy.result _ _ (λ answer r.

@@ -1,6 +1,6 @@
 use Rattle.std.proofs.Common.{◌≡◌, Some, ◌+◌, ◌-◌, map, ap, ◌∙◌, arith}
 use Rattle.std.specs.Option.{option_map}
-use Rattle.canvas_model.specs.Client.{nth}
+use Rattle.canvas_model.specs.Numbered.{nth}
 use Rattle.canvas_script.proofs.Numbering.{name_of, seen_at}
 use Rattle.canvas_script.proofs.names.Names.name.Goals as goal
 

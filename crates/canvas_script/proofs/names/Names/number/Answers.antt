@@ -1,6 +1,6 @@
 use Rattle.std.proofs.Common.{◌≡◌, ◌+◌, false, is_some, length, map, sym, ap, subst, ◌∙◌}
 use Rattle.std.proofs.lemmas.List.{length-map}
-use Rattle.canvas_model.specs.Client.{nth}
+use Rattle.canvas_model.specs.Numbered.{nth}
 use Rattle.canvas_script.specs.Names.{AreNames, is_used, used}
 use Rattle.canvas_script.proofs.Numbering.{any_seen, name_of, number_at, used_seen, used_again, number_new, are_used}
 use Rattle.canvas_script.proofs.names.Names.number.Goals as goal
