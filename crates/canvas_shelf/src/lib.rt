@@ -1,9 +1,8 @@
-//! Numbered segments of bytes that outlast a crash: what they are, what a crash may leave of them, and two shelves of them, in
-//! memory and in a folder. And the records that a journal keeps in them.
+//! Numbered segments of bytes that outlast a crash: what they are, what a crash may leave of them, and a shelf of them in memory, for
+//! tests. And the records that a journal keeps in them.
 #![tactic(auto)]
 
 mod calls;
-mod folder;
 mod laws;
 mod memory;
 mod records;
@@ -12,8 +11,7 @@ mod shelf;
 mod stored;
 
 pub use calls::Call;
-pub use folder::DirShelf;
 pub use laws::every_segment;
 pub use memory::MemShelf;
 pub use records::{RecordError, first_record, push_record, record};
-pub use shelf::{DeviceFailed, Shelf, ShelfError};
+pub use shelf::{CreateError, DeviceFailed, Shelf, ShelfError};
