@@ -6,8 +6,10 @@ mod folder;
 mod laws;
 mod names;
 mod os;
+mod place;
 mod segments;
 mod shelf;
+mod state;
 
 pub use folder::Folder;
 pub use laws::{every_call_keeps_a_folder_sound, every_crash_of_a_folder};

@@ -1,0 +1,10 @@
+// What a shelf in a folder may still do.
+#[derive(Clone, Copy, Debug, PartialEq, Eq)]
+pub(crate) enum State {
+    // Everything: it was opened for writing, and no call that makes or syncs has failed since.
+    Writing,
+    // Neither make nor sync: it was opened for reading.
+    Reading,
+    // Neither make nor sync: a call that makes or syncs has failed since it was opened.
+    Failed,
+}
