@@ -2,16 +2,22 @@
 //! honest one.
 #![tactic(auto)]
 
+mod error;
 mod folder;
 mod laws;
 mod names;
+mod opening;
 mod os;
 mod place;
 mod segments;
 mod shelf;
 mod state;
 
+pub use error::FolderError;
 pub use folder::Folder;
-pub use laws::{every_call_keeps_a_folder_sound, every_crash_of_a_folder};
+pub use laws::{
+    every_call_keeps_a_folder_sound, every_crash_of_a_folder, every_fresh_folder_lists_the_top,
+};
+pub use opening::make_ready;
 pub use os::OsFolder;
 pub use shelf::DirShelf;

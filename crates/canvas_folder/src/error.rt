@@ -1,0 +1,32 @@
+// Why a folder didn't become a shelf.
+ghost use Rattle.std.specs.Prelude.{◌≡◌};
+
+use canvas_shelf::ShelfError;
+use thiserror::Error;
+
+/// Why a folder didn't become a shelf.
+#[derive(Clone, Copy, Debug, PartialEq, Eq, Error)]
+pub enum FolderError {
+    /// Another holds the folder's lock. Nothing was touched.
+    #[error("folder is in use")]
+    InUse,
+    /// The device failed, or the folder can't be made or read.
+    #[error("device failed")]
+    Device,
+    /// Memory was refused.
+    #[error("out of memory")]
+    Memory,
+}
+
+impl From<ShelfError> for FolderError {
+    ghost use Rattle.canvas_folder.specs.Opened.{error_of};
+
+    ghost from_gives = { λ e given. given ≡ error_of e };
+
+    fn from(error: ShelfError) -> FolderError {
+        match error {
+            ShelfError::Device => FolderError::Device,
+            ShelfError::Memory => FolderError::Memory,
+        }
+    }
+}
