@@ -3,8 +3,8 @@
 pub(crate) enum State {
     // Everything: it was opened for writing, and no call that makes or syncs has failed since.
     Writing,
-    // Neither make nor sync: it was opened for reading.
+    // Nothing but read: it was opened for reading, without the lock.
     Reading,
-    // Neither make nor sync: a call that makes or syncs has failed since it was opened.
+    // Neither make nor sync: a call that makes or syncs has failed since it was opened for writing.
     Failed,
 }
