@@ -52,7 +52,7 @@ refused_whole reason answer is = subst IsAnswer (sym is) tt
 ask_whole : (b : Served) (client from : ℕ) (answer : List Message) → AnswersAsk b client from answer → IsAnswer answer
 ask_whole b client from answer h = ⊎_elim
     (λ (t : TellsNews b client from answer). subst IsAnswer (sym t.1) (news_whole b client from (tail_of b from 64)))
-    (λ r. ⊎_elim (λ s. refused_whole no.Stranger answer s.1) (λ f. refused_whole no.Failed answer f) r)
+    (λ s. refused_whole no.Stranger answer s.1)
     h
 
 -- the same for an answer to an Ask that may have failed

@@ -14,9 +14,7 @@ use Rattle.canvas_desk.specs.declared.faults.SubmitError.{SubmitError}
 use Rattle.canvas_desk.specs.declared.faults.SubmitError.TheVariants as submit
 use Rattle.canvas_room.specs.Seats.{Answers, IsRefused, RefusesEdit}
 use Rattle.canvas_nodes.specs.Answers.{refused}
-use Rattle.canvas_front.specs.News.{copies, news_of}
-use Rattle.canvas_front.specs.declared.asking.NoNews.{NoNews}
-use Rattle.canvas_front.specs.declared.asking.NoNews.TheVariants as none
+use Rattle.canvas_front.specs.News.{news_of}
 
 -- no more was seen, or a legal history that begins with what was seen
 abbrev pub SeesOn : Opening → List Mark → List Mark → Type 0
@@ -66,26 +64,13 @@ SaysOf o q old m new = IsJudged q old m new ⊎ TellsRefusal o q old m new
 abbrev pub AnswersRequest : Opening → Asked → List Mark → List Message → List Mark → Type 0
 AnswersRequest o q old answer new = (m : Message) × (answer ≡ m ∷ []) × SaysOf o q old m new
 
--- why a client has no news from a board: it hasn't joined by that board; or the room has ended, or memory was refused
-abbrev pub HasNoNews : Served → ℕ → NoNews → Type 0
-HasNoNews b client none.Stranger = joined b.state client ≡ false
-HasNoNews b client none.Closed = Unit {0}
-HasNoNews b client none.Memory = Unit {0}
-
--- a client that has joined by this board is told its copy, and then Idle
-abbrev pub TellsCopy : Served → ℕ → List Message → Type 0
-TellsCopy b client answer = (joined b.state client ≡ true) × (answer ≡ copies b client ∷ Idle ∷ [])
-
 -- a client that has joined by this board is told its news, and then Idle
 abbrev pub TellsNews : Served → ℕ → ℕ → List Message → Type 0
 TellsNews b client from answer = (joined b.state client ≡ true) × (answer ≡ news_of b client from ++ Idle ∷ [])
 
--- what is answered an Ask: the news of the board that was seen; a No to a client that hasn't joined by then; or a No where the room has ended
+-- what is answered an Ask: the news of the board that was seen, or a No to a client that hasn't joined by then
 abbrev pub AnswersAsk : Served → ℕ → ℕ → List Message → Type 0
-AnswersAsk b client from answer =
-    TellsNews b client from answer
-    ⊎ ((joined b.state client ≡ false) × (answer ≡ refused no.Stranger))
-    ⊎ (answer ≡ refused no.Failed)
+AnswersAsk b client from answer = TellsNews b client from answer ⊎ ((joined b.state client ≡ false) × (answer ≡ refused no.Stranger))
 
 -- what is answered a message, and what has been seen then: by the kind of the message
 abbrev pub IsAnswerTo : Opening → List Mark → Message → List Message → List Mark → Type 0

@@ -1,59 +1,19 @@
 // What is answered an Ask.
-ghost use Rattle.std.specs.Prelude.{◌≡◌, ◌+◌, ◌<◌, ◌^◌, ◌++◌, ◌∷◌, [], IfErr, IfOk, length, map};
+ghost use Rattle.std.specs.Prelude.{◌≡◌, ◌+◌, ◌<◌, ◌^◌, ◌++◌, ◌∷◌, [], IfOk, length, map};
 ghost use Rattle.canvas_model.specs.Messages.{Idle};
 ghost use Rattle.canvas_judge.specs.Seen.{seen_copy, seen_message};
-ghost use Rattle.canvas_board.specs.Marks.{Sees, board};
+ghost use Rattle.canvas_board.specs.Marks.{board};
 ghost use Rattle.canvas_front.specs.News.{tells};
-ghost use Rattle.canvas_front.specs.Table.{AnswersAsk, HasNoNews, SeesOn, TellsCopy, TellsNews};
+ghost use Rattle.canvas_front.specs.Table.{AnswersAsk, SeesOn};
 
 use crate::messages::alone;
-use canvas_board::{RoomName, SeatError};
+use canvas_board::{News, RoomName, SeatError};
 use canvas_judge::{DocCopy, Entry, Message, NoReason};
 use canvas_room::Seat;
 use std::alloc::{AllocError, Global};
-use thiserror::Error;
 
 // How many entries an answer has at most.
 const MOST_ENTRIES: u64 = 64;
-
-/// Why a client is told no news.
-#[derive(Clone, Copy, Debug, PartialEq, Eq, Error)]
-pub enum NoNews {
-    /// It hasn't joined.
-    #[error("the client hasn't joined")]
-    Stranger,
-    /// The room has ended.
-    #[error("the room has ended")]
-    Closed,
-    /// Memory was refused.
-    #[error("out of memory")]
-    Memory,
-}
-
-impl From<SeatError> for NoNews {
-    ghost use Rattle.std.specs.Prelude.{◌≢◌};
-    ghost use Rattle.canvas_front.specs.declared.asking.NoNews.TheVariants.{Stranger};
-
-    ghost from_gives = { λ _ e. e ≢ Stranger };
-
-    fn from(error: SeatError) -> NoNews {
-        match error {
-            SeatError::Closed => NoNews::Closed,
-            SeatError::Memory => NoNews::Memory,
-        }
-    }
-}
-
-impl From<AllocError> for NoNews {
-    ghost use Rattle.std.specs.Prelude.{◌≡◌};
-    ghost use Rattle.canvas_front.specs.declared.asking.NoNews.TheVariants.{Memory};
-
-    ghost from_gives = { λ _ e. e ≡ Memory };
-
-    fn from(_error: AllocError) -> NoNews {
-        NoNews::Memory
-    }
-}
 
 /// The answer to an Ask of a client that has this version. It waits for nobody. Fails only where memory is refused.
 pub fn answer_ask<N: RoomName, D: Drop>(
@@ -65,47 +25,12 @@ pub fn answer_ask<N: RoomName, D: Drop>(
     ensures answers { IfOk result (λ answer. AnswersAsk (board N.opening seat.new) client version (map seen_message answer.items)) }
     ensures sees { SeesOn N.opening seat.old seat.new }
 {
-    match news(alloc, seat, client, version) {
-        Ok(news) => Ok(news),
-        Err(NoNews::Stranger) => alone(alloc, Message::No(NoReason::Stranger)),
-        Err(NoNews::Closed) => alone(alloc, Message::No(NoReason::Failed)),
-        Err(NoNews::Memory) => Err(AllocError),
-    }
-}
-
-// What is published after this version, for a client that has joined, and an Idle.
-fn news<N: RoomName, D: Drop>(
-    alloc: Global,
-    seat: &mut Seat<N, D>,
-    client: u32,
-    version: u64,
-) -> Result<Vec<Message>, NoNews>
-    ensures tells { IfOk result (λ news. TellsNews (board N.opening seat.new) client version (map seen_message news.items)) }
-    ensures refused { IfErr result (HasNoNews (board N.opening seat.new) client) }
-    ensures sees { SeesOn N.opening seat.old seat.new }
-{
-    if !seat.joined(client)? {
-        return Err(NoNews::Stranger);
-    }
-    match seat.tail(alloc, version, MOST_ENTRIES)? {
-        Some(entries) => Ok(told(alloc, version, entries)?),
-        None => copy(alloc, seat, client),
-    }
-}
-
-// What is published, as a copy for a client that has joined, and an Idle.
-fn copy<N: RoomName, D: Drop>(
-    alloc: Global,
-    seat: &mut Seat<N, D>,
-    client: u32,
-) -> Result<Vec<Message>, NoNews>
-    ensures tells { IfOk result (λ copy. Sees N.opening seat.old seat.new × TellsCopy (board N.opening seat.new) client (map seen_message copy.items)) }
-    ensures refused { IfErr result (HasNoNews (board N.opening seat.new) client) }
-    ensures sees { SeesOn N.opening seat.old seat.new }
-{
-    match seat.copy(alloc, client)? {
-        Some(copy) => Ok(copied(alloc, copy)?),
-        None => Err(NoNews::Stranger),
+    match seat.news(alloc, client, version, MOST_ENTRIES) {
+        Ok(News::Stranger) => alone(alloc, Message::No(NoReason::Stranger)),
+        Ok(News::Entries(entries)) => told(alloc, version, entries),
+        Ok(News::Copy(copy)) => copied(alloc, copy),
+        // A seat keeps its room, so it is never closed.
+        Err(SeatError::Closed | SeatError::Memory) => Err(AllocError),
     }
 }
 

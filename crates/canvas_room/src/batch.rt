@@ -13,8 +13,8 @@ use canvas_server::Request;
 use std::alloc::{AllocError, Global};
 use std::sync::{Mutex, Wait};
 
-// A room has at most so many seats.
-const MOST_SEATS: usize = 64;
+/// A room has at most so many seats.
+pub const MOST_SEATS: usize = 64;
 
 /// The seat of a request, and what it has seen.
 #[derive(Drop)]

@@ -56,6 +56,8 @@ pub enum Slot<N: RoomName> {
     Empty,
     /// A request that waits.
     Waiting(Ticket<N>),
+    /// A request that comes alone: it was left in no batch, or was left out of the answers to one.
+    Alone,
     /// A request that was answered.
     Answered(Reply<N>),
 }
@@ -194,12 +196,14 @@ impl<N: RoomName> Mailbox<N> {
         }
     }
 
-    /// Takes the ticket that waits in the slot of a seat, unless that has seen more than this.
+    /// Takes the ticket that waits in the slot of a seat, unless that has seen more than this. Until its answer is put there, the
+    /// request is one that comes alone.
     pub fn take_ticket(&mut self, seat: usize, shown: &Front<N>) -> Option<Ticket<N>>
         ensures { IfSome result (λ ticket. IsPrefix ticket.seen shown.now) }
     {
         let ticket = self.take_waiting(seat)?;
         if ticket.seen.begins(shown) {
+            self.put(seat, Slot::Alone);
             return Some(ticket);
         }
         self.put(seat, Slot::Waiting(ticket));
@@ -229,9 +233,9 @@ impl<N: RoomName> Mailbox<N> {
         self.is_led = is_led;
     }
 
-    /// Whether a ticket waits in the slot of a seat.
-    pub fn has_ticket(&self, seat: usize) -> bool {
-        matches!(self.slots.get(seat), Some(Slot::Waiting(_)))
+    /// Whether the seat that leads is done with the request of a seat: it was answered, or comes alone.
+    pub fn is_done(&self, seat: usize) -> bool {
+        matches!(self.slots.get(seat), Some(Slot::Answered(_) | Slot::Alone))
     }
 
     /// A seat whose ticket waits, if there is one.

@@ -5,7 +5,7 @@ ghost use Rattle.canvas_room.specs.Batches.{IsUnjudged};
 ghost use Rattle.canvas_room.specs.Seats.{IsAnswerTo};
 
 use crate::asking::Told;
-use crate::batch::commit;
+use crate::batch::{MOST_SEATS, commit};
 use crate::mailbox::{Mailbox, Slot, Ticket};
 use canvas_board::{Front, RoomName};
 use canvas_desk::{Desk, SubmitError};
@@ -70,15 +70,14 @@ impl<N: RoomName> SeatSlot<N> {
         }
     }
 
-    /// Leaves a copy of a request in the slot, with what the seat has seen; or nothing where memory is refused for that. It may wait for
-    /// the mailbox's lock.
+    /// Leaves a copy of a request in the slot, with what the seat has seen; where memory is refused for that, the request comes alone.
+    /// It may wait for the mailbox's lock.
     pub fn post<W: Wait>(&self, rt: &W, request: &Request, seen: &Front<N>) {
-        if let Ok(ticket) = Ticket::new(self.alloc, request, seen) {
-            self.shared
-                .mailbox
-                .lock(rt)
-                .put(self.seat, Slot::Waiting(ticket));
-        }
+        let content = match Ticket::new(self.alloc, request, seen) {
+            Ok(ticket) => Slot::Waiting(ticket),
+            Err(_) => Slot::Alone,
+        };
+        self.shared.mailbox.lock(rt).put(self.seat, content);
     }
 
     /// Waits so long as another seat leads and the slot has no reply. Takes then what was told of a request, if it stands in the slot; else
@@ -101,22 +100,26 @@ impl<N: RoomName> SeatSlot<N> {
         None
     }
 
-    // Says that no seat leads, and tells of one whose request waits.
-    fn end_lead<W: Wait>(&self, rt: &W) -> Option<usize> {
+    // Says that no seat leads. Tells of each seat whether it is to be called: one whose request waits, so that it leads, and those whose
+    // request was answered, or comes alone.
+    fn end_lead<W: Wait>(&self, rt: &W) -> [bool; MOST_SEATS] {
+        let mut called = [false; MOST_SEATS];
         let mut mailbox = self.shared.mailbox.lock(rt);
         mailbox.set_led(false);
-        mailbox.some_waiting()
+        for (seat, is_called) in called.iter_mut().enumerate() {
+            *is_called = mailbox.is_done(seat);
+        }
+        if let Some(is_called) = mailbox.some_waiting().and_then(|seat| called.get_mut(seat)) {
+            *is_called = true;
+        }
+        called
     }
 
-    /// This seat leads no more. Calls one whose request waits, so that it leads; and then all whose request doesn't, since it was answered,
-    /// or was left out and comes alone.
+    /// This seat leads no more. Calls one whose request waits, so that it leads, and those whose request was answered, or comes alone.
     pub fn step_down<W: Wait>(&self, rt: &W) {
-        let SharedMailbox { mailbox, calls } = &*self.shared;
-        if let Some(call) = self.end_lead(rt).and_then(|seat| calls.get(seat)) {
-            call.notify_one();
-        }
-        for (seat, call) in calls.iter().enumerate() {
-            if !mailbox.lock(rt).has_ticket(seat) {
+        let called = self.end_lead(rt);
+        for (call, is_called) in self.shared.calls.iter().zip(called) {
+            if is_called {
                 call.notify_one();
             }
         }
@@ -130,7 +133,7 @@ impl<N: RoomName> SeatSlot<N> {
         let content = self.shared.mailbox.lock(rt).take(self.seat);
         match content {
             Slot::Answered(reply) => reply.told_of(request, seen),
-            Slot::Empty | Slot::Waiting(_) => None,
+            Slot::Empty | Slot::Waiting(_) | Slot::Alone => None,
         }
     }
 
