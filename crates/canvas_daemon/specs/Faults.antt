@@ -2,8 +2,8 @@
 use Rattle.std.specs.Prelude.{◌≡◌, ◌⊎◌, ℕ, List, [], ◌∷◌, ◌++◌, codes, Option}
 use Rattle.std.specs.Fmt.{decimal}
 use Rattle.std.specs.Io.KnownBytes.{Appends}
-use Rattle.canvas_shelf.specs.declared.shelf.ShelfError.{ShelfError}
-use Rattle.canvas_shelf.specs.declared.shelf.ShelfError.TheVariants as shelf
+use Rattle.canvas_folder.specs.declared.error.FolderError.{FolderError}
+use Rattle.canvas_folder.specs.declared.error.FolderError.TheVariants as folder
 use Rattle.canvas_journal.specs.declared.fault.OpenError.{OpenError}
 use Rattle.canvas_journal.specs.declared.fault.OpenError.TheVariants as opening
 use Rattle.canvas_nodes.specs.declared.link.LinkError.{LinkError}
@@ -50,10 +50,11 @@ fault_of_opening (opening.Damaged segment offset) = Damaged segment offset
 fault_of_opening opening.TooLarge = TooLarge
 fault_of_opening opening.Memory = Memory
 
--- the fault that a shelf that doesn't tell what it holds is
-abbrev pub fault_of_shelf : ShelfError → Fault
-fault_of_shelf shelf.Device = Device
-fault_of_shelf shelf.Memory = Memory
+-- the fault that a folder that isn't opened is: one that another has is a failed device
+abbrev pub fault_of_folder : FolderError → Fault
+fault_of_folder folder.InUse = Device
+fault_of_folder folder.Device = Device
+fault_of_folder folder.Memory = Memory
 
 -- the fault that a room that isn't made is
 abbrev pub fault_of_room : RoomError → Fault

@@ -2,11 +2,11 @@
 ghost use Rattle.std.specs.Prelude.{◌≡◌};
 ghost use Rattle.canvas_daemon.specs.Faults.{IsEnd, IsFaultStatus};
 
+use canvas_folder::FolderError;
 use canvas_journal::OpenError;
 use canvas_lines::Fault as LineFault;
 use canvas_nodes::LinkError;
 use canvas_room::RoomError;
-use canvas_shelf::ShelfError;
 use std::alloc::{AllocError, AllocFailed};
 use std::error::Error;
 use std::fmt;
@@ -122,15 +122,15 @@ impl From<LinkError> for Fault {
     }
 }
 
-impl From<ShelfError> for Fault {
-    ghost use Rattle.canvas_daemon.specs.Faults.{fault_of_shelf};
+impl From<FolderError> for Fault {
+    ghost use Rattle.canvas_daemon.specs.Faults.{fault_of_folder};
 
-    ghost from_gives = { λ error fault. fault ≡ fault_of_shelf error };
+    ghost from_gives = { λ error fault. fault ≡ fault_of_folder error };
 
-    fn from(error: ShelfError) -> Fault {
+    fn from(error: FolderError) -> Fault {
         match error {
-            ShelfError::Device => Fault::Device,
-            ShelfError::Memory => Fault::Memory,
+            FolderError::InUse | FolderError::Device => Fault::Device,
+            FolderError::Memory => Fault::Memory,
         }
     }
 }

@@ -6,11 +6,11 @@ ghost use Rattle.canvas_daemon.specs.Served.{BeginsServing, IsServeFault, Writes
 
 use crate::fault::Fault;
 use canvas_board::{Opening, RoomName};
+use canvas_folder::{DirShelf, OsFolder};
 use canvas_front::SeatAnswerer;
 use canvas_journal::{Journal, Keeper, open};
 use canvas_nodes::serve_one;
 use canvas_room::{BlankRoom, Lock, Room, Seat, blank_room};
-use canvas_shelf::DirShelf;
 use std::alloc::{AllocError, Global};
 use std::io::Write;
 use std::marker::Brand;
@@ -62,7 +62,7 @@ pub(crate) fn open_room(
     files: HostRuntime,
     dir: &str,
     seats: u32,
-) -> Result<BlankRoom<Journal<DirShelf<HostRuntime>>>, Fault>
+) -> Result<BlankRoom<Journal<DirShelf<OsFolder<HostRuntime>>>>, Fault>
     ensures seats { IfOk result (λ room. room.seats ≡ seats) }
     ensures faults { IfErr result (IsServeFault seats) }
 {

@@ -8,11 +8,13 @@ ghost use Rattle.canvas_daemon.specs.Shown.{IsReport, IsReportOf, IsReportText, 
 use crate::fault::Fault;
 use bumpalo::Bump;
 use canvas_doc::Doc;
+use canvas_folder::DirShelf;
 use canvas_journal::look;
 use canvas_lines::write_out;
-use canvas_shelf::{DirShelf, Shelf};
+use canvas_shelf::Shelf;
 use canvas_tree::grow;
 use std::alloc::{AllocError, Global};
+use std::fs::File;
 use std::io::Write;
 use std::rt::Files;
 
@@ -73,7 +75,7 @@ pub fn show_shelf<S: Shelf, W: Write>(
 /// Writes what the journal in a folder holds, as `report` says it. Writes nothing to the folder.
 ///
 /// The errors are those of `show_shelf`; `Device` too where the folder is missing or can't be read.
-pub fn show<R: Files + AllocGlobal + Clone + Drop, W: Write>(
+pub fn show<R: Files<File = File> + AllocGlobal + Clone + Drop, W: Write>(
     files: R,
     dir: &str,
     output: &mut W,

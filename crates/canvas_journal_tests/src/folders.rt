@@ -1,12 +1,13 @@
 //! Folders as shelves, and what they hold.
-use canvas_shelf::{DirShelf, Shelf, ShelfError};
+use canvas_folder::{DirShelf, OsFolder};
+use canvas_shelf::{Shelf, ShelfError};
 use std::alloc::Global;
 use std::fs;
 use std::test::Fail;
 
-/// The shelf of a folder that is there.
-pub fn shelf_in(rt: &HostRuntime, folder: &str) -> Result<DirShelf<HostRuntime>, Fail> {
-    Ok(DirShelf::existing(rt.clone()?, folder)?)
+/// The shelf of a folder.
+pub fn shelf_in(rt: &HostRuntime, folder: &str) -> Result<DirShelf<OsFolder<HostRuntime>>, Fail> {
+    Ok(DirShelf::new(rt.clone()?, folder)?)
 }
 
 /// Makes a folder anew, where nothing stood or this test's own files did.

@@ -1,9 +1,9 @@
 //! Journals in real folders.
 use crate::bytes::{ABC, AFTER_JOIN, EMPTY, JOINED, JOINED_TWICE, OLD_JOINED};
 use crate::folders::{is_file, is_there, renew, shelf_in, write};
+use canvas_folder::{DirShelf, OsFolder};
 use canvas_journal::{Journal, KeepError, Keeper, OpenError, open};
 use canvas_judge::{Entry, Outcome, State, What};
-use canvas_shelf::DirShelf;
 use std::alloc::Global;
 use std::fs;
 use std::test::Fail;
@@ -27,7 +27,10 @@ fn opened(rt: &HostRuntime, folder: &str) -> Result<Result<u64, OpenError>, Fail
 }
 
 // A journal in a folder.
-fn journal_in(rt: &HostRuntime, folder: &str) -> Result<Journal<DirShelf<HostRuntime>>, Fail> {
+fn journal_in(
+    rt: &HostRuntime,
+    folder: &str,
+) -> Result<Journal<DirShelf<OsFolder<HostRuntime>>>, Fail> {
     match open(rt.alloc(), shelf_in(rt, folder)?) {
         Ok((journal, _, _)) => Ok(journal),
         Err(_) => Err(Fail::from("a folder that isn't opened")),

@@ -1,6 +1,7 @@
 //! Shelves in real folders.
 use crate::folders::{is_there, renew, shelf_in, write};
-use canvas_shelf::{DeviceFailed, DirShelf, Shelf, ShelfError};
+use canvas_folder::{DirShelf, FolderError, OsFolder};
+use canvas_shelf::Shelf;
 use std::fs;
 use std::test::Fail;
 
@@ -53,13 +54,14 @@ fn opened_after_each_call(rt: HostRuntime) -> Result<(), Fail> {
 }
 
 // Writes into two segments in turn, and makes sure of the first.
-fn write_in_turn(shelf: &mut DirShelf<HostRuntime>) -> Result<(), DeviceFailed> {
+fn write_in_turn(shelf: &mut DirShelf<OsFolder<HostRuntime>>) -> Result<(), Fail> {
     shelf.create(1)?;
     shelf.append(1, b"a")?;
     shelf.create(2)?;
     shelf.append(2, b"b")?;
     shelf.append(1, b"c")?;
-    shelf.sync(1)
+    shelf.sync(1)?;
+    Ok(())
 }
 
 // Whether one shelf reads what it wrote into two segments in turn.
@@ -128,18 +130,18 @@ fn names_of_segments(rt: HostRuntime) -> Result<(), Fail> {
 }
 
 // Why there is no shelf of this folder, or none where there is.
-fn missing(rt: &HostRuntime, folder: &str) -> Result<Option<ShelfError>, Fail> {
+fn missing(rt: &HostRuntime, folder: &str) -> Result<Option<FolderError>, Fail> {
     Ok(DirShelf::existing(rt.clone()?, folder).err())
 }
 
 // Why no shelf can be made there, or none where one was.
-fn unmade(rt: &HostRuntime, folder: &str) -> Result<Option<ShelfError>, Fail> {
+fn unmade(rt: &HostRuntime, folder: &str) -> Result<Option<FolderError>, Fail> {
     Ok(DirShelf::new(rt.clone()?, folder).err())
 }
 
 #[test]
 fn a_missing_folder(rt: HostRuntime) -> Result<(), Fail> {
-    let device = Some(ShelfError::Device);
+    let device = Some(FolderError::Device);
     let _ = fs::remove_dir_all(&rt, "shelf-missing");
     assert_eq!(rt; missing(&rt, "shelf-missing")?, device);
     assert_eq!(rt; unmade(&rt, "shelf-missing/deep/er")?, None);
@@ -154,12 +156,30 @@ fn a_missing_folder(rt: HostRuntime) -> Result<(), Fail> {
 // Whether the system's folder of processes, in which nobody may make a file, is a shelf that makes no segment; true too where there is
 // no such folder.
 fn makes_no_segment(rt: &HostRuntime) -> Result<bool, Fail> {
-    let Ok(mut shelf) = DirShelf::existing(rt.clone()?, "/proc") else {
+    let Ok(mut shelf) = DirShelf::new(rt.clone()?, "/proc") else {
         return Ok(true);
     };
     let made = shelf.create(1).is_err();
     let listed = shelf.list(rt.alloc())?;
     Ok(made && shelf.failures() == 1 && listed.as_slice().is_empty())
+}
+
+// Why there is no second shelf of a folder that has one.
+fn second(rt: &HostRuntime, folder: &str) -> Result<Option<FolderError>, Fail> {
+    let mut shelf = shelf_in(rt, folder)?;
+    shelf.create(1)?;
+    unmade(rt, folder)
+}
+
+#[test]
+fn a_folder_in_use(rt: HostRuntime) -> Result<(), Fail> {
+    let folder = "shelf-in-use";
+    renew(&rt, folder)?;
+    assert_eq!(rt; second(&rt, folder)?, Some(FolderError::InUse));
+    assert_eq!(rt; missing(&rt, folder)?, None);
+    assert!(rt; is_there(&rt, folder, &[(1, b"")])?);
+    let _ = fs::remove_dir_all(&rt, folder);
+    Ok(())
 }
 
 #[test]

@@ -1,18 +1,19 @@
 //! Rooms that have no name yet, over journals in folders.
 use canvas_board::Opening;
+use canvas_folder::{DirShelf, OsFolder};
 use canvas_journal::{Journal, look, open};
 use canvas_room::{BlankRoom, blank_room};
-use canvas_shelf::DirShelf;
 use std::fs;
+use std::fs::File;
 use std::rt::Files;
 use std::test::Fail;
 
 /// A room of so many seats over what a folder holds.
-pub fn room_in_folder<R: Files + AllocGlobal + Clone + Drop>(
+pub fn room_in_folder<R: Files<File = File> + AllocGlobal + Clone + Drop>(
     rt: &R,
     folder: &str,
     seats: usize,
-) -> Result<BlankRoom<Journal<DirShelf<R>>>, Fail> {
+) -> Result<BlankRoom<Journal<DirShelf<OsFolder<R>>>>, Fail> {
     let shelf = DirShelf::new(rt.clone()?, folder)?;
     let Ok((journal, state, version)) = open(rt.alloc(), shelf) else {
         return Err(Fail::from("a folder that isn't opened"));
@@ -24,7 +25,7 @@ pub fn room_in_folder<R: Files + AllocGlobal + Clone + Drop>(
 }
 
 /// The version that a folder's journal is found to hold.
-pub fn version_in<R: Files + AllocGlobal + Clone + Drop>(
+pub fn version_in<R: Files<File = File> + AllocGlobal + Clone + Drop>(
     rt: &R,
     folder: &str,
 ) -> Result<u64, Fail> {
