@@ -1,38 +1,18 @@
 -- No word has a blank, and no two words are one.
-use Rattle.std.proofs.Common.{◌≡◌, ◌&&◌, Bool, true, ℕ, zero, suc, List, [], ◌∷◌, refl, sym, ap, subst, ◌∙◌, arith}
+use Rattle.std.proofs.Common.{◌≡◌, ◌&&◌, true, ℕ, zero, suc, List, [], ◌∷◌, refl, sym, ap, subst, ◌∙◌, arith}
 use Rattle.std.specs.Prelude.{bytes_eq, codes, if◌then◌else◌}
 use Rattle.std.specs.List.{list_all}
 use Rattle.std.proofs.lemmas.Bool.{and_parts}
-use Rattle.canvas_model.specs.declared.ObjId.{ObjId}
-use Rattle.canvas_model.specs.declared.Kind.{Kind}
-use Rattle.canvas_model.specs.Document.{Name}
 use Rattle.canvas_model.specs.Words.{Lacks}
 use Rattle.canvas_model.proofs.Cut.{lacks_written}
-use Rattle.canvas_model.proofs.Written.{id_blank}
-use Rattle.canvas_lines.specs.declared.words.Verb.{Verb}
-use Rattle.canvas_lines.specs.Spelling.{SpellsName, SpellsVerb}
-use Rattle.canvas_lines.proofs.Parts.{name_blank}
-use Rattle.canvas_lines.proofs.Spellings.{kind_blank, verb_blank}
 use Rattle.canvas_script.specs.declared.said.Counted.TheVariants.{Take, Welcome, Deliver, Restart}
 use Rattle.canvas_script.specs.declared.said.Named.TheVariants.{Join, Copy, Show}
 use Rattle.canvas_script.specs.declared.said.Head.{Head}
 use Rattle.canvas_script.specs.declared.said.Head.TheVariants.{Counted, Named, Edit, Send, Tell}
 use Rattle.canvas_script.specs.Names.{is_node_byte}
-use Rattle.canvas_script.specs.Words.{SpellsCount, SpellsId, SpellsKind, SpellsNode}
+use Rattle.canvas_script.specs.Words.{SpellsCount, SpellsNode}
 use Rattle.canvas_script.specs.Lines.{SpellsHead, head_word}
 use Rattle.canvas_script.proofs.Counts.{count_lacks}
-
-pub spelled_id_blank : (word : List ℕ) (id : ObjId) → SpellsId word id → Lacks 32 word
-spelled_id_blank word id spelled = subst (Lacks 32) (sym spelled.1) (id_blank id spelled.0)
-
-pub spelled_kind_blank : (word : List ℕ) (kind : Kind) → SpellsKind word kind → Lacks 32 word
-spelled_kind_blank word kind spelled = subst (Lacks 32) (sym spelled) (kind_blank kind)
-
-pub spelled_name_blank : (word : List ℕ) (name : Name) → SpellsName word name → Lacks 32 word
-spelled_name_blank word name spelled = subst (Lacks 32) (sym spelled.1) (name_blank name spelled.0)
-
-pub spelled_verb_blank : (word : List ℕ) (verb : Verb) → SpellsVerb word verb → Lacks 32 word
-spelled_verb_blank word verb spelled = subst (Lacks 32) (sym spelled) (verb_blank verb)
 
 pub spelled_count_blank : (word : List ℕ) (n : ℕ) → SpellsCount word n → Lacks 32 word
 spelled_count_blank word n spelled = count_lacks word n spelled.0 spelled.1

@@ -3,7 +3,6 @@ pub mod Blocks
 pub mod Counts
 pub mod Entering
 pub mod Numbering
-pub mod Pairs
 pub mod Plays
 pub mod Scripts
 pub mod Shapes

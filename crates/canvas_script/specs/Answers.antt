@@ -1,22 +1,8 @@
 -- The lines that answer events.
-use Rattle.std.specs.Prelude.{ℕ, List, [], ◌∷◌, ◌++◌, codes}
-use Rattle.std.specs.Fmt.{decimal}
-use Rattle.canvas_model.specs.Local.{EditError, NotOpen, IsRoot, NotShown, ParentNotShown, BadParent, OwnDescendant, TooDeep, Crowded, IdsSpent, Full}
+use Rattle.std.specs.Prelude.{ℕ, List, [], codes}
 use Rattle.canvas_model.specs.Receive.{Received, Took, Old, Ahead, NotForMe}
 use Rattle.canvas_model.specs.World.{Answer, Nothing, NodeIs, MessageIs, EditIs, RefusedEdit, Judged, Repeat, Gap, Stranger, FullServer, SyncedIs, PublishedIs, Delivered, FloorIs, VersionIs}
-
--- the name of a refusal
-abbrev pub error_word : EditError → List ℕ
-error_word NotOpen = codes "NotOpen"
-error_word IsRoot = codes "IsRoot"
-error_word NotShown = codes "NotShown"
-error_word ParentNotShown = codes "ParentNotShown"
-error_word BadParent = codes "BadParent"
-error_word OwnDescendant = codes "OwnDescendant"
-error_word TooDeep = codes "TooDeep"
-error_word Crowded = codes "Crowded"
-error_word IdsSpent = codes "IdsSpent"
-error_word Full = codes "Full"
+use Rattle.canvas_edit_lines.specs.Answers.{edit_line, number_line, refused_line}
 
 -- what a node did with a message
 abbrev pub received_line : Received → List ℕ
@@ -25,17 +11,13 @@ received_line Old = codes "old\n"
 received_line Ahead = codes "ahead\n"
 received_line NotForMe = codes "not for me\n"
 
--- a word or two, a blank and a number
-abbrev pub number_line : List ℕ → ℕ → List ℕ
-number_line words n = words ++ codes " " ++ decimal n ++ 10 ∷ []
-
 -- an answer is a line of its own, but that of a new node is none
 abbrev pub answer_line : Answer → List ℕ
 answer_line Nothing = codes "nothing\n"
 answer_line (NodeIs k) = []
 answer_line (MessageIs m) = number_line (codes "message") m
-answer_line (EditIs n) = number_line (codes "edit") n
-answer_line (RefusedEdit error) = codes "refused " ++ error_word error ++ 10 ∷ []
+answer_line (EditIs n) = edit_line n
+answer_line (RefusedEdit error) = refused_line error
 answer_line (Judged v) = number_line (codes "judged") v
 answer_line Repeat = codes "repeat\n"
 answer_line Gap = codes "gap\n"

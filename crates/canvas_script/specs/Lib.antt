@@ -1,6 +1,5 @@
 pub mod Answers
 pub mod Asked
-pub mod Edits
 pub mod Lines
 pub mod Names
 pub mod Plays

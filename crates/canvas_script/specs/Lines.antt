@@ -11,8 +11,9 @@ use Rattle.canvas_script.specs.declared.said.Head.{Head}
 use Rattle.canvas_script.specs.declared.said.Head.TheVariants as head
 use Rattle.canvas_script.specs.declared.said.Said as declared
 use Rattle.canvas_script.specs.declared.said.Said.TheVariants as said
-use Rattle.canvas_script.specs.Words.{Spaced, SpellsCount, SpellsNode}
-use Rattle.canvas_script.specs.Edits.{SpellsEdit}
+use Rattle.canvas_edit_lines.specs.Edits.{SpellsEdit}
+use Rattle.canvas_edit_lines.specs.Words.{Spaced}
+use Rattle.canvas_script.specs.Words.{SpellsCount, SpellsNode}
 
 -- the lines that name nothing
 abbrev pub whole_line : Whole → List ℕ

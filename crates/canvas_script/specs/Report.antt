@@ -1,25 +1,15 @@
 -- The blocks of a world, and its report.
 use Rattle.std.specs.Prelude.{◌≡◌, ℕ, zero, suc, List, [], ◌++◌, codes, length, Option, None, Some}
 use Rattle.std.specs.Fmt.{decimal}
-use Rattle.canvas_model.specs.Client.{Client}
 use Rattle.canvas_model.specs.Numbered.{nth}
 use Rattle.canvas_model.specs.World.{Node, World, node, state}
 use Rattle.canvas_lines.specs.Blocks.{IsBlockText}
+use Rattle.canvas_edit_lines.specs.Heads.{node_head}
 
 -- what the server holds
 abbrev pub server_head : World → List ℕ
 server_head w =
     codes "server version " ++ decimal (length w.log) ++ codes " synced " ++ decimal w.synced ++ codes " published " ++ decimal w.published ++ codes " floor " ++ decimal w.floor
-
--- a node's id, or - where it has none
-abbrev pub id_word : Option ℕ → List ℕ
-id_word None = codes "-"
-id_word (Some c) = decimal c
-
--- a node's name, its id, its version, and how many of its edits wait
-abbrev pub node_head : List ℕ → Client → List ℕ
-node_head name client =
-    name ++ codes " id " ++ id_word client.id ++ codes " version " ++ decimal client.version ++ codes " waiting " ++ decimal (length client.waiting)
 
 -- the server's block: its tree is that of its whole log
 abbrev pub IsServerBlock : World → List ℕ → Type 0

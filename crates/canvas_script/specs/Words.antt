@@ -1,15 +1,7 @@
--- The words of a line, and two parts with a blank between them.
-use Rattle.std.specs.Prelude.{◌≡◌, ℕ, ◌≤◌, ◌^◌, List, ◌++◌, codes, Option, Some, None}
+-- The words of a line.
+use Rattle.std.specs.Prelude.{◌≡◌, ℕ, ◌≤◌, ◌^◌, List}
 use Rattle.std.specs.Fmt.{decimal}
-use Rattle.canvas_model.specs.declared.ObjId.{ObjId}
-use Rattle.canvas_model.specs.declared.Kind.{Kind}
-use Rattle.canvas_model.specs.Ids.{IsId}
-use Rattle.canvas_model.specs.Text.{id_text, kind_word}
 use Rattle.canvas_script.specs.Names.{IsNodeName}
-
--- the text is a first part, a blank and the rest
-abbrev pub Spaced : List ℕ → (List ℕ → Type 0) → (List ℕ → Type 0) → Type 0
-Spaced text IsFirst IsRest = (first : List ℕ) × (rest : List ℕ) × (text ≡ first ++ codes " " ++ rest) × IsFirst first × IsRest rest
 
 -- these digits are the number, which is at most 2^62
 abbrev pub SpellsCount : List ℕ → ℕ → Type 0
@@ -18,16 +10,3 @@ SpellsCount word n = (n ≤ 2 ^ 62) × (word ≡ decimal n)
 -- the word is the node's name
 abbrev pub SpellsNode : List ℕ → List ℕ → Type 0
 SpellsNode word name = IsNodeName name × (word ≡ name)
-
--- the word is the object's id
-abbrev pub SpellsId : List ℕ → ObjId → Type 0
-SpellsId word id = IsId id × (word ≡ id_text id)
-
--- the word is the kind's
-abbrev pub SpellsKind : List ℕ → Kind → Type 0
-SpellsKind word kind = word ≡ kind_word kind
-
--- the id of the child that comes before, or `-` to come first
-abbrev pub SpellsAfter : List ℕ → Option ObjId → Type 0
-SpellsAfter word None = word ≡ codes "-"
-SpellsAfter word (Some id) = SpellsId word id

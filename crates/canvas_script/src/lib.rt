@@ -2,7 +2,6 @@
 #![tactic(auto)]
 
 mod answers;
-mod edits;
 mod names;
 mod play;
 mod report;
@@ -12,9 +11,8 @@ mod script;
 mod words;
 
 pub use answers::answer_line;
-pub use edits::read_edit;
 pub use names::{MAX_NAME_LEN, Names, is_node_name};
 pub use play::play_items;
-pub use report::{write_client, write_node, write_report, write_server};
+pub use report::{write_node, write_report, write_server};
 pub use run::{ScriptError, world_run};
 pub use script::{Item, Script, is_world, one_bad_script_line, read_script};

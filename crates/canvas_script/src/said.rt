@@ -3,9 +3,9 @@ ghost use Rattle.std.specs.Prelude.{◌≡◌, IfErr, IfNone, IfOk, IfSome};
 ghost use Rattle.canvas_lines.specs.Errors.{IsLineError};
 ghost use Rattle.canvas_script.specs.Lines.{SpellsHead, SpellsLine, SpellsLong, SpellsRest, SpellsWhole, seen_said};
 
-use crate::edits::read_edit;
 use crate::words::{read_count, read_node};
 use canvas_client::EditRequest;
+use canvas_edit_lines::read_edit;
 use canvas_lines::LineError;
 use canvas_lines::words::cut_word;
 use std::alloc::Global;

@@ -1,10 +1,9 @@
 // The words of a line, and what they spell.
 ghost use Rattle.std.specs.Prelude.{◌≡◌, ◌<◌, ◌↔◌, IfErr, IfOk, IsTrue, length, slice_index};
 ghost use Rattle.canvas_lines.specs.Errors.{IsLineError};
-ghost use Rattle.canvas_script.specs.Words.{SpellsAfter, SpellsCount, SpellsId, SpellsKind, SpellsNode};
+ghost use Rattle.canvas_script.specs.Words.{SpellsCount, SpellsNode};
 
 use crate::names::is_node_name;
-use canvas_doc::{Kind, ObjId};
 use canvas_lines::LineError;
 
 /// The most that a number of a line is.
@@ -60,38 +59,4 @@ pub(crate) fn read_node(word: &[u8]) -> Result<&[u8], LineError>
     } else {
         Err(LineError::Unreadable)
     }
-}
-
-// The object id that is spelled so.
-pub(crate) fn read_id(word: &[u8]) -> Result<ObjId, LineError>
-    ensures ok { IfOk result (SpellsId word.now) }
-    ensures err { IfErr result (IsLineError (SpellsId word.now)) }
-{
-    match ObjId::try_from(word) {
-        Ok(id) => Ok(id),
-        Err(_) => Err(LineError::Unreadable),
-    }
-}
-
-// The kind that is spelled so.
-pub(crate) fn read_kind(word: &[u8]) -> Result<Kind, LineError>
-    ensures ok { IfOk result (SpellsKind word.now) }
-    ensures err { IfErr result (IsLineError (SpellsKind word.now)) }
-{
-    match Kind::try_from(word) {
-        Ok(kind) => Ok(kind),
-        Err(_) => Err(LineError::Unreadable),
-    }
-}
-
-// The id of the child that comes before, or none for `-`.
-pub(crate) fn read_after(word: &[u8]) -> Result<Option<ObjId>, LineError>
-    ensures ok { IfOk result (SpellsAfter word.now) }
-    ensures err { IfErr result (IsLineError (SpellsAfter word.now)) }
-{
-    if word == b"-".as_slice() {
-        return Ok(None);
-    }
-    let id = read_id(word)?;
-    Ok(Some(id))
 }

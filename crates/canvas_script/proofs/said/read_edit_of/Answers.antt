@@ -1,7 +1,7 @@
 use Rattle.std.proofs.Common.{refl}
-use Rattle.canvas_script.specs.Edits.{SpellsEdit}
+use Rattle.canvas_edit_lines.specs.Edits.{SpellsEdit}
 use Rattle.canvas_script.proofs.Shapes.{edit_of_shape}
-use Rattle.canvas_script.proofs.Pairs.{no_cut, no_first, no_second, spaced_of}
+use Rattle.canvas_edit_lines.proofs.Pairs.{no_cut, no_first, no_second, spaced_of}
 use Rattle.canvas_script.proofs.said.read_edit_of.Goals as goal
 
 pub returns-in_err-name-clause-err : goal.returns-in_err-name-clause-err

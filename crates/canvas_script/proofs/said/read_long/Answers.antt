@@ -1,5 +1,5 @@
 use Rattle.canvas_script.specs.Lines.{SpellsLong, SpellsRest, seen_said}
-use Rattle.canvas_script.proofs.Pairs.{no_cut, no_first, no_rest, ok_of, spaced_of}
+use Rattle.canvas_edit_lines.proofs.Pairs.{no_cut, no_first, no_rest, ok_of, spaced_of}
 use Rattle.canvas_script.proofs.Shapes.{long_shape, head_rest}
 use Rattle.canvas_script.proofs.said.read_long.Goals as goal
 

@@ -1,6 +1,6 @@
 use Rattle.std.proofs.Common.{inl, inr}
 use Rattle.canvas_script.specs.Lines.{SpellsLine, SpellsLong}
-use Rattle.canvas_script.proofs.Pairs.{err_of}
+use Rattle.canvas_edit_lines.proofs.Pairs.{err_of}
 use Rattle.canvas_script.proofs.said.read_said.Goals as goal
 
 pub returns-clause-err : goal.returns-clause-err

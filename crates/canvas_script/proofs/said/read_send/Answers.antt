@@ -1,7 +1,7 @@
 use Rattle.std.proofs.Common.{refl}
 use Rattle.canvas_script.specs.Words.{SpellsCount}
 use Rattle.canvas_script.proofs.Shapes.{send_shape}
-use Rattle.canvas_script.proofs.Pairs.{no_cut, no_first, no_second, spaced_of}
+use Rattle.canvas_edit_lines.proofs.Pairs.{no_cut, no_first, no_second, spaced_of}
 use Rattle.canvas_script.proofs.said.read_send.Goals as goal
 
 pub returns-in_err-name-clause-err : goal.returns-in_err-name-clause-err

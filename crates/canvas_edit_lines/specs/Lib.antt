@@ -1,0 +1,4 @@
+pub mod Answers
+pub mod Edits
+pub mod Heads
+pub mod Words

@@ -1,5 +1,0 @@
-use Rattle.std.proofs.Common.{refl}
-use Rattle.canvas_script.proofs.edits.read_shallow.Goals as goal
-
-pub same-value : goal.same-value
-same-value c = refl
