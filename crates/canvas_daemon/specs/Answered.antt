@@ -1,17 +1,18 @@
 -- What `canvasd edit` answers to a line.
-use Rattle.std.specs.Prelude.{◌≡◌, ◌⊎◌, ℕ, ◌+◌, true, List, [], ◌∷◌, ◌++◌, length, codes, Option, IsSome}
+use Rattle.std.specs.Prelude.{◌≡◌, ◌⊎◌, ℕ, ◌+◌, true, List, [], ◌∷◌, ◌++◌, length, codes, Option, IsSome, IsSomeAnd}
 use Rattle.std.specs.Fmt.{decimal}
 use Rattle.std.specs.Io.KnownBytes.{Appends}
 use Rattle.canvas_model.specs.Client.{Client, new_client, last_number}
 use Rattle.canvas_model.specs.Local.{EditRequest, Refuses}
-use Rattle.canvas_model.specs.World.{Answer, EditIs, RefusedEdit}
-use Rattle.canvas_client.specs.Asked.{HasMade}
+use Rattle.canvas_client.specs.Asked.{HasMade, refusal}
 use Rattle.canvas_nodes.specs.GoesOn.{GoesOn}
 use Rattle.canvas_lines.specs.Lines.{is_passed}
 use Rattle.canvas_lines.specs.Blocks.{IsBlockText}
-use Rattle.canvas_script.specs.Answers.{answer_line}
-use Rattle.canvas_script.specs.Edits.{SpellsEdit}
-use Rattle.canvas_script.specs.Report.{node_head}
+use Rattle.canvas_edit_lines.specs.Answers.{edit_line, refusal_line}
+use Rattle.canvas_edit_lines.specs.Edits.{SpellsEdit}
+use Rattle.canvas_edit_lines.specs.Heads.{node_head}
+use Rattle.canvas_daemon.specs.declared.editing.EditAnswer.{EditAnswer}
+use Rattle.canvas_daemon.specs.declared.editing.EditAnswer.TheVariants.{Made, Refused}
 
 -- the client has joined: it has gone on from a new one, and has an id
 abbrev pub HasJoined : Client → Type 0
@@ -30,14 +31,18 @@ abbrev pub WritesBlock : Client → Option (List ℕ) → Option (List ℕ) → 
 WritesBlock client before after = (block : List ℕ) × IsOwnBlock client block × Appends before after block
 
 -- what a client makes of an edit: it is made, and has the next number; or the client refuses it, and nothing has changed
-abbrev pub MakesEdit : Client → EditRequest → Answer → Client → Type 0
-MakesEdit old request (EditIs n) new = HasMade old request new × (n ≡ last_number old + 1)
-MakesEdit old request (RefusedEdit error) new = Refuses old request error × (new ≡ old)
-MakesEdit old request _ new = ⊥
+abbrev pub MakesEdit : Client → EditRequest → EditAnswer → Client → Type 0
+MakesEdit old request (Made n) new = HasMade old request new × (n ≡ last_number old + 1)
+MakesEdit old request (Refused error) new = IsSomeAnd (refusal error) (Refuses old request) × (new ≡ old)
+
+-- the line that answers an edit
+abbrev pub answer_line : EditAnswer → List ℕ
+answer_line (Made n) = edit_line n
+answer_line (Refused error) = refusal_line (refusal error)
 
 -- the line spells an edit, and what became of it is told
 abbrev pub PlaysEdit : Client → List ℕ → List ℕ → Client → Type 0
-PlaysEdit old line text new = (request : EditRequest) × (answer : Answer) × SpellsEdit line request × MakesEdit old request answer new × (text ≡ answer_line answer)
+PlaysEdit old line text new = (request : EditRequest) × (answer : EditAnswer) × SpellsEdit line request × MakesEdit old request answer new × (text ≡ answer_line answer)
 
 -- what a client makes of a line, and the text that answers it: none, where the line is passed over; its version after `exchange`, by which
 -- it has gone on; its block for `show`; and otherwise what became of the edit that the line spells

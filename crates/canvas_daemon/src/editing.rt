@@ -1,17 +1,15 @@
 // What `canvasd edit` does: a client that plays the lines of its input.
-ghost use Rattle.std.specs.Prelude.{◌≡◌, ◌↔◌, ◌-◌, [], ◌∷◌, IfErr, IfOk, IsTrue, MatchOption, OnOk, length, slice_get};
-ghost use Rattle.canvas_daemon.specs.Answered.{AnswersEdit, AnswersLine, IsUnreadable, MakesEdit, SpellsNoEdit};
+ghost use Rattle.std.specs.Prelude.{◌≡◌, ◌↔◌, ◌-◌, [], ◌∷◌, IfErr, IfOk, IsTrue, MatchOption, OnOk, length, slice_get, string_bytes};
+ghost use Rattle.canvas_daemon.specs.Answered.{AnswersEdit, AnswersLine, IsUnreadable, MakesEdit, SpellsNoEdit, answer_line};
 ghost use Rattle.canvas_daemon.specs.Edited.{HasEnded, IsCutBy, IsLeftBy, IsLineCutBy, IsPlayed, PlaysAll, TakesLines};
 ghost use Rattle.canvas_daemon.specs.Faults.{IsMemoryOrDevice};
-ghost use Rattle.canvas_world.specs.Seen.{seen_answer};
 
 use crate::fault::Fault;
 use crate::node::Node;
 use canvas_client::{EditError, EditRequest};
+use canvas_edit_lines::{edit_line, read_edit, refused_line};
 use canvas_lines::lines::is_passed;
 use canvas_lines::{LineError, write_out};
-use canvas_script::{answer_line, read_edit};
-use canvas_world::Answer;
 use std::alloc::{AllocError, Global};
 use std::io::{BufRead, ErrorKind, Write};
 use std::net::{Ipv4Addr, Net, SocketAddr, TcpStream};
@@ -165,20 +163,39 @@ where
         Err(LineError::Memory) => return Err(Fault::Memory),
     };
     let answer = made(node, &request)?;
-    let line = answer_line(alloc, &answer)?;
+    let line = answer_line(alloc, answer)?;
     write_out(output, line.as_bytes())?;
     Ok(())
 }
 
+// What became of an edit.
+#[derive(Clone, Copy)]
+pub(crate) enum EditAnswer {
+    // It was made, and has this number.
+    Made(u64),
+    // The client refuses it.
+    Refused(EditError),
+}
+
 // Makes an edit, and answers its number, or why the client refuses it. Fails only where memory is refused.
-fn made<R>(node: &mut Node<R>, request: &EditRequest) -> Result<Answer, AllocError>
+fn made<R>(node: &mut Node<R>, request: &EditRequest) -> Result<EditAnswer, AllocError>
 where
     R: RandomSource + AllocGlobal + Clone + Drop,
-    ensures { IfOk result (λ answer. MakesEdit node.old.client request.now (seen_answer answer) node.new.client) }
+    ensures { IfOk result (λ answer. MakesEdit node.old.client request.now answer node.new.client) }
 {
     match node.edit(request) {
-        Ok(edit) => Ok(Answer::EditIs(edit)),
+        Ok(edit) => Ok(EditAnswer::Made(edit)),
         Err(EditError::Memory) => Err(AllocError),
-        Err(error) => Ok(Answer::RefusedEdit(error)),
+        Err(error) => Ok(EditAnswer::Refused(error)),
+    }
+}
+
+// The line that answers an edit.
+fn answer_line(alloc: Global, answer: EditAnswer) -> Result<String, AllocError>
+    ensures { IfOk result (λ line. string_bytes line ≡ answer_line answer) }
+{
+    match answer {
+        EditAnswer::Made(edit) => edit_line(alloc, edit),
+        EditAnswer::Refused(error) => refused_line(alloc, error),
     }
 }
