@@ -4,3 +4,4 @@ pub mod Boards
 pub mod Rises
 pub mod Tails
 pub mod ReadBack
+pub mod Failures

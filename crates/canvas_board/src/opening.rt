@@ -5,6 +5,7 @@ ghost use Rattle.canvas_model.specs.Log.{last_version};
 use crate::rule::{BoardReader, BoardWriter, reader_of};
 use crate::{Blank, Board, Front, Opening, Publisher, Reader, RoomName};
 use std::alloc::{AllocError, Global};
+use std::collections::VecDeque;
 use std::sync::Wait;
 
 // Both copies of the board, before the first mark, and its writing end.
@@ -58,9 +59,10 @@ pub fn open_board<N: RoomName, W: Wait>(
     ensures reads { IfOk result (λ ends. ends.1.items ≡ replicate readers []) }
 {
     let (book, front) = blank.named::<N>();
+    let owed = VecDeque::with_capacity(alloc, 1)?;
     let writer = written(alloc, opening, &front, readers)?;
     match read(alloc, &writer, &front, readers) {
-        Ok(ends) => Ok((Publisher::new(alloc, book, front, writer), ends)),
+        Ok(ends) => Ok((Publisher::new(owed, book, front, writer), ends)),
         Err(error) => {
             writer.take(rt);
             Err(error)
