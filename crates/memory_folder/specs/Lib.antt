@@ -1,0 +1,4 @@
+pub mod Failing
+pub mod Held
+pub mod Sound
+pub mod Shown
