@@ -1,3 +1,4 @@
 pub mod Results
 pub mod Changing
 pub mod Keeps
+pub mod Leaving

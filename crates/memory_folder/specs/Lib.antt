@@ -2,3 +2,4 @@ pub mod Failing
 pub mod Held
 pub mod Sound
 pub mod Shown
+pub mod Left

@@ -3,6 +3,7 @@ ghost use Rattle.std.specs.Prelude.{◌≡◌, ◌<◌, ◌≤◌, ◌∷◌, []
 ghost use Rattle.canvas_folder.specs.Files.{stands, standing, bytes_at, made_in, changed, with_more, as_synced, as_removed, as_sure};
 ghost use Rattle.canvas_folder.specs.Names.{same};
 ghost use Rattle.memory_folder.specs.Held.{held_files};
+ghost use Rattle.memory_folder.specs.Left.{asked_of};
 ghost use Rattle.memory_folder.specs.declared.held.Held.{Held};
 
 use crate::held::Held;
@@ -142,4 +143,16 @@ pub(crate) fn make_sure(files: &mut [Held])
     for i in 0..files.len() {
         files[i].sure = true;
     }
+}
+
+// How many unsynced bytes of a file are to stay, if it is named.
+pub(crate) fn asked_of(keep: &[(&[u8], u64)], name: &[u8]) -> Option<u64>
+    ensures { result ≡ asked_of name.now (map (λ k. (k.0.now, k.1)) keep.now) }
+{
+    for (named, bytes) in keep {
+        if *named == name {
+            return Some(*bytes);
+        }
+    }
+    None
 }

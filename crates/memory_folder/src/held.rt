@@ -1,5 +1,5 @@
 // Files in memory.
-ghost use Rattle.std.specs.Prelude.{◌≡◌, IfOk};
+ghost use Rattle.std.specs.Prelude.{◌≡◌, ◌≤◌, true, length, take, IfOk, IfSome};
 
 use std::alloc::{AllocError, Global};
 
@@ -28,6 +28,8 @@ pub(crate) struct Moment {
 
 impl Held {
     ghost use Rattle.memory_folder.specs.Held.{file_of, synced_of};
+    ghost use Rattle.memory_folder.specs.Left.{stays, synced_size, certain_file};
+    ghost use Rattle.memory_folder.specs.Sound.{has_synced};
 
     // What was synced, once more.
     fn copy_synced(&self, alloc: Global) -> Result<Option<Vec<u8>>, AllocError>
@@ -50,6 +52,50 @@ impl Held {
             again: self.again,
             synced: self.copy_synced(alloc)?,
             bytes: self.bytes.to_vec(alloc)?,
+        })
+    }
+
+    // How many bytes were synced.
+    fn synced_size(&self) -> usize
+        ensures { result ≡ synced_size (synced_of self.now.synced) }
+    {
+        match &self.synced {
+            Some(bytes) => bytes.len(),
+            None => 0,
+        }
+    }
+
+    // How many bytes a crash leaves that keeps so many unsynced ones, or none where the file is missing.
+    pub(crate) fn stays(&self, asked: Option<u64>) -> Option<usize>
+        requires { has_synced (synced_of self.now.synced) self.now.bytes.items ≡ true }
+        ensures stays { result ≡ stays self.now.there self.now.sure (synced_of self.now.synced) self.now.bytes.items asked }
+        ensures within { IfSome result (λ size. size ≤ length self.now.bytes.items) }
+    {
+        if !self.there {
+            return None;
+        }
+        let more = match asked {
+            Some(more) => more as usize,
+            None if self.sure => 0,
+            None => return None,
+        };
+        let synced = self.synced_size();
+        Some(synced + more.min(self.bytes.len().saturating_sub(synced)))
+    }
+
+    // What a crash leaves of it that leaves so many bytes: all of that is certain.
+    pub(crate) fn left(&self, alloc: Global, size: usize) -> Result<Held, AllocError>
+        requires { size ≤ length self.now.bytes.items }
+        ensures { IfOk result (λ h. file_of h ≡ certain_file (self.now.name.items, take size self.now.bytes.items)) }
+    {
+        let bytes = &self.bytes.as_slice()[..size];
+        Ok(Held {
+            name: self.name.to_vec(alloc)?,
+            there: true,
+            sure: true,
+            again: false,
+            synced: Some(bytes.to_vec(alloc)?),
+            bytes: bytes.to_vec(alloc)?,
         })
     }
 }
