@@ -1,5 +1,5 @@
 -- What the desk says of the requests of a batch.
-use Rattle.std.proofs.Common.{◌≡◌, ℕ, ◌+◌, List, [], ◌∷◌, ◌++◌, Bool, Result, Ok, Err, refl, ap, sym, subst, ◌∙◌, arith, inl, inr, append_assoc}
+use Rattle.std.proofs.Common.{◌≡◌, ℕ, ◌+◌, List, [], ◌∷◌, ◌++◌, Bool, true, Result, Ok, Err, refl, ap, sym, subst, ◌∙◌, arith, inl, inr, append_assoc}
 use Rattle.std.specs.Prelude.{◌⊎◌, IfErr, map}
 use mathlib.Core.List.{IsPrefix}
 use Rattle.canvas_model.specs.Log.{Entry}
@@ -14,8 +14,9 @@ use Rattle.canvas_desk.specs.declared.faults.SubmitError.TheVariants.{Stranger, 
 use Rattle.canvas_desk.specs.Batches.{AreJudged, IsAnswered, LeavesBatch, as_owed, is_memory, marks, receipts, unjudged}
 use Rattle.canvas_desk.specs.Judging.{IsEntryFor, Refuses}
 use Rattle.canvas_desk.proofs.Running.{board_next, stands_next}
-use Rattle.canvas_room.specs.Batches.{AreSaid, AreSeen, IsUnjudged, Says}
-use Rattle.canvas_room.specs.Seats.{IsAnswerTo, IsRefused, IsRefusedAt, IsTold, Learns, RefusesEdit}
+use Rattle.canvas_room.specs.Batches.{AreSaid, AreSeen, IsUnanswered, Says}
+use Rattle.canvas_room.specs.Seats.{IsAnswerTo, IsRefused, IsRefusedAt, IsTold, Learns, RefusesEdit, is_failure}
+use Rattle.std.proofs.lemmas.Bool.{true≢false}
 use Rattle.canvas_room.proofs.Told.{answers_of, by_test, refuses_of}
 
 -- a beginning of a legal history is legal
@@ -42,7 +43,7 @@ seen_push {Y} history seen ys ys' y more h last = subst (λ (l : List Y). AreSee
 said_none : (o : Opening) (due : List Mark) (qs : List Asked) (seens : List (List Mark)) (shown : List Mark) (v : ℕ) → AreSaid o due qs seens (receipts shown v (unjudged qs))
 said_none o due [] seens shown v = tt
 said_none o due (q ∷ qs) [] shown v = tt
-said_none o due (q ∷ qs) (seen ∷ seens) shown v = ((tt, inl tt), said_none o due qs seens shown v)
+said_none o due (q ∷ qs) (seen ∷ seens) shown v = ((tt, inl refl), said_none o due qs seens shown v)
 
 -- the request's entry stands next
 told_next : (o : Opening) (q : Asked) (e : Entry) (seen due due' : List Mark) (v : ℕ) → IsPrefix seen due → v ≡ (board o due).version → IsEntryFor (board o due) q e → IsPrefix (due ++ Logged e ∷ []) due' → IsLegal o due'
@@ -89,7 +90,7 @@ said_owed : (o : Opening) (due : List Mark) (qs : List Asked) (seens : List (Lis
 said_owed o due [] seens answers h = tt
 said_owed o due (q ∷ qs) [] answers h = tt
 said_owed o due (q ∷ qs) (s ∷ ss) [] h = tt
-said_owed o due (q ∷ qs) (s ∷ ss) (Ok r ∷ answers) h = ((tt, inl tt), said_owed o due qs ss answers h.1)
+said_owed o due (q ∷ qs) (s ∷ ss) (Ok r ∷ answers) h = ((tt, inl refl), said_owed o due qs ss answers h.1)
 said_owed o due (q ∷ qs) (s ∷ ss) (Err e ∷ answers) h = (h.0, said_owed o due qs ss answers h.1)
 
 -- what the desk answers a batch says that of each request
@@ -115,20 +116,39 @@ said_first {X} {Y} o due asked seen xs xs' ys ys' answers answers' x y a first s
     let two = subst (λ (l : List Y). AreSaid o due (map asked (x ∷ xs')) (map seen l) answers) second one in
     subst (λ (l : List (Result ReceiptValue SubmitError)). AreSaid o due (map asked (x ∷ xs')) (map seen (y ∷ ys')) l) third two
 
--- a batch that isn't answered wasn't judged
-unjudged_of : (o : Opening) (qs : List Asked) (e : SubmitError) (due due' : List Mark) (failed failed' : Bool) → LeavesBatch o qs e due due' failed failed' → IsUnjudged e
-unjudged_of o qs Stranger due due' failed failed' l = l
-unjudged_of o qs (Repeat n) due due' failed failed' l = l
-unjudged_of o qs (Gap n) due due' failed failed' l = l
-unjudged_of o qs Full due due' failed failed' l = l
-unjudged_of o qs Device due due' failed failed' l = tt
-unjudged_of o qs Failed due due' failed failed' l = tt
-unjudged_of o qs (Memory after) due due' failed failed' l = tt
-unjudged_of o qs TooLarge due due' failed failed' l = l
+-- why a batch isn't answered
+unanswered_of : (o : Opening) (qs : List Asked) (e : SubmitError) (due due' : List Mark) (failed failed' : Bool) → LeavesBatch o qs e due due' failed failed' → IsUnanswered failed' e
+unanswered_of o qs Stranger due due' failed failed' l = absurd l
+unanswered_of o qs (Repeat n) due due' failed failed' l = absurd l
+unanswered_of o qs (Gap n) due due' failed failed' l = absurd l
+unanswered_of o qs Full due due' failed failed' l = absurd l
+unanswered_of o qs Device due due' failed failed' l = inr (refl, l.2)
+unanswered_of o qs Failed due due' failed failed' l = inr (refl, l.2)
+unanswered_of o qs (Memory after) due due' failed failed' l = inl refl
+unanswered_of o qs TooLarge due due' failed failed' l = absurd l
 
-pub batch_unjudged : {V : Type 0} (o : Opening) (qs : List Asked) (a : Result V SubmitError) (due due' : List Mark) (failed failed' : Bool) → IfErr a (λ e. LeavesBatch o qs e due due' failed failed') → IfErr a (λ e. IsUnjudged e)
-batch_unjudged o qs (Ok r) due due' failed failed' l = tt
-batch_unjudged o qs (Err e) due due' failed failed' l = unjudged_of o qs e due due' failed failed' l
+pub batch_unanswered : {V : Type 0} (o : Opening) (qs : List Asked) (a : Result V SubmitError) (due due' : List Mark) (failed failed' : Bool) → IfErr a (λ e. LeavesBatch o qs e due due' failed failed') → IfErr a (λ e. IsUnanswered failed' e)
+batch_unanswered o qs (Ok r) due due' failed failed' l = tt
+batch_unanswered o qs (Err e) due due' failed failed' l = unanswered_of o qs e due due' failed failed' l
+
+no_memory : (e : SubmitError) → is_failure e ≡ true → is_memory e ≡ true → ⊥
+no_memory Stranger is m = true≢false (sym m)
+no_memory (Repeat n) is m = true≢false (sym m)
+no_memory (Gap n) is m = true≢false (sym m)
+no_memory Full is m = true≢false (sym m)
+no_memory Device is m = true≢false (sym m)
+no_memory Failed is m = true≢false (sym m)
+no_memory (Memory after) is m = true≢false (sym is)
+no_memory TooLarge is m = true≢false (sym m)
+
+-- where it tells of a failure, the desk has failed; else memory was refused
+pub unanswered_failed : (failed : Bool) (e : SubmitError) → IsUnanswered failed e → is_failure e ≡ true → failed ≡ true
+unanswered_failed failed e (inl m) is = absurd (no_memory e is m)
+unanswered_failed failed e (inr f) is = f.1
+
+pub unanswered_memory : (failed : Bool) (e : SubmitError) → IsUnanswered failed e → (is_failure e ≡ true → ⊥) → is_memory e ≡ true
+unanswered_memory failed e (inl m) never = m
+unanswered_memory failed e (inr f) never = absurd (never f.0)
 
 -- ---- replies
 
@@ -136,35 +156,40 @@ batch_unjudged o qs (Err e) due due' failed failed' l = unjudged_of o qs e due d
 pub answer_as : (o : Opening) (q q' : Asked) (a : Result ReceiptValue SubmitError) (seen seen' front : List Mark) → q ≡ q' → seen ≡ seen' → IsAnswerTo o seen q a front → IsAnswerTo o seen' q' a front
 answer_as o q q' a seen seen' front asked same h = subst (λ (l : List Mark). IsAnswerTo o l q' a front) same (subst (λ (x : Asked). IsAnswerTo o seen x a front) asked h)
 
-refused_as : (o : Opening) (q : Asked) (e : SubmitError) (seen due front : List Mark) → front ≡ due → IsUnjudged e ⊎ IsRefusedAt o seen due q e → (IsUnjudged e → ⊥) → IsRefusedAt o seen front q e
+refused_as : (o : Opening) (q : Asked) (e : SubmitError) (seen due front : List Mark) → front ≡ due → (is_memory e ≡ true) ⊎ IsRefusedAt o seen due q e → (is_memory e ≡ true → ⊥) → IsRefusedAt o seen front q e
 refused_as o q e seen due front is (inl h) never = absurd (never h)
 refused_as o q e seen due front is (inr h) never = subst (λ (l : List Mark). IsRefusedAt o seen l q e) (sym is) h
 
-refusal_said : (o : Opening) (q : Asked) (e : SubmitError) (seen due front : List Mark) → Learns (Err e) seen due front → IsUnjudged e ⊎ IsRefusedAt o seen due q e → IsRefused o seen front q e
-refusal_said o q Stranger seen due front k h = refused_as o q Stranger seen due front k h (λ u. u)
-refusal_said o q (Repeat n) seen due front k h = refused_as o q (Repeat n) seen due front k h (λ u. u)
-refusal_said o q (Gap n) seen due front k h = refused_as o q (Gap n) seen due front k h (λ u. u)
-refusal_said o q Full seen due front k h = refused_as o q Full seen due front k h (λ u. u)
-refusal_said o q Device seen due front k h = k
-refusal_said o q Failed seen due front k h = k
+-- no answer of a batch that was judged tells of a failure
+no_failure : (o : Opening) (q : Asked) (e : SubmitError) (seen due : List Mark) {P : Type 0} → (is_memory e ≡ true) ⊎ IsRefusedAt o seen due q e → (is_memory e ≡ true → ⊥) → ((b : Served) → Refuses b q e → ⊥) → P
+no_failure o q e seen due (inl h) never none = absurd (never h)
+no_failure o q e seen due (inr h) never none = absurd (none (board o h.at) h.refuses)
+
+refusal_said : (o : Opening) (q : Asked) (e : SubmitError) (seen due front : List Mark) → Learns (Err e) seen due front → (is_memory e ≡ true) ⊎ IsRefusedAt o seen due q e → IsRefused o seen front q e
+refusal_said o q Stranger seen due front k h = refused_as o q Stranger seen due front k h (λ m. true≢false (sym m))
+refusal_said o q (Repeat n) seen due front k h = refused_as o q (Repeat n) seen due front k h (λ m. true≢false (sym m))
+refusal_said o q (Gap n) seen due front k h = refused_as o q (Gap n) seen due front k h (λ m. true≢false (sym m))
+refusal_said o q Full seen due front k h = refused_as o q Full seen due front k h (λ m. true≢false (sym m))
+refusal_said o q Device seen due front k h = no_failure o q Device seen due h (λ m. true≢false (sym m)) (λ b n. n)
+refusal_said o q Failed seen due front k h = no_failure o q Failed seen due h (λ m. true≢false (sym m)) (λ b n. n)
 refusal_said o q (Memory after) seen due front k h = k
-refusal_said o q TooLarge seen due front k h = refused_as o q TooLarge seen due front k h (λ u. u)
+refusal_said o q TooLarge seen due front k h = refused_as o q TooLarge seen due front k h (λ m. true≢false (sym m))
 
 -- an answer of a batch is an answer to the seat
 pub said_answers : (o : Opening) (q : Asked) (a : Result ReceiptValue SubmitError) (seen due front : List Mark) → Says o seen due q a → Learns a seen due front → IsAnswerTo o seen q a front
 said_answers o q (Ok r) seen due front h k = (h, k)
 said_answers o q (Err e) seen due front h k = (h.0, refusal_said o q e seen due front k h.1)
 
-refusal_unjudged : (o : Opening) (q : Asked) (e : SubmitError) (seen front : List Mark) → IsUnjudged e → front ≡ seen → RefusesEdit q e × IsRefused o seen front q e
-refusal_unjudged o q Stranger seen front u same = absurd u
-refusal_unjudged o q (Repeat n) seen front u same = absurd u
-refusal_unjudged o q (Gap n) seen front u same = absurd u
-refusal_unjudged o q Full seen front u same = absurd u
-refusal_unjudged o q Device seen front u same = (tt, same)
-refusal_unjudged o q Failed seen front u same = (tt, same)
-refusal_unjudged o q (Memory after) seen front u same = (tt, same)
-refusal_unjudged o q TooLarge seen front u same = absurd u
+refusal_unjudged : (o : Opening) (q : Asked) (e : SubmitError) (seen front : List Mark) → is_memory e ≡ true → front ≡ seen → RefusesEdit q e × IsRefused o seen front q e
+refusal_unjudged o q Stranger seen front m same = absurd (true≢false (sym m))
+refusal_unjudged o q (Repeat n) seen front m same = absurd (true≢false (sym m))
+refusal_unjudged o q (Gap n) seen front m same = absurd (true≢false (sym m))
+refusal_unjudged o q Full seen front m same = absurd (true≢false (sym m))
+refusal_unjudged o q Device seen front m same = absurd (true≢false (sym m))
+refusal_unjudged o q Failed seen front m same = absurd (true≢false (sym m))
+refusal_unjudged o q (Memory after) seen front m same = (tt, same)
+refusal_unjudged o q TooLarge seen front m same = absurd (true≢false (sym m))
 
--- a request that wasn't judged
-pub unjudged_answers : (o : Opening) (q : Asked) (e : SubmitError) (seen front : List Mark) → IsUnjudged e → front ≡ seen → IsAnswerTo o seen q (Err e) front
-unjudged_answers o q e seen front u same = refusal_unjudged o q e seen front u same
+-- a request for which memory was refused
+pub unjudged_answers : (o : Opening) (q : Asked) (e : SubmitError) (seen front : List Mark) → is_memory e ≡ true → front ≡ seen → IsAnswerTo o seen q (Err e) front
+unjudged_answers o q e seen front m same = refusal_unjudged o q e seen front m same

@@ -175,7 +175,7 @@ module _ (N : RattleType) (g : Ghosts N.Denot) (a : absorb.Ghosts (BoardOf N.Den
           search (front.the_send, sendable),
           (
             writer.the_field_send (Board.the_row N g) (Step.the_row N g) marks Published.the_row Heap.the_row (Array Mark.the_row 0) a p ghosts b o heap.the_send c heap.the_sync frees,
-            (search (o, sendable, crosses), tt),
+            (search (o, sendable, crosses), (search sendable, tt)),
           ),
         ),
       )))
@@ -223,7 +223,7 @@ Reply-send N g s = view_send (in_reply.the_row N g) _ _ _ _ (declared_send (in_r
 pub Slot-send : (N : RattleType) (g : Ghosts N.Denot) → IsSend N → IsSend (Slot.the_row N g)
 Slot-send N g s =
     let r = Reply-send N g s in
-    variants_send (Slot.enum N g) (tt, ((Ticket-send N g s, tt), ((search (r, sendable), tt), tt)))
+    variants_send (Slot.enum N g) (tt, ((Ticket-send N g s, tt), (tt, ((search (r, sendable), tt), tt))))
 
 pub Mailbox-send : (N : RattleType) (g : Ghosts N.Denot) → IsSend N → IsSend (Mailbox.the_row N g)
 Mailbox-send N g s = let l = Slot-send N g s in declared_send (Mailbox.the_type N g) (search (l, sendable, crosses), (search sendable, tt))

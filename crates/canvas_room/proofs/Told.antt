@@ -11,15 +11,17 @@ use Rattle.canvas_server.specs.Asked.{Asked}
 use Rattle.canvas_server.specs.Served.{Served}
 use Rattle.canvas_server.specs.declared.taking.TakeError.TheVariants as take
 use Rattle.canvas_server.specs.declared.taking.Took.TheVariants as took
-use Rattle.canvas_board.specs.Marks.{IsLegal, Logged, Mark, Opening, board, start}
+use Rattle.canvas_board.specs.Marks.{IsLegal, Logged, Mark, Opening, TellsFailure, board, start}
 use Rattle.canvas_board.specs.Receipts.{ReceiptValue, EndsWith}
 use Rattle.canvas_board.proofs.Boards.{version_before}
+use Rattle.canvas_board.proofs.Failures.{tells_later}
 use Rattle.canvas_board.proofs.Fronts.{prefix_self, prefix_trans}
 use Rattle.canvas_desk.specs.declared.faults.SubmitError.{SubmitError}
 use Rattle.canvas_desk.specs.declared.faults.SubmitError.TheVariants.{Stranger, Repeat, Gap, Full, Device, Failed, Memory, TooLarge}
 use Rattle.canvas_desk.specs.Judging.{Refuses}
 use Rattle.canvas_desk.specs.Submitting.{IsAllShown, IsPublished, LeavesAt, SettlesAt}
-use Rattle.canvas_room.specs.Seats.{Answers, IsAnswerTo, IsEdit, IsOutcomeOf, IsRefused, IsRefusedAt, IsTold, Learns, RefusesEdit}
+use Rattle.canvas_room.specs.Seats.{Answers, IsAnswerTo, IsEdit, IsFailedSince, IsOutcomeOf, IsRefused, IsRefusedAt, IsTold, Learns, RefusesEdit, is_failure}
+use Rattle.std.proofs.lemmas.Bool.{true≢false}
 
 -- ---- the entry
 
@@ -113,26 +115,29 @@ refused_since o q e seen shown shown' due due' front pre all same learns legal r
   refuses = refuses;
 }
 
-refusal_of : (o : Opening) (q : Asked) (e : SubmitError) (seen shown shown' due due' front : List Mark) (failed failed' : Bool) → IsPrefix seen shown → LeavesAt o q e due due' failed failed' → SettlesAt e shown shown' due' → Learns (Err e) seen shown' front → IsLegal o front → IsRefused o seen front q e
-refusal_of o q Stranger seen shown shown' due due' front failed failed' pre l s k legal = refused_since o q Stranger seen shown shown' due due' front pre s l.0.0 k legal l.1
-refusal_of o q (Repeat n) seen shown shown' due due' front failed failed' pre l s k legal = refused_since o q (Repeat n) seen shown shown' due due' front pre s l.0.0 k legal l.1
-refusal_of o q (Gap n) seen shown shown' due due' front failed failed' pre l s k legal = refused_since o q (Gap n) seen shown shown' due due' front pre s l.0.0 k legal l.1
-refusal_of o q Full seen shown shown' due due' front failed failed' pre l s k legal = refused_since o q Full seen shown shown' due due' front pre s l.0.0 k legal l.1
-refusal_of o q Device seen shown shown' due due' front failed failed' pre l s k legal = k
-refusal_of o q Failed seen shown shown' due due' front failed failed' pre l s k legal = k
-refusal_of o q (Memory after) seen shown shown' due due' front failed failed' pre l s k legal = k
-refusal_of o q TooLarge seen shown shown' due due' front failed failed' pre l s k legal = refused_since o q TooLarge seen shown shown' due due' front pre s l.0.0 k legal l.1
+refusal_of : (o : Opening) (q : Asked) (e : SubmitError) (seen shown shown' due due' front : List Mark) (failed failed' : Bool) → IsPrefix seen shown → LeavesAt o q e due due' failed failed' → SettlesAt e shown shown' due' → Learns (Err e) seen shown' front → IsLegal o front → is_failure e ≡ false → IsRefused o seen front q e
+refusal_of o q Stranger seen shown shown' due due' front failed failed' pre l s k legal fine = refused_since o q Stranger seen shown shown' due due' front pre s l.0.0 k legal l.1
+refusal_of o q (Repeat n) seen shown shown' due due' front failed failed' pre l s k legal fine = refused_since o q (Repeat n) seen shown shown' due due' front pre s l.0.0 k legal l.1
+refusal_of o q (Gap n) seen shown shown' due due' front failed failed' pre l s k legal fine = refused_since o q (Gap n) seen shown shown' due due' front pre s l.0.0 k legal l.1
+refusal_of o q Full seen shown shown' due due' front failed failed' pre l s k legal fine = refused_since o q Full seen shown shown' due due' front pre s l.0.0 k legal l.1
+refusal_of o q Device seen shown shown' due due' front failed failed' pre l s k legal fine = absurd (true≢false fine)
+refusal_of o q Failed seen shown shown' due due' front failed failed' pre l s k legal fine = absurd (true≢false fine)
+refusal_of o q (Memory after) seen shown shown' due due' front failed failed' pre l s k legal fine = k
+refusal_of o q TooLarge seen shown shown' due due' front failed failed' pre l s k legal fine = refused_since o q TooLarge seen shown shown' due due' front pre s l.0.0 k legal l.1
 
 -- what the desk says is an answer to the seat
 pub answer_to : (o : Opening) (q : Asked) (a : Result ReceiptValue SubmitError) (seen shown shown' due due' front : List Mark) (failed failed' : Bool) → IsPrefix seen shown → IfOk a (λ _. IsPrefix shown due)
     → IfOk a (IsPublished o q due shown' due' failed failed') → IfOk a (λ r. EndsWith o r.history r.entry r.version × IsLegal o r.history)
-    → IfErr a (λ e. LeavesAt o q e due due' failed failed') → IfErr a (λ e. SettlesAt e shown shown' due') → Learns a seen shown' front → IsLegal o front → IsAnswerTo o seen q a front
-answer_to o q (Ok r) seen shown shown' due due' front failed failed' pre more ok ends l s k legal = (told_of o seen shown due shown' due' failed failed' q (Ok r) pre more ok ends, k)
-answer_to o q (Err e) seen shown shown' due due' front failed failed' pre more ok ends l s k legal = (refuses_edit o q e due due' failed failed' l, refusal_of o q e seen shown shown' due due' front failed failed' pre l s k legal)
+    → IfErr a (λ e. LeavesAt o q e due due' failed failed') → IfErr a (λ e. SettlesAt e shown shown' due') → Learns a seen shown' front → IsLegal o front → IfErr a (λ e. is_failure e ≡ false) → IsAnswerTo o seen q a front
+answer_to o q (Ok r) seen shown shown' due due' front failed failed' pre more ok ends l s k legal fine = (told_of o seen shown due shown' due' failed failed' q (Ok r) pre more ok ends, k)
+answer_to o q (Err e) seen shown shown' due due' front failed failed' pre more ok ends l s k legal fine = (refuses_edit o q e due due' failed failed' l, refusal_of o q e seen shown shown' due due' front failed failed' pre l s k legal fine)
 
 -- the seat has seen more than what it was to learn
 refused_more : (o : Opening) (q : Asked) (e : SubmitError) (old front new : List Mark) → IsPrefix front new → IsLegal o new → IsRefusedAt o old front q e → IsRefusedAt o old new q e
 refused_more o q e old front new more legal r = record { at = r.at; from = r.from; to = prefix_trans r.at front new r.to more; legal = legal; refuses = r.refuses }
+
+failed_more : (o : Opening) (old front new : List Mark) → IsPrefix front new → IsLegal o new → IsFailedSince o old front → IsFailedSince o old new
+failed_more o old front new more legal r = ((prefix_trans old front new r.0.0 more, legal), tells_later front new more r.1)
 
 -- it has learned nothing
 stays : (old front new : List Mark) → front ≡ old → (new ≡ old) ⊎ (new ≡ front) → new ≡ old
@@ -144,8 +149,8 @@ refused_learned o q Stranger old front new more one legal r = refused_more o q S
 refused_learned o q (Repeat n) old front new more one legal r = refused_more o q (Repeat n) old front new more legal r
 refused_learned o q (Gap n) old front new more one legal r = refused_more o q (Gap n) old front new more legal r
 refused_learned o q Full old front new more one legal r = refused_more o q Full old front new more legal r
-refused_learned o q Device old front new more one legal r = stays old front new r one
-refused_learned o q Failed old front new more one legal r = stays old front new r one
+refused_learned o q Device old front new more one legal r = failed_more o old front new more legal r
+refused_learned o q Failed old front new more one legal r = failed_more o old front new more legal r
 refused_learned o q (Memory after) old front new more one legal r = stays old front new r one
 refused_learned o q TooLarge old front new more one legal r = refused_more o q TooLarge old front new more legal r
 
@@ -153,3 +158,34 @@ refused_learned o q TooLarge old front new more one legal r = refused_more o q T
 pub answer_judged : (o : Opening) (q : Asked) (old front : List Mark) (a : Result ReceiptValue SubmitError) (new : List Mark) → IsAnswerTo o old q a front → IsPrefix front new → (new ≡ old) ⊎ (new ≡ front) → IsLegal o new → IfErr a (λ e. IsRefused o old new q e)
 answer_judged o q old front (Ok r) new h more one legal = tt
 answer_judged o q old front (Err e) new h more one legal = refused_learned o q e old front new more one legal h.1
+
+-- ---- failures
+
+-- a failure that was learned of is a reason for either error
+pub failure_answers : (o : Opening) (q : Asked) (e : SubmitError) (seen front : List Mark) → is_failure e ≡ true → IsFailedSince o seen front → IsAnswerTo o seen q (Err e) front
+failure_answers o q Stranger seen front is h = absurd (true≢false (sym is))
+failure_answers o q (Repeat n) seen front is h = absurd (true≢false (sym is))
+failure_answers o q (Gap n) seen front is h = absurd (true≢false (sym is))
+failure_answers o q Full seen front is h = absurd (true≢false (sym is))
+failure_answers o q Device seen front is h = (tt, h)
+failure_answers o q Failed seen front is h = (tt, h)
+failure_answers o q (Memory after) seen front is h = absurd (true≢false (sym is))
+failure_answers o q TooLarge seen front is h = absurd (true≢false (sym is))
+
+-- after an error of these the desk has failed
+pub failed_after : (o : Opening) (q : Asked) (e : SubmitError) (due due' : List Mark) (failed failed' : Bool) → LeavesAt o q e due due' failed failed' → is_failure e ≡ true → failed' ≡ true
+failed_after o q Stranger due due' failed failed' l is = absurd (true≢false (sym is))
+failed_after o q (Repeat n) due due' failed failed' l is = absurd (true≢false (sym is))
+failed_after o q (Gap n) due due' failed failed' l is = absurd (true≢false (sym is))
+failed_after o q Full due due' failed failed' l is = absurd (true≢false (sym is))
+failed_after o q Device due due' failed failed' l is = l.2
+failed_after o q Failed due due' failed failed' l is = l.1
+failed_after o q (Memory after) due due' failed failed' l is = absurd (true≢false (sym is))
+failed_after o q TooLarge due due' failed failed' l is = absurd (true≢false (sym is))
+
+-- the longer of what was seen and what tells of a failure
+pub learned_failure : (o : Opening) (seen told : List Mark) → IsPrefix seen told → IsLegal o told → TellsFailure told → IsFailedSince o seen told
+learned_failure o seen told pre legal t = ((pre, legal), t)
+
+pub seen_failure : (o : Opening) (seen told again : List Mark) → again ≡ seen → IsLegal o again → IsPrefix told seen → TellsFailure told → IsFailedSince o seen again
+seen_failure o seen told again same legal pre t = ((subst (λ (l : List Mark). IsPrefix seen l) (sym same) (prefix_self seen), legal), subst TellsFailure (sym same) (tells_later told seen pre t))

@@ -4,7 +4,7 @@ use mathlib.Core.List.{IsPrefix}
 use Rattle.canvas_model.specs.Log.{What, Join, Edit, Entry}
 use Rattle.canvas_model.specs.Verdict.{Joined, Outcome}
 use Rattle.canvas_server.specs.Asked.{Asked}
-use Rattle.canvas_board.specs.Marks.{IsLegal, Mark, Opening, Sees, board}
+use Rattle.canvas_board.specs.Marks.{IsLegal, Mark, Opening, Sees, TellsFailure, board}
 use Rattle.canvas_board.specs.Receipts.{ReceiptValue, EndsWith}
 use Rattle.canvas_desk.specs.declared.faults.SubmitError.{SubmitError}
 use Rattle.canvas_desk.specs.declared.faults.SubmitError.TheVariants.{Stranger, Repeat, Gap, Full, Device, Failed, Memory, TooLarge}
@@ -53,14 +53,19 @@ pub record IsRefusedAt (o : Opening) (old new : List Mark) (q : Asked) (e : Subm
   pub legal : IsLegal o new
   pub refuses : Refuses (board o at) q e
 
--- a refused request was refused at a beginning of what the seat has seen since; a request that wasn't judged leaves the seat as it was
+-- what the seat has seen since tells that what keeps the entries has failed
+abbrev pub IsFailedSince : Opening → List Mark → List Mark → Type 0
+IsFailedSince o old new = Sees o old new × TellsFailure new
+
+-- A refused request was refused at a beginning of what the seat has seen since, or what it has seen since tells of a failure; a request for
+-- which memory was refused leaves the seat as it was.
 abbrev pub IsRefused : Opening → List Mark → List Mark → Asked → SubmitError → Type 0
 IsRefused o old new q Stranger = IsRefusedAt o old new q Stranger
 IsRefused o old new q (Repeat done) = IsRefusedAt o old new q (Repeat done)
 IsRefused o old new q (Gap done) = IsRefusedAt o old new q (Gap done)
 IsRefused o old new q Full = IsRefusedAt o old new q Full
-IsRefused o old new q Device = new ≡ old
-IsRefused o old new q Failed = new ≡ old
+IsRefused o old new q Device = IsFailedSince o old new
+IsRefused o old new q Failed = IsFailedSince o old new
 IsRefused o old new q (Memory after) = new ≡ old
 IsRefused o old new q TooLarge = IsRefusedAt o old new q TooLarge
 
@@ -76,7 +81,19 @@ is_refusal (Err Failed) = false
 is_refusal (Err (Memory after)) = false
 is_refusal (Err TooLarge) = true
 
--- what a seat learns with an answer: all that is published where its request was judged and refused, and nothing otherwise
+-- what keeps the entries has failed
+abbrev pub is_failure : SubmitError → Bool
+is_failure Stranger = false
+is_failure (Repeat done) = false
+is_failure (Gap done) = false
+is_failure Full = false
+is_failure Device = true
+is_failure Failed = true
+is_failure (Memory after) = false
+is_failure TooLarge = false
+
+-- what a seat learns with an answer that tells of no failure: all that is published where its request was judged and refused, and nothing
+-- otherwise
 abbrev pub Learns : Result ReceiptValue SubmitError → List Mark → List Mark → List Mark → Type 0
 Learns answer seen shown front = front ≡ cond (is_refusal answer) shown seen
 

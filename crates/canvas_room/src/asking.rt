@@ -1,11 +1,12 @@
 // How a desk is asked for a seat.
-ghost use Rattle.std.specs.Prelude.{◌≡◌};
+ghost use Rattle.std.specs.Prelude.{◌≡◌, true, false, Err, IfErr, IfNone, IfSome};
 ghost use mathlib.Core.List.{IsPrefix};
 ghost use Rattle.canvas_server.specs.Asked.{Asked, seen_request};
-ghost use Rattle.canvas_board.specs.Marks.{IsLegal};
-ghost use Rattle.canvas_room.specs.Batches.{IsUnjudged};
+ghost use Rattle.canvas_board.specs.Marks.{IsLegal, TellsFailure};
+ghost use Rattle.canvas_desk.specs.Batches.{is_memory};
+ghost use Rattle.canvas_room.specs.Batches.{IsUnanswered};
 ghost use Rattle.canvas_room.specs.Seats as seats;
-ghost use Rattle.canvas_room.specs.Seats.{IsAnswerTo, Learns};
+ghost use Rattle.canvas_room.specs.Seats.{IsAnswerTo, IsFailedSince, Learns};
 
 use canvas_board::{Front, Receipt, RoomName};
 use canvas_desk::{Desk, SubmitError};
@@ -40,7 +41,29 @@ pub fn is_refusal<N: RoomName>(answer: &Result<Receipt<N>, SubmitError>) -> bool
     }
 }
 
-/// What a seat is to learn with an answer.
+// Whether an error says that what keeps the entries has failed.
+fn is_failure(error: SubmitError) -> bool
+    ensures { result ≡ seats.is_failure error }
+{
+    matches!(error, SubmitError::Device | SubmitError::Failed)
+}
+
+// The error of an answer that says that what keeps the entries has failed.
+fn failure_of<N: RoomName>(answer: &Result<Receipt<N>, SubmitError>) -> Option<SubmitError>
+    ensures some { IfSome result (λ error. (answer.now ≡ Err error) × (seats.is_failure error ≡ true)) }
+    ensures none { IfNone result (IfErr answer.now (λ error. seats.is_failure error ≡ false)) }
+{
+    match answer {
+        Ok(_) => None,
+        Err(error) => if is_failure(*error) {
+            Some(*error)
+        } else {
+            None
+        },
+    }
+}
+
+/// What a seat is to learn with an answer that tells of no failure.
 pub fn learned<N: RoomName>(
     answer: &Result<Receipt<N>, SubmitError>,
     seen: &Front<N>,
@@ -56,14 +79,62 @@ pub fn learned<N: RoomName>(
     }
 }
 
-/// What is told where a batch as a whole was refused: nothing is learned.
-pub fn unjudged<N: RoomName>(error: SubmitError, seen: &Front<N>) -> Told<N>
-    requires { IsUnjudged error }
+// What is told where memory was refused: nothing is learned.
+fn unjudged<N: RoomName>(error: SubmitError, seen: &Front<N>) -> Told<N>
+    requires { is_memory error ≡ true }
     ensures { (q : Asked) → IsAnswerTo N.opening seen.now q result.answer result.learns }
 {
     Told {
         answer: Err(error),
         learns: seen.again(),
+    }
+}
+
+// What a seat is to learn that has seen this, where a beginning of the history tells of a failure: that beginning, if it is longer.
+fn learned_of<N: RoomName>(seen: &Front<N>, told: Front<N>) -> Front<N>
+    requires told { TellsFailure told }
+    requires legal { IsLegal N.opening told }
+    ensures { IsFailedSince N.opening seen.now result }
+{
+    if seen.begins(&told) {
+        told
+    } else {
+        seen.again()
+    }
+}
+
+/// What is told by a desk that has failed: with the error the seat learns that it has.
+pub fn failed<K: Keeper, N: RoomName, R: Wait + Drop, W: Wait>(
+    rt: &W,
+    desk: &mut Desk<K, N, R>,
+    error: SubmitError,
+    seen: &Front<N>,
+) -> Told<N>
+    requires failed { desk.old.failed ≡ true }
+    requires error { seats.is_failure error ≡ true }
+    ensures { (q : Asked) → IsAnswerTo N.opening seen.now q result.answer result.learns }
+{
+    let told = desk.tell_failure(rt);
+    Told {
+        answer: Err(error),
+        learns: learned_of(seen, told),
+    }
+}
+
+/// What is told where a batch as a whole isn't answered.
+pub fn unanswered<K: Keeper, N: RoomName, R: Wait + Drop, W: Wait>(
+    rt: &W,
+    desk: &mut Desk<K, N, R>,
+    error: SubmitError,
+    seen: &Front<N>,
+) -> Told<N>
+    requires { IsUnanswered desk.old.failed error }
+    ensures { (q : Asked) → IsAnswerTo N.opening seen.now q result.answer result.learns }
+{
+    if is_failure(error) {
+        failed(rt, desk, error, seen)
+    } else {
+        unjudged(error, seen)
     }
 }
 
@@ -78,6 +149,11 @@ pub fn ask<K: Keeper, N: RoomName, R: Wait + Drop, W: Wait>(
     ensures { IsAnswerTo N.opening seen.now (seen_request request.now) result.answer result.learns }
 {
     let answer = desk.submit(rt, request);
-    let learns = learned(&answer, seen, &desk.shown());
-    Told { answer, learns }
+    match failure_of(&answer) {
+        Some(error) => failed(rt, desk, error, seen),
+        None => {
+            let learns = learned(&answer, seen, &desk.shown());
+            Told { answer, learns }
+        }
+    }
 }

@@ -2,7 +2,7 @@
 ghost use Rattle.std.specs.Prelude.{◌≡◌, ◌≤◌, IfErr, IfOk, IfSome, length, map};
 ghost use Rattle.canvas_server.specs.Asked.{seen_request};
 ghost use Rattle.canvas_board.specs.Marks.{IsLegal};
-ghost use Rattle.canvas_room.specs.Batches.{AreSaid, AreSeen, IsUnjudged, Says, seen_of};
+ghost use Rattle.canvas_room.specs.Batches.{AreSaid, AreSeen, IsUnanswered, Says, seen_of};
 
 use crate::asking::{Told, is_refusal, learned};
 use crate::mailbox::{Mailbox, Reply, Slot, Ticket};
@@ -130,7 +130,7 @@ fn waiting<N: RoomName, W: Wait>(
 /// Where requests of other seats than this one wait, has all that wait committed as one batch, and leaves the answers in their slots.
 /// A request is left unanswered, and isn't kept, where memory was refused for the batch, or where it was refused and not all that is due
 /// is published. Fails where the batch as a whole was refused, and then nothing of it is due.
-#[tactic(auto, using(crate::proofs::Saying::answers_said, crate::proofs::Saying::batch_unjudged))]
+#[tactic(auto, using(crate::proofs::Saying::answers_said, crate::proofs::Saying::batch_unanswered))]
 pub fn commit<K: Keeper, N: RoomName, R: Wait + Drop, W: Wait>(
     alloc: Global,
     rt: &W,
@@ -138,7 +138,7 @@ pub fn commit<K: Keeper, N: RoomName, R: Wait + Drop, W: Wait>(
     mailbox: &Mutex<Mailbox<N>>,
     seat: usize,
 ) -> Result<(), SubmitError>
-    ensures { IfErr result IsUnjudged }
+    ensures { IfErr result (IsUnanswered desk.new.failed) }
 {
     let shown = desk.shown();
     let Some(batch) = waiting(alloc, rt, mailbox, seat, &shown) else {

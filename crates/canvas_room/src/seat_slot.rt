@@ -1,7 +1,7 @@
 // A seat's slot in the mailbox of its room.
 ghost use Rattle.std.specs.Prelude.{IfErr, IfSome};
 ghost use Rattle.canvas_server.specs.Asked.{seen_request};
-ghost use Rattle.canvas_room.specs.Batches.{IsUnjudged};
+ghost use Rattle.canvas_room.specs.Batches.{IsUnanswered};
 ghost use Rattle.canvas_room.specs.Seats.{IsAnswerTo};
 
 use crate::asking::Told;
@@ -143,7 +143,7 @@ impl<N: RoomName> SeatSlot<N> {
         rt: &W,
         desk: &mut Desk<K, N, R>,
     ) -> Result<(), SubmitError>
-        ensures { IfErr result IsUnjudged }
+        ensures { IfErr result (IsUnanswered desk.new.failed) }
     {
         commit(self.alloc, rt, desk, &self.shared.mailbox, self.seat)
     }
