@@ -1,6 +1,7 @@
 //! A server with one client that edits, and a trial.
 use canvas_daemon::{Fault, edit, serve, show, trial};
 use std::alloc::{AllocError, Global};
+use std::fs::File;
 use std::net::{Ipv4Addr, Net, SocketAddr, TcpListener, TcpStream};
 use std::random::RandomSource;
 use std::rt::Files;
@@ -171,7 +172,7 @@ where
 }
 
 // Whether the show of a folder begins as that of a trial.
-fn shows<R: Files + AllocGlobal + Clone + Drop>(files: R, folder: &str) -> Result<bool, Fault> {
+fn shows<R: Files<File = File> + AllocGlobal + Clone + Drop>(files: R, folder: &str) -> Result<bool, Fault> {
     let mut shown = Vec::new(files.alloc());
     show(files, folder, &mut shown)?;
     Ok(shown.starts_with(b"version 18\n0:0 document\n"))

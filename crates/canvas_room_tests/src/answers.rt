@@ -10,6 +10,7 @@ use canvas_journal::{Journal, Keeper};
 use canvas_room::{Room, RoomError, Seat};
 use canvas_shelf::{Call, MemShelf};
 use std::alloc::Global;
+use std::fs::File;
 use std::rt::Files;
 use std::sync::Wait;
 use std::test::Fail;
@@ -77,7 +78,7 @@ fn tells(rt: HostRuntime) -> Result<(), Fail> {
     Ok(())
 }
 
-fn tells_in_folder<R: Wait + Files + AllocGlobal + Clone + Copy + Drop>(
+fn tells_in_folder<R: Wait + Files<File = File> + AllocGlobal + Clone + Copy + Drop>(
     rt: R,
 ) -> Result<bool, Fail> {
     let blank = room_in_folder(&rt, FOLDER, 2)?;
