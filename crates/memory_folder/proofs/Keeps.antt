@@ -2,7 +2,6 @@
 use Rattle.std.proofs.Common.{◌≡◌, ℕ, true, false, List, Result, Ok, Err, OnOk, OnErr}
 use Rattle.std.specs.Prelude.{map}
 use Rattle.canvas_folder.specs.Files.{File, Files, changed, made_in, with_more, as_synced, as_removed, as_sure}
-use Rattle.canvas_folder.specs.Kept.{EachCallKeeps}
 use Rattle.canvas_folder.proofs.Keeping.{each_call}
 use Rattle.memory_folder.specs.Sound.{is_sound, sound_of, sound_from}
 

@@ -1,6 +1,6 @@
 -- What a crash leaves that keeps this much, a crash may leave.
 use Rattle.std.proofs.Common.{◌≡◌, ◌<◌, ◌≤◌, ◌+◌, ◌-◌, inl, inr, ℕ, zero, suc, Bool, true, false, ◌&&◌, List, [], ◌∷◌, ◌++◌, length, get_or, take, drop, map, refl, sym, ◌∙◌, ap, subst, arith, take-append-drop}
-use Rattle.std.specs.Prelude.{min, not, Option, Some, None, unwrap_or, if◌then◌else◌}
+use Rattle.std.specs.Prelude.{min, not, Option, Some, None, unwrap_or}
 use Rattle.std.proofs.Math.Seq.{take-append-add}
 use Rattle.std.proofs.lemmas.Bool.{and_parts, and_from}
 use Rattle.std.proofs.lemmas.List.{length-take, map-append, take_more, take_all}
@@ -9,7 +9,7 @@ use Rattle.canvas_folder.specs.Names.{same}
 use Rattle.canvas_folder.specs.Files.{File, Left, HasSynced, MayMiss, MayHold, MayLeave, IsSoundFolder, is_new}
 use Rattle.canvas_folder.specs.Sound.{same_is, same_self}
 use Rattle.memory_folder.specs.Held.{file_of, held_files}
-use Rattle.memory_folder.specs.Left.{asked_of, synced_size, size_with, size_if, stays, in_front, left_by, certain_file}
+use Rattle.memory_folder.specs.Left.{asked_of, synced_size, size_with, stays, in_front, left_by, certain_file}
 use Rattle.memory_folder.specs.Sound.{has_synced, is_sound, sound_of}
 use Rattle.memory_folder.specs.declared.held.Held.{Held}
 

@@ -1,9 +1,8 @@
 -- Whether files are sound, as a test.
-use Rattle.std.proofs.Common.{◌≡◌, ℕ, Bool, true, false, ◌&&◌, List, [], ◌∷◌, ◌++◌, length, take, drop, refl, sym, ◌∙◌, ap, take-append-drop}
+use Rattle.std.proofs.Common.{◌≡◌, ℕ, Bool, true, ◌&&◌, List, [], ◌∷◌, ◌++◌, length, take, drop, refl, sym, ◌∙◌, ap, take-append-drop}
 use Rattle.std.specs.Prelude.{Option, Some, None}
 use Rattle.std.proofs.lemmas.Bool.{and_parts, and_from}
 use Rattle.std.proofs.Math.Seq.{take-append_seam}
-use Rattle.canvas_shelf.specs.Disk.{IsBeginning}
 use Rattle.canvas_folder.specs.Names.{same}
 use Rattle.canvas_folder.specs.Files.{File, HasSynced, IsSoundFolder, is_new}
 use Rattle.canvas_folder.specs.Sound.{same_is, same_self}

@@ -1,7 +1,7 @@
-use Rattle.std.proofs.Common.{◌≡◌, ◌<◌, ◌≤◌, List, ℕ, [], length, get_or, true, false, refl, sym, ◌∙◌, ap, subst, arith, rules}
+use Rattle.std.proofs.Common.{◌≡◌, ◌<◌, ◌≤◌, List, ℕ, length, get_or, true, false, sym, ◌∙◌, ap, subst, arith, rules}
 use Rattle.std.specs.Prelude.{None}
 use Rattle.std.proofs.lemmas.List.{get_or_default}
-use Rattle.canvas_folder.specs.Files.{File, fresh, remade}
+use Rattle.canvas_folder.specs.Files.{File, remade}
 use Rattle.canvas_folder.specs.Names.{same}
 use Rattle.canvas_folder.specs.Sound.{same_is}
 use Rattle.memory_folder.specs.Held.{file_of, held_files}
