@@ -1,5 +1,7 @@
-//! Tests of `canvas_folder` in real folders: what no clause says of the system.
+//! Tests of `canvas_folder`: what no clause says of real folders, and a shelf over a crash of a folder in memory.
 #![tactic(auto)]
 
 #[cfg(test)]
 mod folders;
+#[cfg(test)]
+mod memory;
