@@ -172,7 +172,10 @@ where
 }
 
 // Whether the show of a folder begins as that of a trial.
-fn shows<R: Files<File = File> + AllocGlobal + Clone + Drop>(files: R, folder: &str) -> Result<bool, Fault> {
+fn shows<R: Files<File = File> + AllocGlobal + Clone + Drop>(
+    files: R,
+    folder: &str,
+) -> Result<bool, Fault> {
     let mut shown = Vec::new(files.alloc());
     show(files, folder, &mut shown)?;
     Ok(shown.starts_with(b"version 18\n0:0 document\n"))
