@@ -1,9 +1,11 @@
 #!/usr/bin/env python3
-"""run.py CANVASD: lets each call of the system that a server makes on its folder fail in turn, once and from then on, with EIO and ENOSPC,
-and lets each write be cut short. A client edits meanwhile, past two checkpoints. Where the server got as far as serving, the edit whose call
-failed is answered No 5, and each later one No 6; an Ask is answered on; at the end the server ends with status 4. Where no file is left to be opened for a checkpoint, it goes on. A server that starts on the
-folder afterwards has every edit that was answered by idle, in order, and at most one more. Then two servers on one folder: the second ends with
-status 4, and the first goes on. Prints how many runs of each kind there were, and exits with 1 where one went wrong.
+"""run.py CANVASD: lets each call of the system that a server makes on its folder fail in turn, once and from then on, with
+EIO and ENOSPC, and lets each write be cut short. A client edits meanwhile, past two checkpoints. Where the server got as
+far as serving, the edit whose call failed is answered No 5, and each later one No 6; an Ask is answered on; at the end
+the server ends with status 4. Where no file is left to be opened for a checkpoint, it goes on; where none is left for
+the first segment, it ends with status 3. A server that starts on the folder afterwards has every edit that was answered by
+idle, in order, and at most one more. Then two servers on one folder: the second ends with status 4, and the first goes on.
+Prints how many runs of each kind there were, and exits with 1 where one went wrong.
 Needs cc, and Debian's python3-websockets. The folder of the kit isn't needed: it tries a built program."""
 
 import asyncio
@@ -83,15 +85,16 @@ def run(canvasd, library, port, fault):
             kept, refused, last = asyncio.run(session(port))
         out, err = server.communicate(timeout=60)
         calls = int(open(count).read()) if os.path.exists(count) else 0
-        wrong = judge(canvasd, folder, before, head, kept, refused, last, server.returncode, out, err)
-        if head and refused and fault["FAULT_ERROR"] in HARMLESS:
+        harmless = fault["FAULT_ERROR"] in HARMLESS
+        wrong = judge(canvasd, folder, before, head, kept, refused, last, server.returncode, out, err, harmless)
+        if head and refused and harmless:
             wrong = f"refused by {refused}"
         return wrong, calls
     finally:
         shutil.rmtree(room)
 
 
-def judge(canvasd, folder, before, head, kept, refused, last, status, out, err):
+def judge(canvasd, folder, before, head, kept, refused, last, status, out, err, harmless):
     """What went wrong, or None."""
     if refused and refused[0] not in (["no", 5], ["no", 6]):
         return f"the first refusal is {refused[0]}"
@@ -99,7 +102,8 @@ def judge(canvasd, folder, before, head, kept, refused, last, status, out, err):
         return f"refused by {refused}"
     if refused and last is not None and not isinstance(last, int):
         return f"an Ask is answered {last}"
-    if (refused or not head) and (status != 4 or err != "device or socket failed\n"):
+    ending = (3, "out of memory\n") if harmless and not head else (4, "device or socket failed\n")
+    if (refused or not head) and (status, err) != ending:
         return f"status {status}, {err!r}"
     if head and not re.fullmatch(r"served 1 version \d+\n", out):
         return f"the last line is {out!r}"
