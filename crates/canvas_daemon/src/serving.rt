@@ -1,11 +1,12 @@
 // What `canvasd serve` does: a room over the journal of a folder, each of whose seats answers one connection.
-ghost use Rattle.std.specs.Prelude.{◌≡◌, IfErr, IfOk, OnOk, length, string_bytes};
+ghost use Rattle.std.specs.Prelude.{◌≡◌, IfErr, IfOk, OnOk, false, length, string_bytes, true};
 ghost use Rattle.std.specs.Io.KnownBytes.{Appends};
 ghost use Rattle.canvas_daemon.specs.Faults.{IsMemoryOrDevice};
 ghost use Rattle.canvas_daemon.specs.Served.{BeginsServing, IsServeFault, WritesServed, served_line, serving_line};
 
 use crate::fault::Fault;
 use canvas_board::{Opening, RoomName};
+use canvas_desk::Desk;
 use canvas_folder::{DirShelf, OsFolder};
 use canvas_front::SeatAnswerer;
 use canvas_journal::{Journal, Keeper, open};
@@ -18,14 +19,15 @@ use std::net::{Ipv4Addr, Net, SocketAddr, TcpListener, TcpStream};
 use std::sync::Wait;
 use std::thread::{Threads, map_vec};
 
-/// Opens the document of a folder, which is made where it is missing, listens at a port of the own machine, and serves so many
+/// Listens at a port of the own machine, opens the document of a folder, which is made where it is missing, and serves so many
 /// connections, each in a thread of its own. Writes `serving PORT version V` before it accepts the first, and `served N version W`
 /// after the last has ended. A connection whose handshake fails has ended.
 ///
-/// The errors: `Device`, where the folder, the port or the output failed; `Damaged`, for the first record of the journal that isn't
-/// what it has to be; `TooLarge`, where the journal has no room for its checkpoint; `Memory`, where memory was refused; `Usage`, only
-/// for fewer connections than 1 or more than 64. With an error other than `Device` nothing was written, or the first line alone. Where
-/// no thread can be made, connections are served one after the other.
+/// The errors: `Device`, where the port, the folder or the output failed, and after the second line where the journal has failed
+/// meanwhile; `Damaged`, for the first record of the journal that isn't what it has to be; `TooLarge`, where the journal has no room
+/// for its checkpoint; `Memory`, where memory was refused; `Usage`, only for fewer connections than 1 or more than 64. With an error
+/// other than `Device` nothing was written, or the first line alone. Where the port can't be had, the folder is left alone. Where no
+/// thread can be made, connections are served one after the other.
 pub fn serve<R, W>(
     rt: &R,
     files: HostRuntime,
@@ -50,8 +52,8 @@ where
         BeginsServing port (W.contents output.old) (W.contents output.new)) }
     ensures faults { IfErr result (IsServeFault connections) }
 {
-    let room = open_room(files, dir, connections)?;
     let listener = listen(rt, port)?;
+    let room = open_room(files, dir, connections)?;
     serve_room::<Brand, _, _, _>(rt, room, &listener, port, output)
 }
 
@@ -133,8 +135,23 @@ where
     let version = room.desk(rt).version();
     write_line(output, serving_line(rt.alloc(), port, version)?)?;
     serve_seats(rt, listener, seats)?;
-    let version = room.desk(rt).version();
-    write_line(output, served_line(rt.alloc(), count, version)?)
+    let desk = room.desk(rt);
+    let version = desk.version();
+    let ended = check_journal(&desk);
+    drop(desk);
+    write_line(output, served_line(rt.alloc(), count, version)?)?;
+    ended
+}
+
+// That the journal hasn't failed, or Device.
+fn check_journal<K: Keeper, N: RoomName, R: Wait + Drop>(desk: &Desk<K, N, R>) -> Result<(), Fault>
+    ensures ok { OnOk result (desk.now.failed ≡ false) }
+    ensures err { IfErr result (λ fault. (fault ≡ Fault.Device) × (desk.now.failed ≡ true)) }
+{
+    if desk.has_failed() {
+        return Err(Fault::Device);
+    }
+    Ok(())
 }
 
 // The line of a server that begins.
@@ -188,8 +205,8 @@ where
     serve_stream(rt, seat, stream)
 }
 
-// Serves a connection until it ends. How it ended isn't told.
-fn serve_stream<N, K, R>(
+/// Serves a connection until it ends. How it ended isn't told. The errors: `Memory`, where memory was refused.
+pub(crate) fn serve_stream<N, K, R>(
     rt: &R,
     seat: Seat<N, Lock<K, N, R>>,
     stream: TcpStream,

@@ -22,11 +22,11 @@ returns-clause-told g c =
     let first = subst (λ (t : List ℕ). Appends (g.W.Write.contents c.args.output.now) (g.W.Write.contents c.write_line.new.output) t) c.in_ok-serving_line.ensures c.in_ok-write_line.ensures.bytes in
     let count : c.len-count.result ≡ c.args.room.seats = search rules in
     let line = c.in_ok-served_line.ensures ∙ ap (λ n. served_line n c.version-version-2.result) count in
-    on_ok_weaker c.write_line-2.result
-    (λ told. (
+    on_ok_weaker c.check_journal-ended.result
+    (λ kept. (
       c.version-version.result,
       c.version-version-2.result,
       Appends-trans _ _ _ (serving_line c.args.port c.version-version.result) (served_line c.args.room.seats c.version-version-2.result) first
-          (subst (λ (t : List ℕ). Appends (g.W.Write.contents c.write_line.new.output) (g.W.Write.contents c.write_line-2.new.output) t) line told),
+          (subst (λ (t : List ℕ). Appends (g.W.Write.contents c.write_line.new.output) (g.W.Write.contents c.write_line-2.new.output) t) line c.in_ok-write_line-2.ensures.bytes),
     ))
-    c.write_line-2.ensures.bytes
+    c.check_journal-ended.ensures.ok
