@@ -50,8 +50,8 @@ where
     ensures unwritten { IfErr result (λ fault. (fault ≡ Fault.Device → ⊥) → W.contents output.new ≡ W.contents output.old) }
     ensures faults { IfErr result (IsServeFault 2) }
 {
-    let room = open_room(files, dir, 2)?;
     let listener = listen(rt, 0)?;
+    let room = open_room(files, dir, 2)?;
     let (version, equal) = try_room::<Brand, _, _>(rt, room, &listener)?;
     let line = trial_line(rt.alloc(), version, equal)?;
     write_out(output, line.as_bytes())?;
