@@ -55,8 +55,8 @@ fn put(alloc: Global, shelf: &mut MemShelf, number: u32, bytes: &[u8]) -> Result
         return Ok(());
     }
     shelf.create(number)?;
-    shelf.append(number, bytes)?;
-    shelf.sync(number)?;
+    shelf.append(number, bytes).map_err(|_| OpenError::Device)?;
+    shelf.sync(number).map_err(|_| OpenError::Device)?;
     Ok(())
 }
 
