@@ -41,7 +41,7 @@ fn desk_over<'a, K: Keeper + Drop, N: RoomName, W: Wait>(
     requires book { blank.seen.book ≡ N.book }
     requires opening { N.opening ≡ first }
     requires alive { K.failed keeper ≡ false }
-    requires kept { IsTrue (K.honest keeper) → IsKeptAt (K.stands keeper) K.finds (K.left_since keeper (K.moment keeper)) opening }
+    requires kept { IsTrue (K.honest keeper) → IsKeptAt (K.keeps keeper) K.finds (K.left_since keeper (K.moment keeper)) opening }
 {
     let state = State::new(alloc)?;
     let opening = Opening { state, version: 0 };

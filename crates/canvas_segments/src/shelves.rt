@@ -1,11 +1,11 @@
 // Shelves in memory, and what they hold.
-ghost use Rattle.std.specs.Prelude.{◌≡◌, true, IfOk};
-ghost use Rattle.canvas_shelf.specs.Disk.{top_is_listed};
+ghost use Rattle.std.specs.Prelude.{◌≡◌, false, true, IfOk};
+ghost use Rattle.canvas_shelf.specs.Disk.{is_listed, top_is_listed};
 ghost use Rattle.canvas_shelf.specs.Shelved.{disk_of};
 
 use crate::bench::{Failing, Segment};
 use canvas_journal::OpenError;
-use canvas_shelf::{Call, MemShelf, Shelf, ShelfError, first_record};
+use canvas_shelf::{Call, CreateError, MemShelf, Shelf, ShelfError, first_record};
 use std::alloc::{AllocError, Global};
 
 /// A shelf in memory with these segments, all of their bytes synced, of which no call is noted and none fails.
@@ -54,9 +54,17 @@ fn put(alloc: Global, shelf: &mut MemShelf, number: u32, bytes: &[u8]) -> Result
     if listed.contains(&number) {
         return Ok(());
     }
+    write_new(shelf, number, bytes)?;
+    Ok(())
+}
+
+// Makes a segment of these bytes, and makes sure of it.
+fn write_new(shelf: &mut MemShelf, number: u32, bytes: &[u8]) -> Result<(), CreateError>
+    requires { is_listed number (disk_of shelf.old) ≡ false }
+{
     shelf.create(number)?;
-    shelf.append(number, bytes).map_err(|_| OpenError::Device)?;
-    shelf.sync(number).map_err(|_| OpenError::Device)?;
+    shelf.append(number, bytes)?;
+    shelf.sync(number)?;
     Ok(())
 }
 
