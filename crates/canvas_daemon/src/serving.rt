@@ -171,7 +171,7 @@ fn served_line(alloc: Global, count: usize, version: u64) -> Result<String, Allo
 /// Accepts a connection for each seat, and serves each in a thread of its own. Returns once all have ended.
 ///
 /// The errors: `Device`, where a connection wasn't accepted; `Memory`, where memory was refused.
-pub(crate) fn serve_seats<N, K, R>(
+fn serve_seats<N, K, R>(
     rt: &R,
     listener: &TcpListener,
     seats: Vec<Seat<N, Lock<K, N, R>>>,
@@ -189,8 +189,10 @@ where
     Ok(())
 }
 
-// Accepts a connection, and serves it until it ends.
-fn serve_next<N, K, R>(
+/// Accepts a connection, and serves it until it ends.
+///
+/// The errors: `Device`, where no connection was accepted; `Memory`, where memory was refused.
+pub(crate) fn serve_next<N, K, R>(
     rt: &R,
     listener: &TcpListener,
     seat: Seat<N, Lock<K, N, R>>,

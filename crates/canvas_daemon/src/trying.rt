@@ -1,5 +1,5 @@
 // What `canvasd trial` does: a server and two clients in one process.
-ghost use Rattle.std.specs.Prelude.{◌≡◌, ◌↔◌, IfErr, IfOk, IsTrue, string_bytes};
+ghost use Rattle.std.specs.Prelude.{◌≡◌, ◌↔◌, IfErr, IfOk, IsTrue, Result, string_bytes};
 ghost use Rattle.canvas_daemon.specs.Faults.{IsMemoryOrDevice};
 ghost use Rattle.canvas_daemon.specs.Served.{IsServeFault};
 ghost use Rattle.canvas_daemon.specs.Shown.{IsReportText};
@@ -8,31 +8,31 @@ ghost use Rattle.canvas_daemon.specs.Trials.{WritesTrial, equal_word, trial_line
 use crate::editing::connect;
 use crate::fault::Fault;
 use crate::node::Node;
-use crate::serving::{listen, open_room, opened, serve_seats};
+use crate::serving::{listen, open_room, opened, serve_next};
 use crate::showing::report_text;
 use canvas_board::RoomName;
 use canvas_client::{Client, EditError};
 use canvas_doc::{Kind, ObjId};
 use canvas_journal::Keeper;
 use canvas_lines::write_out;
-use canvas_room::BlankRoom;
+use canvas_room::{BlankRoom, Lock, Seat};
 use std::alloc::{AllocError, Global};
 use std::io::Write;
 use std::marker::Brand;
 use std::net::{Net, TcpListener, TcpStream};
 use std::random::RandomSource;
 use std::sync::{Barrier, Wait};
-use std::thread::{Threads, join};
+use std::thread::{Promise, PromisedHandle, Threads, join_promised, scope, scope_env};
 
 /// How many shapes each client makes on its page.
 const SHAPES: u32 = 7;
 
-/// Serves the document of a folder at a free port of the own machine to two clients, in threads of this process. Each makes a page
-/// and seven shapes on it, each after the former, while the other does, and exchanges; when both have, each exchanges again. Writes
-/// `trial version V equal yes`, or `no` where their documents or versions differ, and answers which.
+/// Serves the document of a folder at a free port of the own machine to two clients, in four threads of this process. Each makes a
+/// page and seven shapes on it, each after the former, while the other does, and exchanges; when both have, each exchanges again.
+/// Writes `trial version V equal yes`, or `no` where their documents or versions differ, and answers which.
 ///
-/// The errors: `Device`, where the folder, a socket or the output failed, or an edit was refused; `Damaged`, `TooLarge` and `Memory`, as
-/// `serve` answers them. With an error other than `Device` nothing was written.
+/// The errors: `Device`, where the folder, a socket or the output failed, a thread couldn't be made, or an edit was refused; `Damaged`,
+/// `TooLarge` and `Memory`, as `serve` answers them. With an error other than `Device` nothing was written.
 pub fn trial<R, W>(rt: &R, files: HostRuntime, dir: &str, output: &mut W) -> Result<bool, Fault>
 where
     R: Net<Listener = TcpListener, Stream = TcpStream>
@@ -100,29 +100,77 @@ where
     // Both connections stand before one is accepted, so that none is waited for that never comes.
     let first = connect(rt, address.port())?;
     let second = connect(rt, address.port())?;
-    let (agreed, served) = join(
-        rt,
-        || edit_both(rt, first, second),
-        || serve_seats(rt, listener, seats),
-    );
-    served?;
-    agreed
+    let serve = |seat: Seat<N, Lock<K, N, R>>| -> Result<(), Fault>
+        ensures { IfErr result IsMemoryOrDevice }
+    { serve_next(rt, listener, seat) };
+    edit_both(rt, seats, &serve, first, second)
 }
 
-// Edits by two clients at once. Answers the first one's version, and whether they show the same.
-fn edit_both<R>(rt: &R, first: TcpStream, second: TcpStream) -> Result<(u64, bool), Fault>
+// That a thread ends with no other fault than want of memory or a failed device.
+#[derive(Clone, Copy)]
+struct MemoryOrDevice;
+
+impl<T> Promise<Result<T, Fault>> for MemoryOrDevice {
+    ghost kept_by = { λ _ result. IfErr result IsMemoryOrDevice };
+}
+
+// A thread that serves a connection.
+type Server = PromisedHandle<Result<(), Fault>, MemoryOrDevice>;
+
+// Edits by two clients at once, while each seat serves one of them. Answers the first one's version, and whether they show the same.
+//
+// No client begins before each seat has its thread. Where a thread can't be made, the clients' streams are closed, by which the threads
+// that there are end.
+fn edit_both<S, F, R>(
+    rt: &R,
+    seats: Vec<S>,
+    serve: &F,
+    first: TcpStream,
+    second: TcpStream,
+) -> Result<(u64, bool), Fault>
 where
+    S: Send + Drop,
+    F: Fn(S) -> Result<(), Fault> + Sync,
     R: RandomSource + Threads + Wait + AllocGlobal + Clone + Send + Sync + Drop,
+    requires runs { (seat : S) → F.pre serve.now seat }
+    requires keeps { (seat : S) (result : Result Unit Fault) → F.post serve.now seat result → IfErr result IsMemoryOrDevice }
     ensures { IfErr result IsMemoryOrDevice }
 {
     let both = Barrier::new(2);
-    let (first, second) = join(
+    let both = &both;
+    scope(
+        scope_env(),
         rt,
-        || edited(rt, first, &both),
-        || edited(rt, second, &both),
-    );
-    let (first, second) = (first?, second?);
-    Ok(compared(&first, &second))
+        move |threads| -> Result<(u64, bool), Fault>
+            requires runs { (seat : S) → F.pre serve.now seat }
+            requires keeps { (seat : S) (result : Result Unit Fault) → F.post serve.now seat result → IfErr result IsMemoryOrDevice }
+            ensures { IfErr result IsMemoryOrDevice }
+        {
+            let mut servers = Vec::new(rt.alloc());
+            for seat in seats {
+                let run = move || serve(seat);
+                let server = threads.spawn_with(MemoryOrDevice, run);
+                servers.push(server.map_err(|_| Fault::Device)?)?;
+            }
+            let edit = move || edited(rt, first, both);
+            let client = threads.spawn_with(MemoryOrDevice, edit);
+            let client = client.map_err(|_| Fault::Device)?;
+            let second = edited(rt, second, both);
+            let first = client.join(rt);
+            all_served(rt, servers)?;
+            Ok(compared(&first?, &second?))
+        },
+    )
+}
+
+// Waits until all have ended. The error is that of the first that failed.
+fn all_served<R: Threads>(rt: &R, servers: Vec<Server>) -> Result<(), Fault>
+    ensures { IfErr result IsMemoryOrDevice }
+{
+    for served in join_promised(rt, servers)? {
+        served?;
+    }
+    Ok(())
 }
 
 // The first one's version, and whether both show the same.
