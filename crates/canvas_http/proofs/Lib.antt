@@ -1,0 +1,6 @@
+pub mod FieldLemmas
+pub mod HeadLines
+pub mod Laws
+pub mod Paths
+pub mod ResponseLemmas
+pub mod Words

@@ -1,0 +1,74 @@
+// The head of a request, read.
+ghost use Rattle.std.specs.Prelude.{◌≡◌, IfNone, IfOk, IfSome};
+ghost use Rattle.httparse.specs.Grammar.{HasNoRequest, MayBecomeRequest, NeverHasRequest, RequestHead};
+ghost use Rattle.httparse.specs.Spans.{RequestExceeds, RequestOverflows};
+ghost use Rattle.canvas_http.specs.Heads.{Begins, request_of};
+ghost use Rattle.canvas_http.specs.Sites.{seen_site};
+
+use crate::asked::Asked;
+use crate::fields::Fields;
+use crate::site::Site;
+use crate::table::asked;
+use httparse::spans::{EMPTY_HEADER_SPAN, parse_request};
+use httparse::{Error as ParseError, Status as Parsed};
+use thiserror::Error;
+
+/// The most fields that a request's head may have.
+pub const MAX_FIELDS: usize = 64;
+
+/// What a request is, by its head.
+#[derive(Clone, Copy, Debug, PartialEq, Eq)]
+pub struct Request {
+    /// What it asks for.
+    pub asked: Asked,
+    /// Whether the answer has a body: that of HEAD has none.
+    pub wants_body: bool,
+    /// The head's length in bytes.
+    pub length: usize,
+}
+
+/// Why bytes are no request that is answered. Both are answered by 400.
+#[derive(Clone, Copy, Debug, PartialEq, Eq, Error)]
+pub enum HeadError {
+    /// No request begins so, whatever bytes follow.
+    #[error("no request begins so")]
+    NotRead,
+    /// The head has more than 64 fields.
+    #[error("too many fields")]
+    TooManyFields,
+}
+
+/// What the request is whose head these bytes begin with. `None` where the head isn't whole yet.
+pub fn read_head(site: &Site, bytes: &[u8]) -> Result<Option<Request>, HeadError>
+    // A request is found exactly where the bytes begin with a head of at most 64 fields, and it is what the table says of that head.
+    ensures found { (head : RequestHead) → Begins bytes.now head → result ≡ Ok (Some (request_of (seen_site site.now) head)) }
+    ensures some { IfOk result (λ found. IfSome found (λ request. (head : RequestHead) × Begins bytes.now head × (request ≡ request_of (seen_site site.now) head))) }
+
+    // No head is whole, and more bytes may make a request.
+    ensures none { IfOk result (λ found. IfNone found (HasNoRequest bytes.now)) }
+    ensures unfinished { IfOk result (λ found. IfNone found (MayBecomeRequest bytes.now)) }
+
+    // No bytes make a request of at most 64 fields.
+    ensures not_read { result ≡ Err HeadError.NotRead → NeverHasRequest bytes.now }
+    ensures too_many { result ≡ Err HeadError.TooManyFields → RequestExceeds MAX_FIELDS bytes.now }
+    ensures no_room { result ≡ Err HeadError.TooManyFields → RequestOverflows MAX_FIELDS bytes.now }
+{
+    let mut spans = [EMPTY_HEADER_SPAN; MAX_FIELDS];
+    match parse_request(bytes, &mut spans) {
+        Ok(Parsed::Complete(head)) => {
+            let method = head.method.of(bytes);
+            let fields = Fields {
+                bytes,
+                spans: &spans[..head.headers],
+            };
+            Ok(Some(Request {
+                asked: asked(site, method, head.path.of(bytes), &fields),
+                wants_body: method != b"HEAD".as_slice(),
+                length: head.len,
+            }))
+        }
+        Ok(Parsed::Partial) => Ok(None),
+        Err(ParseError::TooManyHeaders) => Err(HeadError::TooManyFields),
+        Err(_) => Err(HeadError::NotRead),
+    }
+}

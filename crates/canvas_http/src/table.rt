@@ -1,0 +1,198 @@
+// The table from a request's head to what it asks for.
+ghost use Rattle.std.specs.Prelude.{◌≡◌, ◌==◌, ◌++◌, ◌∷◌, [], length, All, codes, position, string_bytes};
+ghost use Rattle.std.specs.List.{list_all, list_any};
+ghost use Rattle.std.specs.Option.{option_copied, option_to_list};
+ghost use Rattle.std.specs.Str.{bytes_eq};
+ghost use Rattle.httparse.specs.Spans.{IsHeaderWithin};
+ghost use Rattle.canvas_http.specs.Fields.{is_same_word, seen_fields};
+ghost use Rattle.canvas_http.specs.Sites.{seen_site};
+ghost use Rattle.canvas_http.specs.Table.{asked_by_handshake, asked_by_page, asked_for, file_at, has_path, is_document_path, is_named, is_origin_of, is_reading, is_welcome, page_files, path_of, question_mark, site_paths, value_at};
+
+use crate::asked::{Asked, PageFile, Refusal};
+use crate::fields::{Fields, Found, is_same_word};
+use crate::site::Site;
+
+/// What a request of this method, target and fields asks for.
+pub(crate) fn asked(site: &Site, method: &[u8], target: &[u8], fields: &Fields<'_>) -> Asked
+    requires { All (IsHeaderWithin (length fields.now.bytes.now)) fields.now.spans.now }
+    ensures { result ≡ asked_for (seen_site site.now) method.now target.now (seen_fields fields.now) }
+{
+    let Found::One(host) = fields.find(b"host") else {
+        return Asked::Refused(Refusal::BadRequest);
+    };
+    let origin = match fields.find(b"origin") {
+        Found::Nothing => None,
+        Found::One(origin) => Some(origin),
+        Found::Several => return Asked::Refused(Refusal::BadRequest),
+    };
+    if !has_path(target) {
+        return Asked::Refused(Refusal::BadRequest);
+    }
+    let path = path_of(target);
+    if fields.is_handshake() {
+        asked_by_handshake(site, method, path, host, origin)
+    } else {
+        asked_by_page(site, method, path)
+    }
+}
+
+// Whether the target begins with a slash.
+fn has_path(target: &[u8]) -> bool
+    ensures { result ≡ has_path target.now }
+{
+    target.starts_with(b"/")
+}
+
+// The target without its query.
+fn path_of(target: &[u8]) -> &[u8]
+    ensures { result.now ≡ path_of target.now }
+{
+    match query_start(target) {
+        Some(end) => &target[..end],
+        None => target,
+    }
+}
+
+// Where the first question mark stands.
+fn query_start(target: &[u8]) -> Option<usize>
+    ensures { result ≡ position (λ b. b == question_mark) target.now }
+{
+    target.iter().position(|b| *b == b'?')
+}
+
+// What a handshake asks for.
+fn asked_by_handshake(
+    site: &Site,
+    method: &[u8],
+    path: &[u8],
+    host: &[u8],
+    origin: Option<&[u8]>,
+) -> Asked
+    ensures { result ≡ asked_by_handshake (seen_site site.now) method.now path.now (host.now ∷ []) (option_to_list (option_copied origin.entry)) }
+{
+    if method != b"GET".as_slice() {
+        return Asked::Refused(Refusal::NotAllowed);
+    }
+    if !is_document_path(site, path) {
+        return Asked::Refused(Refusal::NotFound);
+    }
+    if !may_connect(site, host, origin) {
+        return Asked::Refused(Refusal::Forbidden);
+    }
+    Asked::Connection
+}
+
+// Whether the site's document is at this path.
+fn is_document_path(site: &Site, path: &[u8]) -> bool
+    ensures { result ≡ is_document_path (seen_site site.now) path.now }
+{
+    if path == b"/".as_slice() || path == b"/document".as_slice() {
+        return true;
+    }
+    match path.strip_prefix(b"/document/") {
+        Some(identity) => identity == site.identity.as_bytes(),
+        None => false,
+    }
+}
+
+// Whether a page of this origin may connect, or what is no page.
+#[tactic(auto, using(crate::proofs::Paths::list_any_map))]
+fn may_connect(site: &Site, host: &[u8], origin: Option<&[u8]>) -> bool
+    ensures { result ≡ list_all (is_welcome (seen_site site.now) (host.now ∷ [])) (option_to_list (option_copied origin.entry)) }
+{
+    match origin {
+        None => true,
+        Some(origin) => is_origin_of(host, origin) || is_named(&site.origins, origin),
+    }
+}
+
+// Whether the origin is that of the host.
+fn is_origin_of(host: &[u8], origin: &[u8]) -> bool
+    ensures { result ≡ is_origin_of host.now origin.now }
+{
+    is_joined(origin, b"http://", host) || is_joined(origin, b"https://", host)
+}
+
+// Whether the word is the front and then the back, without case.
+fn is_joined(word: &[u8], front: &[u8], back: &[u8]) -> bool
+    ensures { result ≡ is_same_word word.now (front.now ++ back.now) }
+{
+    if word.len() < front.len() {
+        return false;
+    }
+    let (begin, end) = word.split_at(front.len());
+    is_same_word(begin, front) && is_same_word(end, back)
+}
+
+// Whether the origin is one of these.
+fn is_named(origins: &[String], origin: &[u8]) -> bool
+    ensures { result ≡ list_any (λ named. bytes_eq (string_bytes named) origin.now) origins.now }
+{
+    origins.iter().any(|named| named.as_bytes() == origin)
+}
+
+// What a request asks for that is no handshake.
+fn asked_by_page(site: &Site, method: &[u8], path: &[u8]) -> Asked
+    ensures { result ≡ asked_by_page (seen_site site.now) method.now path.now }
+{
+    if !is_reading(method) {
+        return Asked::Refused(Refusal::NotAllowed);
+    }
+    match (asked_at(path), file_at(site, path)) {
+        (Some(asked), _) => asked,
+        (None, Some(file)) => Asked::File(file),
+        (None, None) => Asked::Refused(Refusal::NotFound),
+    }
+}
+
+// Whether the method reads.
+fn is_reading(method: &[u8]) -> bool
+    ensures { result ≡ is_reading method.now }
+{
+    method == b"GET".as_slice() || method == b"HEAD".as_slice()
+}
+
+// What every site has at this path.
+fn asked_at(path: &[u8]) -> Option<Asked>
+    ensures { result ≡ value_at path.now site_paths }
+{
+    if path == b"/health".as_slice() {
+        Some(Asked::Health)
+    } else if path == b"/metrics".as_slice() {
+        Some(Asked::Metrics)
+    } else if path == b"/document".as_slice() {
+        Some(Asked::Document)
+    } else {
+        None
+    }
+}
+
+// The page's file at this path, where the site has a page.
+fn file_at(site: &Site, path: &[u8]) -> Option<PageFile>
+    ensures { result ≡ file_at (seen_site site.now) path.now }
+{
+    if site.has_page { page_file(path) } else { None }
+}
+
+// The file of a page at this path.
+fn page_file(path: &[u8]) -> Option<PageFile>
+    ensures { result ≡ value_at path.now page_files }
+{
+    if path == b"/".as_slice() || path == b"/index.html".as_slice() {
+        Some(PageFile::Index)
+    } else if path == b"/page.js".as_slice() {
+        Some(PageFile::Script)
+    } else if path == b"/worker.js".as_slice() {
+        Some(PageFile::Worker)
+    } else if path == b"/lugcurrant.js".as_slice() {
+        Some(PageFile::Library)
+    } else if path == b"/canvas.wasm".as_slice() {
+        Some(PageFile::Module)
+    } else if path == b"/page.css".as_slice() {
+        Some(PageFile::Style)
+    } else if path == b"/favicon.svg".as_slice() {
+        Some(PageFile::Icon)
+    } else {
+        None
+    }
+}
