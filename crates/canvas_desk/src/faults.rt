@@ -4,9 +4,9 @@ use canvas_server::TakeError;
 use std::alloc::AllocError;
 use thiserror::Error;
 
-/// Why a request isn't taken, or no checkpoint is made.
+/// Why the server's rule refuses a request: the first reason that holds, in this order.
 #[derive(Clone, Copy, Debug, PartialEq, Eq, Error)]
-pub enum SubmitError {
+pub enum Refusal {
     /// The edit's client hasn't joined.
     #[error("the client hasn't joined")]
     Stranger,
@@ -25,61 +25,60 @@ pub enum SubmitError {
     /// There are 2^62 entries; or it is a Join, and the next id is 4294967295.
     #[error("no entry more may come")]
     Full,
-    /// The keeper failed in this call.
-    #[error("device failed")]
-    Device,
-    /// The keeper failed in an earlier call.
-    #[error("failed before")]
-    Failed,
-    /// Memory was refused.
-    #[error("out of memory")]
-    Memory {
-        /// The version of the entry that is synced and not yet published. With none, nothing of this call was kept.
-        after: Option<u64>,
+}
+
+/// Why a request has no receipt, or a checkpoint no floor that is published.
+#[derive(Clone, Copy, Debug, PartialEq, Eq, Error)]
+pub enum SubmitError {
+    /// The server's rule refuses the request.
+    #[error(transparent)]
+    Refused(Refusal),
+    /// No entry of the request comes into the history, for this reason of the keeper's, or since the desk itself was refused memory. After
+    /// Device the entry may be found all the same. At a checkpoint Memory stands too where it is written and its floor is owed.
+    #[error(transparent)]
+    NotKept(KeepError),
+    /// Memory was refused for publishing an entry that is synced: it is owed, and the next call publishes it first.
+    #[error("entry {version} is owed: out of memory")]
+    Owed {
+        /// The version of the last entry that is owed.
+        version: u64,
     },
-    /// The text has more than 4294967295 bytes, or no segment number is left.
-    #[error("too large")]
-    TooLarge,
 }
 
 impl From<AllocError> for SubmitError {
-    ghost use Rattle.std.specs.Prelude.{◌≡◌, None};
-    ghost use Rattle.canvas_desk.specs.declared.faults.SubmitError.TheVariants.{Memory};
+    ghost use Rattle.std.specs.Prelude.{◌≡◌};
+    ghost use Rattle.canvas_journal.specs.declared.fault.KeepError.TheVariants as keep;
+    ghost use Rattle.canvas_desk.specs.declared.faults.SubmitError.TheVariants.{NotKept};
 
-    ghost from_gives = { λ _ e. e ≡ Memory None };
+    ghost from_gives = { λ _ e. e ≡ NotKept keep.Memory };
 
     fn from(_error: AllocError) -> SubmitError {
-        SubmitError::Memory { after: None }
+        SubmitError::NotKept(KeepError::Memory)
     }
 }
 
 impl From<TakeError> for SubmitError {
     ghost use Rattle.std.specs.Prelude.{◌≡◌};
-    ghost use Rattle.canvas_desk.specs.Faults.{refused};
+    ghost use Rattle.canvas_desk.specs.Faults.{not_taken};
 
-    ghost from_gives = { λ e s. s ≡ refused e };
+    ghost from_gives = { λ e s. s ≡ not_taken e };
 
     fn from(error: TakeError) -> SubmitError {
         match error {
-            TakeError::Stranger => SubmitError::Stranger,
-            TakeError::Full => SubmitError::Full,
-            TakeError::Memory => SubmitError::Memory { after: None },
+            TakeError::Stranger => SubmitError::Refused(Refusal::Stranger),
+            TakeError::Full => SubmitError::Refused(Refusal::Full),
+            TakeError::Memory => SubmitError::NotKept(KeepError::Memory),
         }
     }
 }
 
 impl From<KeepError> for SubmitError {
     ghost use Rattle.std.specs.Prelude.{◌≡◌};
-    ghost use Rattle.canvas_desk.specs.Faults.{not_kept};
+    ghost use Rattle.canvas_desk.specs.declared.faults.SubmitError.TheVariants.{NotKept};
 
-    ghost from_gives = { λ e s. s ≡ not_kept e };
+    ghost from_gives = { λ e s. s ≡ NotKept e };
 
     fn from(error: KeepError) -> SubmitError {
-        match error {
-            KeepError::Device => SubmitError::Device,
-            KeepError::Failed => SubmitError::Failed,
-            KeepError::Memory => SubmitError::Memory { after: None },
-            KeepError::TooLarge => SubmitError::TooLarge,
-        }
+        SubmitError::NotKept(error)
     }
 }

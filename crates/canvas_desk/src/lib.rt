@@ -8,5 +8,5 @@ mod judging;
 mod laws;
 
 pub use desk::Desk;
-pub use faults::SubmitError;
+pub use faults::{Refusal, SubmitError};
 pub use laws::found_after_every_crash;

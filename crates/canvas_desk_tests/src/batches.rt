@@ -1,7 +1,8 @@
 //! What a batch is answered, and what it does to the shelf.
 use crate::desks::{Calls, DeskTest, MemDesk, are_told, calls_of, calls_since, pages, told_by};
 use canvas_board::RoomName;
-use canvas_desk::SubmitError;
+use canvas_desk::{Refusal, SubmitError};
+use canvas_journal::KeepError;
 use canvas_server::Request;
 use std::alloc::Global;
 use std::sync::Wait;
@@ -55,8 +56,8 @@ fn one_commit(rt: HostRuntime) -> Result<(), Fail> {
         answers: &[
             Ok(2),
             Ok(3),
-            Err(SubmitError::Repeat { done: 2 }),
-            Err(SubmitError::Gap { done: 2 }),
+            Err(SubmitError::Refused(Refusal::Repeat { done: 2 })),
+            Err(SubmitError::Refused(Refusal::Gap { done: 2 })),
         ],
     };
     assert_eq!(rt;
@@ -71,7 +72,10 @@ fn no_commit(rt: HostRuntime) -> Result<(), Fail> {
     let batch = Batch {
         client: 2,
         numbers: &[1, 2],
-        answers: &[Err(SubmitError::Stranger), Err(SubmitError::Stranger)],
+        answers: &[
+            Err(SubmitError::Refused(Refusal::Stranger)),
+            Err(SubmitError::Refused(Refusal::Stranger)),
+        ],
     };
     assert_eq!(rt;
         told_by(&rt, rt.alloc(), None, &batch)?,
@@ -114,7 +118,10 @@ impl DeskTest for Failing {
 
 #[test]
 fn failed_device(rt: HostRuntime) -> Result<(), Fail> {
-    let failed = [Some(SubmitError::Device), Some(SubmitError::Failed)];
+    let failed = [
+        Some(SubmitError::NotKept(KeepError::Device)),
+        Some(SubmitError::NotKept(KeepError::Failed)),
+    ];
     for call in [7, 8] {
         assert_eq!(rt;
             told_by(&rt, rt.alloc(), Some(call), &Failing)?,

@@ -8,8 +8,9 @@ use Rattle.canvas_judge.specs.declared.message.NoReason.TheVariants as no
 use Rattle.canvas_server.specs.Asked.{Asked}
 use Rattle.canvas_server.specs.Served.{Served, tail_of}
 use Rattle.canvas_board.specs.Marks.{Mark, Opening}
+use Rattle.canvas_desk.specs.declared.faults.Refusal.TheVariants.{Stranger, Repeat, Gap, Full}
 use Rattle.canvas_desk.specs.declared.faults.SubmitError.{SubmitError}
-use Rattle.canvas_desk.specs.declared.faults.SubmitError.TheVariants.{Stranger, Repeat, Gap, Full, Device, Failed, Memory, TooLarge}
+use Rattle.canvas_desk.specs.declared.faults.SubmitError.TheVariants.{Refused, NotKept, Owed}
 use Rattle.canvas_nodes.specs.Answers.{IsAnswer, IsEnd, refused}
 use Rattle.canvas_front.specs.News.{tells, tells_or_copies}
 use Rattle.canvas_front.specs.Table.{AnswersAsk, AnswersRequest, IsJudged, IsToldAs, SaysOf, TellsNews, TellsRefusal, answer_of}
@@ -19,14 +20,12 @@ told_ends Join outcome m told = subst IsEnd (sym told.2) tt
 told_ends (Edit change) outcome m told = subst IsEnd (sym told) tt
 
 refused_ends : (e : SubmitError) → IsEnd (answer_of e)
-refused_ends Stranger = tt
-refused_ends (Repeat done) = tt
-refused_ends (Gap done) = tt
-refused_ends Full = tt
-refused_ends Device = tt
-refused_ends Failed = tt
-refused_ends (Memory after) = tt
-refused_ends TooLarge = tt
+refused_ends (Refused Stranger) = tt
+refused_ends (Refused (Repeat done)) = tt
+refused_ends (Refused (Gap done)) = tt
+refused_ends (Refused Full) = tt
+refused_ends (NotKept error) = tt
+refused_ends (Owed v) = tt
 
 says_ends : (o : Opening) (q : Asked) (old : List Mark) (m : Message) (new : List Mark) → SaysOf o q old m new → IsEnd m
 says_ends o q old m new says = ⊎_elim

@@ -5,11 +5,15 @@ use Rattle.canvas_model.specs.Log.{What, Join, Edit, Entry}
 use Rattle.canvas_model.specs.Verdict.{Outcome, Joined}
 use Rattle.canvas_model.specs.Messages.{Message, Welcome, Idle, No}
 use Rattle.canvas_model.specs.Messages as messages
+use Rattle.canvas_judge.specs.declared.message.NoReason.{NoReason}
 use Rattle.canvas_judge.specs.declared.message.NoReason.TheVariants as no
 use Rattle.canvas_judge.specs.Reasons.{number_of}
+use Rattle.canvas_journal.specs.declared.fault.KeepError.{KeepError}
+use Rattle.canvas_journal.specs.declared.fault.KeepError.TheVariants as keep
 use Rattle.canvas_server.specs.Asked.{Asked}
 use Rattle.canvas_server.specs.Served.{Served}
 use Rattle.canvas_board.specs.Marks.{Logged, Mark, Opening, Sees, board}
+use Rattle.canvas_desk.specs.declared.faults.Refusal.TheVariants as refusal
 use Rattle.canvas_desk.specs.declared.faults.SubmitError.{SubmitError}
 use Rattle.canvas_desk.specs.declared.faults.SubmitError.TheVariants as submit
 use Rattle.canvas_room.specs.Seats.{Answers, IsRefused, RefusesEdit}
@@ -31,16 +35,21 @@ abbrev pub IsToldAs : What → Outcome → Message → Type 0
 IsToldAs Join outcome m = (client : ℕ) × (outcome ≡ Joined client) × (m ≡ Welcome client)
 IsToldAs (Edit change) outcome m = m ≡ Idle
 
+-- the reason of the No where a request isn't kept
+abbrev pub reason_of : KeepError → NoReason
+reason_of keep.Device = no.Device
+reason_of keep.Failed = no.Failed
+reason_of keep.Memory = no.Memory
+reason_of keep.TooLarge = no.TooLarge
+
 -- the answer where a submit refuses a request: a No with the error's number, but Idle where the edit was judged before
 abbrev pub answer_of : SubmitError → Message
-answer_of submit.Stranger = No (number_of no.Stranger)
-answer_of (submit.Repeat done) = Idle
-answer_of (submit.Gap done) = No (number_of no.Gap)
-answer_of submit.Full = No (number_of no.Full)
-answer_of submit.Device = No (number_of no.Device)
-answer_of submit.Failed = No (number_of no.Failed)
-answer_of (submit.Memory after) = No (number_of no.Memory)
-answer_of submit.TooLarge = No (number_of no.TooLarge)
+answer_of (submit.Refused refusal.Stranger) = No (number_of no.Stranger)
+answer_of (submit.Refused (refusal.Repeat done)) = Idle
+answer_of (submit.Refused (refusal.Gap done)) = No (number_of no.Gap)
+answer_of (submit.Refused refusal.Full) = No (number_of no.Full)
+answer_of (submit.NotKept error) = No (number_of (reason_of error))
+answer_of (submit.Owed v) = No (number_of no.Memory)
 
 -- An entry that answers the request stands in what has been seen since, and the message tells what became of it.
 pub record IsJudged (q : Asked) (old : List Mark) (m : Message) (new : List Mark) : Type 0 where

@@ -5,11 +5,11 @@ ghost use Rattle.canvas_judge.specs.Seen.{seen_message};
 ghost use Rattle.canvas_server.specs.Asked.{seen_request};
 ghost use Rattle.canvas_board.specs.Marks.{Sees};
 ghost use Rattle.canvas_room.specs.Seats.{IsOutcomeOf};
-ghost use Rattle.canvas_front.specs.Table.{AnswersRequest, IsToldAs, SaysOf, SeesOn, answer_of};
+ghost use Rattle.canvas_front.specs.Table.{AnswersRequest, IsToldAs, SaysOf, SeesOn, answer_of, reason_of};
 
 use canvas_board::{Receipt, RoomName};
-use canvas_desk::SubmitError;
-use canvas_journal::Keeper;
+use canvas_desk::{Refusal, SubmitError};
+use canvas_journal::{KeepError, Keeper};
 use canvas_judge::{Entry, Message, NoReason, Outcome, What};
 use canvas_room::{Lock, Seat};
 use canvas_server::Request;
@@ -86,13 +86,23 @@ fn refused(error: SubmitError) -> Message
     ensures { seen_message result ≡ answer_of error }
 {
     match error {
-        SubmitError::Stranger => Message::No(NoReason::Stranger),
-        SubmitError::Repeat { .. } => Message::Idle,
-        SubmitError::Gap { .. } => Message::No(NoReason::Gap),
-        SubmitError::Full => Message::No(NoReason::Full),
-        SubmitError::Device => Message::No(NoReason::Device),
-        SubmitError::Failed => Message::No(NoReason::Failed),
-        SubmitError::Memory { .. } => Message::No(NoReason::Memory),
-        SubmitError::TooLarge => Message::No(NoReason::TooLarge),
+        SubmitError::Refused(Refusal::Stranger) => Message::No(NoReason::Stranger),
+        SubmitError::Refused(Refusal::Repeat { .. }) => Message::Idle,
+        SubmitError::Refused(Refusal::Gap { .. }) => Message::No(NoReason::Gap),
+        SubmitError::Refused(Refusal::Full) => Message::No(NoReason::Full),
+        SubmitError::NotKept(error) => Message::No(not_kept(error)),
+        SubmitError::Owed { .. } => Message::No(NoReason::Memory),
+    }
+}
+
+// The reason of the No where a request isn't kept.
+fn not_kept(error: KeepError) -> NoReason
+    ensures { result ≡ reason_of error }
+{
+    match error {
+        KeepError::Device => NoReason::Device,
+        KeepError::Failed => NoReason::Failed,
+        KeepError::Memory => NoReason::Memory,
+        KeepError::TooLarge => NoReason::TooLarge,
     }
 }

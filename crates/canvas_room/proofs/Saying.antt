@@ -3,6 +3,7 @@ use Rattle.std.proofs.Common.{◌≡◌, ℕ, ◌+◌, List, [], ◌∷◌, ◌+
 use Rattle.std.specs.Prelude.{◌⊎◌, IfErr, map}
 use mathlib.Core.List.{IsPrefix}
 use Rattle.canvas_model.specs.Log.{Entry}
+use Rattle.canvas_journal.specs.declared.fault.KeepError.TheVariants.{Device, Failed, Memory, TooLarge}
 use Rattle.canvas_server.specs.Asked.{Asked}
 use Rattle.canvas_server.specs.Served.{Served}
 use Rattle.canvas_board.specs.Marks.{IsLegal, Logged, Mark, Opening, board, start, step}
@@ -10,8 +11,9 @@ use Rattle.canvas_board.specs.Receipts.{ReceiptValue}
 use Rattle.canvas_board.proofs.Boards.{legal_begin, version_before}
 use Rattle.canvas_board.proofs.Fronts.{prefix_self, prefix_trans}
 use Rattle.canvas_desk.specs.declared.faults.SubmitError.{SubmitError}
-use Rattle.canvas_desk.specs.declared.faults.SubmitError.TheVariants.{Stranger, Repeat, Gap, Full, Device, Failed, Memory, TooLarge}
-use Rattle.canvas_desk.specs.Batches.{AreJudged, IsAnswered, LeavesBatch, as_owed, is_memory, marks, receipts, unjudged}
+use Rattle.canvas_desk.specs.declared.faults.SubmitError.TheVariants.{Refused, NotKept, Owed}
+use Rattle.canvas_desk.specs.Batches.{AreJudged, IsAnswered, LeavesBatch, as_owed, marks, receipts, unjudged}
+use Rattle.canvas_desk.specs.Faults.{is_memory}
 use Rattle.canvas_desk.specs.Judging.{IsEntryFor, Refuses}
 use Rattle.canvas_desk.proofs.Running.{board_next, stands_next}
 use Rattle.canvas_room.specs.Batches.{AreSaid, AreSeen, IsUnanswered, Says}
@@ -118,28 +120,24 @@ said_first {X} {Y} o due asked seen xs xs' ys ys' answers answers' x y a first s
 
 -- why a batch isn't answered
 unanswered_of : (o : Opening) (qs : List Asked) (e : SubmitError) (due due' : List Mark) (failed failed' : Bool) → LeavesBatch o qs e due due' failed failed' → IsUnanswered failed' e
-unanswered_of o qs Stranger due due' failed failed' l = absurd l
-unanswered_of o qs (Repeat n) due due' failed failed' l = absurd l
-unanswered_of o qs (Gap n) due due' failed failed' l = absurd l
-unanswered_of o qs Full due due' failed failed' l = absurd l
-unanswered_of o qs Device due due' failed failed' l = inr (refl, l.2)
-unanswered_of o qs Failed due due' failed failed' l = inr (refl, l.2)
-unanswered_of o qs (Memory after) due due' failed failed' l = inl refl
-unanswered_of o qs TooLarge due due' failed failed' l = absurd l
+unanswered_of o qs (Refused reason) due due' failed failed' l = absurd l
+unanswered_of o qs (NotKept Device) due due' failed failed' l = inr (refl, l.0.2)
+unanswered_of o qs (NotKept Failed) due due' failed failed' l = inr (refl, l.0.2)
+unanswered_of o qs (NotKept Memory) due due' failed failed' l = inl refl
+unanswered_of o qs (NotKept TooLarge) due due' failed failed' l = absurd (l.1)
+unanswered_of o qs (Owed v) due due' failed failed' l = absurd l
 
 pub batch_unanswered : {V : Type 0} (o : Opening) (qs : List Asked) (a : Result V SubmitError) (due due' : List Mark) (failed failed' : Bool) → IfErr a (λ e. LeavesBatch o qs e due due' failed failed') → IfErr a (λ e. IsUnanswered failed' e)
 batch_unanswered o qs (Ok r) due due' failed failed' l = tt
 batch_unanswered o qs (Err e) due due' failed failed' l = unanswered_of o qs e due due' failed failed' l
 
 no_memory : (e : SubmitError) → is_failure e ≡ true → is_memory e ≡ true → ⊥
-no_memory Stranger is m = true≢false (sym m)
-no_memory (Repeat n) is m = true≢false (sym m)
-no_memory (Gap n) is m = true≢false (sym m)
-no_memory Full is m = true≢false (sym m)
-no_memory Device is m = true≢false (sym m)
-no_memory Failed is m = true≢false (sym m)
-no_memory (Memory after) is m = true≢false (sym is)
-no_memory TooLarge is m = true≢false (sym m)
+no_memory (Refused reason) is m = true≢false (sym m)
+no_memory (NotKept Device) is m = true≢false (sym m)
+no_memory (NotKept Failed) is m = true≢false (sym m)
+no_memory (NotKept Memory) is m = true≢false (sym is)
+no_memory (NotKept TooLarge) is m = true≢false (sym m)
+no_memory (Owed v) is m = true≢false (sym is)
 
 -- where it tells of a failure, the desk has failed; else memory was refused
 pub unanswered_failed : (failed : Bool) (e : SubmitError) → IsUnanswered failed e → is_failure e ≡ true → failed ≡ true
@@ -166,14 +164,12 @@ no_failure o q e seen due (inl h) never none = absurd (never h)
 no_failure o q e seen due (inr h) never none = absurd (none (board o h.at) h.refuses)
 
 refusal_said : (o : Opening) (q : Asked) (e : SubmitError) (seen due front : List Mark) → Learns (Err e) seen due front → (is_memory e ≡ true) ⊎ IsRefusedAt o seen due q e → IsRefused o seen front q e
-refusal_said o q Stranger seen due front k h = refused_as o q Stranger seen due front k h (λ m. true≢false (sym m))
-refusal_said o q (Repeat n) seen due front k h = refused_as o q (Repeat n) seen due front k h (λ m. true≢false (sym m))
-refusal_said o q (Gap n) seen due front k h = refused_as o q (Gap n) seen due front k h (λ m. true≢false (sym m))
-refusal_said o q Full seen due front k h = refused_as o q Full seen due front k h (λ m. true≢false (sym m))
-refusal_said o q Device seen due front k h = no_failure o q Device seen due h (λ m. true≢false (sym m)) (λ b n. n)
-refusal_said o q Failed seen due front k h = no_failure o q Failed seen due h (λ m. true≢false (sym m)) (λ b n. n)
-refusal_said o q (Memory after) seen due front k h = k
-refusal_said o q TooLarge seen due front k h = refused_as o q TooLarge seen due front k h (λ m. true≢false (sym m))
+refusal_said o q (Refused reason) seen due front k h = refused_as o q (Refused reason) seen due front k h (λ m. true≢false (sym m))
+refusal_said o q (NotKept Device) seen due front k h = no_failure o q (NotKept Device) seen due h (λ m. true≢false (sym m)) (λ b n. n)
+refusal_said o q (NotKept Failed) seen due front k h = no_failure o q (NotKept Failed) seen due h (λ m. true≢false (sym m)) (λ b n. n)
+refusal_said o q (NotKept Memory) seen due front k h = k
+refusal_said o q (NotKept TooLarge) seen due front k h = refused_as o q (NotKept TooLarge) seen due front k h (λ m. true≢false (sym m))
+refusal_said o q (Owed v) seen due front k h = k
 
 -- an answer of a batch is an answer to the seat
 pub said_answers : (o : Opening) (q : Asked) (a : Result ReceiptValue SubmitError) (seen due front : List Mark) → Says o seen due q a → Learns a seen due front → IsAnswerTo o seen q a front
@@ -181,14 +177,12 @@ said_answers o q (Ok r) seen due front h k = (h, k)
 said_answers o q (Err e) seen due front h k = (h.0, refusal_said o q e seen due front k h.1)
 
 refusal_unjudged : (o : Opening) (q : Asked) (e : SubmitError) (seen front : List Mark) → is_memory e ≡ true → front ≡ seen → RefusesEdit q e × IsRefused o seen front q e
-refusal_unjudged o q Stranger seen front m same = absurd (true≢false (sym m))
-refusal_unjudged o q (Repeat n) seen front m same = absurd (true≢false (sym m))
-refusal_unjudged o q (Gap n) seen front m same = absurd (true≢false (sym m))
-refusal_unjudged o q Full seen front m same = absurd (true≢false (sym m))
-refusal_unjudged o q Device seen front m same = absurd (true≢false (sym m))
-refusal_unjudged o q Failed seen front m same = absurd (true≢false (sym m))
-refusal_unjudged o q (Memory after) seen front m same = (tt, same)
-refusal_unjudged o q TooLarge seen front m same = absurd (true≢false (sym m))
+refusal_unjudged o q (Refused reason) seen front m same = absurd (true≢false (sym m))
+refusal_unjudged o q (NotKept Device) seen front m same = absurd (true≢false (sym m))
+refusal_unjudged o q (NotKept Failed) seen front m same = absurd (true≢false (sym m))
+refusal_unjudged o q (NotKept Memory) seen front m same = (tt, same)
+refusal_unjudged o q (NotKept TooLarge) seen front m same = absurd (true≢false (sym m))
+refusal_unjudged o q (Owed v) seen front m same = (tt, same)
 
 -- a request for which memory was refused
 pub unjudged_answers : (o : Opening) (q : Asked) (e : SubmitError) (seen front : List Mark) → is_memory e ≡ true → front ≡ seen → IsAnswerTo o seen q (Err e) front

@@ -6,6 +6,7 @@ use Rattle.canvas_model.specs.declared.Rule.TheVariants.{Two}
 use Rattle.canvas_model.specs.Log.{Edit, Entry, FitsAs, Join, What}
 use Rattle.canvas_model.specs.State.{State, joined, done, next}
 use Rattle.canvas_model.proofs.Tests.{le_true, lt_true}
+use Rattle.canvas_journal.specs.declared.fault.KeepError.TheVariants.{Device, Failed, Memory, TooLarge}
 use Rattle.canvas_server.specs.Answered.{IsNextFor, TakesAs, has_no_room}
 use Rattle.canvas_server.specs.Asked.{Asked}
 use Rattle.canvas_server.specs.Served.{Served}
@@ -16,8 +17,9 @@ use Rattle.canvas_board.specs.Receipts.{ReceiptValue, EndsWith}
 use Rattle.canvas_board.proofs.Boards.{version_before}
 use Rattle.canvas_board.proofs.Failures.{tells_later}
 use Rattle.canvas_board.proofs.Fronts.{prefix_self, prefix_trans}
+use Rattle.canvas_desk.specs.declared.faults.Refusal.TheVariants.{Stranger, Repeat, Gap, Full}
 use Rattle.canvas_desk.specs.declared.faults.SubmitError.{SubmitError}
-use Rattle.canvas_desk.specs.declared.faults.SubmitError.TheVariants.{Stranger, Repeat, Gap, Full, Device, Failed, Memory, TooLarge}
+use Rattle.canvas_desk.specs.declared.faults.SubmitError.TheVariants.{Refused, NotKept, Owed}
 use Rattle.canvas_desk.specs.Judging.{Refuses}
 use Rattle.canvas_desk.specs.Submitting.{IsAllShown, IsPublished, LeavesAt, SettlesAt}
 use Rattle.canvas_room.specs.Seats.{Answers, IsAnswerTo, IsEdit, IsFailedSince, IsOutcomeOf, IsRefused, IsRefusedAt, IsTold, Learns, RefusesEdit, is_failure}
@@ -84,24 +86,17 @@ module _ (b : Served) (q : Asked) where
 
 -- a stranger, a repeat and a gap are edits
 pub refuses_of : (b : Served) (q : Asked) (e : SubmitError) → Refuses b q e → RefusesEdit q e
-refuses_of b q Stranger h = stranger_edits b q q.what h
-refuses_of b q (Repeat n) h = repeat_edits b q n q.what h
-refuses_of b q (Gap n) h = gap_edits b q n q.what h
-refuses_of b q Full h = tt
-refuses_of b q Device h = tt
-refuses_of b q Failed h = tt
-refuses_of b q (Memory after) h = tt
-refuses_of b q TooLarge h = tt
+refuses_of b q (Refused Stranger) h = stranger_edits b q q.what h
+refuses_of b q (Refused (Repeat n)) h = repeat_edits b q n q.what h
+refuses_of b q (Refused (Gap n)) h = gap_edits b q n q.what h
+refuses_of b q (Refused Full) h = tt
+refuses_of b q (NotKept error) h = tt
+refuses_of b q (Owed v) h = tt
 
 refuses_edit : (o : Opening) (q : Asked) (e : SubmitError) (due due' : List Mark) (failed failed' : Bool) → LeavesAt o q e due due' failed failed' → RefusesEdit q e
-refuses_edit o q Stranger due due' failed failed' l = refuses_of (board o due) q Stranger l.1
-refuses_edit o q (Repeat n) due due' failed failed' l = refuses_of (board o due) q (Repeat n) l.1
-refuses_edit o q (Gap n) due due' failed failed' l = refuses_of (board o due) q (Gap n) l.1
-refuses_edit o q Full due due' failed failed' l = tt
-refuses_edit o q Device due due' failed failed' l = tt
-refuses_edit o q Failed due due' failed failed' l = tt
-refuses_edit o q (Memory after) due due' failed failed' l = tt
-refuses_edit o q TooLarge due due' failed failed' l = tt
+refuses_edit o q (Refused reason) due due' failed failed' l = refuses_of (board o due) q (Refused reason) l.1
+refuses_edit o q (NotKept error) due due' failed failed' l = tt
+refuses_edit o q (Owed v) due due' failed failed' l = tt
 
 -- ---- what a seat learns with an answer
 
@@ -116,14 +111,12 @@ refused_since o q e seen shown shown' due due' front pre all same learns legal r
 }
 
 refusal_of : (o : Opening) (q : Asked) (e : SubmitError) (seen shown shown' due due' front : List Mark) (failed failed' : Bool) → IsPrefix seen shown → LeavesAt o q e due due' failed failed' → SettlesAt e shown shown' due' → Learns (Err e) seen shown' front → IsLegal o front → is_failure e ≡ false → IsRefused o seen front q e
-refusal_of o q Stranger seen shown shown' due due' front failed failed' pre l s k legal fine = refused_since o q Stranger seen shown shown' due due' front pre s l.0.0 k legal l.1
-refusal_of o q (Repeat n) seen shown shown' due due' front failed failed' pre l s k legal fine = refused_since o q (Repeat n) seen shown shown' due due' front pre s l.0.0 k legal l.1
-refusal_of o q (Gap n) seen shown shown' due due' front failed failed' pre l s k legal fine = refused_since o q (Gap n) seen shown shown' due due' front pre s l.0.0 k legal l.1
-refusal_of o q Full seen shown shown' due due' front failed failed' pre l s k legal fine = refused_since o q Full seen shown shown' due due' front pre s l.0.0 k legal l.1
-refusal_of o q Device seen shown shown' due due' front failed failed' pre l s k legal fine = absurd (true≢false fine)
-refusal_of o q Failed seen shown shown' due due' front failed failed' pre l s k legal fine = absurd (true≢false fine)
-refusal_of o q (Memory after) seen shown shown' due due' front failed failed' pre l s k legal fine = k
-refusal_of o q TooLarge seen shown shown' due due' front failed failed' pre l s k legal fine = refused_since o q TooLarge seen shown shown' due due' front pre s l.0.0 k legal l.1
+refusal_of o q (Refused reason) seen shown shown' due due' front failed failed' pre l s k legal fine = refused_since o q (Refused reason) seen shown shown' due due' front pre s l.0.0 k legal l.1
+refusal_of o q (NotKept Device) seen shown shown' due due' front failed failed' pre l s k legal fine = absurd (true≢false fine)
+refusal_of o q (NotKept Failed) seen shown shown' due due' front failed failed' pre l s k legal fine = absurd (true≢false fine)
+refusal_of o q (NotKept Memory) seen shown shown' due due' front failed failed' pre l s k legal fine = k
+refusal_of o q (NotKept TooLarge) seen shown shown' due due' front failed failed' pre l s k legal fine = refused_since o q (NotKept TooLarge) seen shown shown' due due' front pre s l.0.0 k legal l.1
+refusal_of o q (Owed v) seen shown shown' due due' front failed failed' pre l s k legal fine = k
 
 -- what the desk says is an answer to the seat
 pub answer_to : (o : Opening) (q : Asked) (a : Result ReceiptValue SubmitError) (seen shown shown' due due' front : List Mark) (failed failed' : Bool) → IsPrefix seen shown → IfOk a (λ _. IsPrefix shown due)
@@ -145,14 +138,12 @@ stays old front new same (inl is) = is
 stays old front new same (inr is) = is ∙ same
 
 refused_learned : (o : Opening) (q : Asked) (e : SubmitError) (old front new : List Mark) → IsPrefix front new → (new ≡ old) ⊎ (new ≡ front) → IsLegal o new → IsRefused o old front q e → IsRefused o old new q e
-refused_learned o q Stranger old front new more one legal r = refused_more o q Stranger old front new more legal r
-refused_learned o q (Repeat n) old front new more one legal r = refused_more o q (Repeat n) old front new more legal r
-refused_learned o q (Gap n) old front new more one legal r = refused_more o q (Gap n) old front new more legal r
-refused_learned o q Full old front new more one legal r = refused_more o q Full old front new more legal r
-refused_learned o q Device old front new more one legal r = failed_more o old front new more legal r
-refused_learned o q Failed old front new more one legal r = failed_more o old front new more legal r
-refused_learned o q (Memory after) old front new more one legal r = stays old front new r one
-refused_learned o q TooLarge old front new more one legal r = refused_more o q TooLarge old front new more legal r
+refused_learned o q (Refused reason) old front new more one legal r = refused_more o q (Refused reason) old front new more legal r
+refused_learned o q (NotKept Device) old front new more one legal r = failed_more o old front new more legal r
+refused_learned o q (NotKept Failed) old front new more one legal r = failed_more o old front new more legal r
+refused_learned o q (NotKept Memory) old front new more one legal r = stays old front new r one
+refused_learned o q (NotKept TooLarge) old front new more one legal r = refused_more o q (NotKept TooLarge) old front new more legal r
+refused_learned o q (Owed v) old front new more one legal r = stays old front new r one
 
 -- why a seat was refused is to be seen in what it has seen since
 pub answer_judged : (o : Opening) (q : Asked) (old front : List Mark) (a : Result ReceiptValue SubmitError) (new : List Mark) → IsAnswerTo o old q a front → IsPrefix front new → (new ≡ old) ⊎ (new ≡ front) → IsLegal o new → IfErr a (λ e. IsRefused o old new q e)
@@ -163,25 +154,21 @@ answer_judged o q old front (Err e) new h more one legal = refused_learned o q e
 
 -- a failure that was learned of is a reason for either error
 pub failure_answers : (o : Opening) (q : Asked) (e : SubmitError) (seen front : List Mark) → is_failure e ≡ true → IsFailedSince o seen front → IsAnswerTo o seen q (Err e) front
-failure_answers o q Stranger seen front is h = absurd (true≢false (sym is))
-failure_answers o q (Repeat n) seen front is h = absurd (true≢false (sym is))
-failure_answers o q (Gap n) seen front is h = absurd (true≢false (sym is))
-failure_answers o q Full seen front is h = absurd (true≢false (sym is))
-failure_answers o q Device seen front is h = (tt, h)
-failure_answers o q Failed seen front is h = (tt, h)
-failure_answers o q (Memory after) seen front is h = absurd (true≢false (sym is))
-failure_answers o q TooLarge seen front is h = absurd (true≢false (sym is))
+failure_answers o q (Refused reason) seen front is h = absurd (true≢false (sym is))
+failure_answers o q (NotKept Device) seen front is h = (tt, h)
+failure_answers o q (NotKept Failed) seen front is h = (tt, h)
+failure_answers o q (NotKept Memory) seen front is h = absurd (true≢false (sym is))
+failure_answers o q (NotKept TooLarge) seen front is h = absurd (true≢false (sym is))
+failure_answers o q (Owed v) seen front is h = absurd (true≢false (sym is))
 
 -- after an error of these the desk has failed
 pub failed_after : (o : Opening) (q : Asked) (e : SubmitError) (due due' : List Mark) (failed failed' : Bool) → LeavesAt o q e due due' failed failed' → is_failure e ≡ true → failed' ≡ true
-failed_after o q Stranger due due' failed failed' l is = absurd (true≢false (sym is))
-failed_after o q (Repeat n) due due' failed failed' l is = absurd (true≢false (sym is))
-failed_after o q (Gap n) due due' failed failed' l is = absurd (true≢false (sym is))
-failed_after o q Full due due' failed failed' l is = absurd (true≢false (sym is))
-failed_after o q Device due due' failed failed' l is = l.2
-failed_after o q Failed due due' failed failed' l is = l.1
-failed_after o q (Memory after) due due' failed failed' l is = absurd (true≢false (sym is))
-failed_after o q TooLarge due due' failed failed' l is = absurd (true≢false (sym is))
+failed_after o q (Refused reason) due due' failed failed' l is = absurd (true≢false (sym is))
+failed_after o q (NotKept Device) due due' failed failed' l is = l.0.2
+failed_after o q (NotKept Failed) due due' failed failed' l is = l.0.2
+failed_after o q (NotKept Memory) due due' failed failed' l is = absurd (true≢false (sym is))
+failed_after o q (NotKept TooLarge) due due' failed failed' l is = absurd (true≢false (sym is))
+failed_after o q (Owed v) due due' failed failed' l is = absurd (true≢false (sym is))
 
 -- the longer of what was seen and what tells of a failure
 pub learned_failure : (o : Opening) (seen told : List Mark) → IsPrefix seen told → IsLegal o told → TellsFailure told → IsFailedSince o seen told

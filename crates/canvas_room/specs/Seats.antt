@@ -3,11 +3,13 @@ use Rattle.std.specs.Prelude.{◌≡◌, ◌≤◌, ◌<◌, ◌+◌, ℕ, Bool,
 use mathlib.Core.List.{IsPrefix}
 use Rattle.canvas_model.specs.Log.{What, Join, Edit, Entry}
 use Rattle.canvas_model.specs.Verdict.{Joined, Outcome}
+use Rattle.canvas_journal.specs.declared.fault.KeepError.TheVariants.{Device, Failed, Memory, TooLarge}
 use Rattle.canvas_server.specs.Asked.{Asked}
 use Rattle.canvas_board.specs.Marks.{IsLegal, Mark, Opening, Sees, TellsFailure, board}
 use Rattle.canvas_board.specs.Receipts.{ReceiptValue, EndsWith}
+use Rattle.canvas_desk.specs.declared.faults.Refusal.TheVariants.{Stranger, Repeat, Gap}
 use Rattle.canvas_desk.specs.declared.faults.SubmitError.{SubmitError}
-use Rattle.canvas_desk.specs.declared.faults.SubmitError.TheVariants.{Stranger, Repeat, Gap, Full, Device, Failed, Memory, TooLarge}
+use Rattle.canvas_desk.specs.declared.faults.SubmitError.TheVariants.{Refused, NotKept, Owed}
 use Rattle.canvas_desk.specs.Judging.{Refuses}
 
 -- what was asked for is an edit
@@ -36,14 +38,10 @@ pub record IsTold (o : Opening) (seen : List Mark) (q : Asked) (r : ReceiptValue
 
 -- a stranger, a repeat and a gap are edits; a repeat is one by a number that was judged, a gap one by a number above the next
 abbrev pub RefusesEdit : Asked → SubmitError → Type 0
-RefusesEdit q Stranger = IsEdit q.what
-RefusesEdit q (Repeat done) = IsEdit q.what × (q.seq ≤ done)
-RefusesEdit q (Gap done) = IsEdit q.what × (done + 1 < q.seq)
-RefusesEdit q Full = Unit {0}
-RefusesEdit q Device = Unit {0}
-RefusesEdit q Failed = Unit {0}
-RefusesEdit q (Memory after) = Unit {0}
-RefusesEdit q TooLarge = Unit {0}
+RefusesEdit q (Refused Stranger) = IsEdit q.what
+RefusesEdit q (Refused (Repeat done)) = IsEdit q.what × (q.seq ≤ done)
+RefusesEdit q (Refused (Gap done)) = IsEdit q.what × (done + 1 < q.seq)
+RefusesEdit q _ = Unit {0}
 
 -- At one beginning of what the seat has seen since, the server's rule refuses the request, or its entry is too large.
 pub record IsRefusedAt (o : Opening) (old new : List Mark) (q : Asked) (e : SubmitError) : Type 0 where
@@ -60,37 +58,23 @@ IsFailedSince o old new = Sees o old new × TellsFailure new
 -- A refused request was refused at a beginning of what the seat has seen since, or what it has seen since tells of a failure; a request for
 -- which memory was refused leaves the seat as it was.
 abbrev pub IsRefused : Opening → List Mark → List Mark → Asked → SubmitError → Type 0
-IsRefused o old new q Stranger = IsRefusedAt o old new q Stranger
-IsRefused o old new q (Repeat done) = IsRefusedAt o old new q (Repeat done)
-IsRefused o old new q (Gap done) = IsRefusedAt o old new q (Gap done)
-IsRefused o old new q Full = IsRefusedAt o old new q Full
-IsRefused o old new q Device = IsFailedSince o old new
-IsRefused o old new q Failed = IsFailedSince o old new
-IsRefused o old new q (Memory after) = new ≡ old
-IsRefused o old new q TooLarge = IsRefusedAt o old new q TooLarge
+IsRefused o old new q (Refused reason) = IsRefusedAt o old new q (Refused reason)
+IsRefused o old new q (NotKept TooLarge) = IsRefusedAt o old new q (NotKept TooLarge)
+IsRefused o old new q (NotKept Memory) = new ≡ old
+IsRefused o old new q (NotKept _) = IsFailedSince o old new
+IsRefused o old new q (Owed v) = new ≡ old
 
 -- the request was judged and refused: the server's rule says so, or its entry is too large
 abbrev pub is_refusal : Result ReceiptValue SubmitError → Bool
-is_refusal (Ok r) = false
-is_refusal (Err Stranger) = true
-is_refusal (Err (Repeat done)) = true
-is_refusal (Err (Gap done)) = true
-is_refusal (Err Full) = true
-is_refusal (Err Device) = false
-is_refusal (Err Failed) = false
-is_refusal (Err (Memory after)) = false
-is_refusal (Err TooLarge) = true
+is_refusal (Err (Refused reason)) = true
+is_refusal (Err (NotKept TooLarge)) = true
+is_refusal _ = false
 
 -- what keeps the entries has failed
 abbrev pub is_failure : SubmitError → Bool
-is_failure Stranger = false
-is_failure (Repeat done) = false
-is_failure (Gap done) = false
-is_failure Full = false
-is_failure Device = true
-is_failure Failed = true
-is_failure (Memory after) = false
-is_failure TooLarge = false
+is_failure (NotKept Device) = true
+is_failure (NotKept Failed) = true
+is_failure _ = false
 
 -- what a seat learns with an answer that tells of no failure: all that is published where its request was judged and refused, and nothing
 -- otherwise

@@ -3,14 +3,14 @@ ghost use Rattle.std.specs.Prelude.{◌≡◌, true, false, Err, IfErr, IfNone, 
 ghost use mathlib.Core.List.{IsPrefix};
 ghost use Rattle.canvas_server.specs.Asked.{Asked, seen_request};
 ghost use Rattle.canvas_board.specs.Marks.{IsLegal, TellsFailure};
-ghost use Rattle.canvas_desk.specs.Batches.{is_memory};
+ghost use Rattle.canvas_desk.specs.Faults.{is_memory};
 ghost use Rattle.canvas_room.specs.Batches.{IsUnanswered};
 ghost use Rattle.canvas_room.specs.Seats as seats;
 ghost use Rattle.canvas_room.specs.Seats.{IsAnswerTo, IsFailedSince, Learns};
 
 use canvas_board::{Front, Receipt, RoomName};
 use canvas_desk::{Desk, SubmitError};
-use canvas_journal::Keeper;
+use canvas_journal::{KeepError, Keeper};
 use canvas_server::Request;
 use std::sync::Wait;
 
@@ -27,25 +27,20 @@ pub struct Told<N: RoomName> {
 pub fn is_refusal<N: RoomName>(answer: &Result<Receipt<N>, SubmitError>) -> bool
     ensures { result ≡ seats.is_refusal answer.now }
 {
-    match answer {
-        Err(
-            SubmitError::Stranger
-            | SubmitError::Repeat { .. }
-            | SubmitError::Gap { .. }
-            | SubmitError::Full
-            | SubmitError::TooLarge,
-        ) => true,
-        Ok(_) | Err(SubmitError::Device | SubmitError::Failed | SubmitError::Memory { .. }) => {
-            false
-        }
-    }
+    matches!(
+        answer,
+        Err(SubmitError::Refused(_) | SubmitError::NotKept(KeepError::TooLarge))
+    )
 }
 
 // Whether an error says that what keeps the entries has failed.
 fn is_failure(error: SubmitError) -> bool
     ensures { result ≡ seats.is_failure error }
 {
-    matches!(error, SubmitError::Device | SubmitError::Failed)
+    matches!(
+        error,
+        SubmitError::NotKept(KeepError::Device | KeepError::Failed)
+    )
 }
 
 // The error of an answer that says that what keeps the entries has failed.

@@ -5,7 +5,7 @@ use crate::folders::{remove, room_in_folder, version_in};
 use crate::seats::{join_by, reads, refusal_by};
 use canvas_benches::{Bench, RoomTest, SeatOf, room_on, told_by, told_in_memory};
 use canvas_board::RoomName;
-use canvas_desk::SubmitError;
+use canvas_desk::{Refusal, SubmitError};
 use canvas_journal::{Journal, Keeper};
 use canvas_room::{Room, RoomError, Seat};
 use canvas_shelf::{Call, MemShelf};
@@ -96,10 +96,14 @@ fn tells_and_keeps(rt: HostRuntime) -> Result<(), Fail> {
 
 // Client and number of edits in this order, once client 1 has joined, and why each is refused.
 const REFUSALS: [(u32, u64, Option<SubmitError>); 5] = [
-    (2, 1, Some(SubmitError::Stranger)),
-    (1, 2, Some(SubmitError::Gap { done: 0 })),
+    (2, 1, Some(SubmitError::Refused(Refusal::Stranger))),
+    (1, 2, Some(SubmitError::Refused(Refusal::Gap { done: 0 }))),
     (1, 1, None),
-    (1, 1, Some(SubmitError::Repeat { done: 1 })),
+    (
+        1,
+        1,
+        Some(SubmitError::Refused(Refusal::Repeat { done: 1 })),
+    ),
     (1, 2, None),
 ];
 

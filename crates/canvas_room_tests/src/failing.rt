@@ -3,7 +3,7 @@ use crate::seats::{join_by, reads};
 use canvas_benches::{Bench, RoomTest, SeatOf, told_in_memory};
 use canvas_board::RoomName;
 use canvas_desk::SubmitError;
-use canvas_journal::Keeper;
+use canvas_journal::{KeepError, Keeper};
 use canvas_room::{Room, Seat};
 use std::alloc::Global;
 use std::sync::Wait;
@@ -26,11 +26,15 @@ fn is_answered<K: Keeper + Drop, N: RoomName, Q: Wait + Drop, W: Wait>(
     rt: &W,
     seat: &mut SeatOf<K, N, Q>,
 ) -> bool {
-    let failed = Err(SubmitError::Failed);
+    let failed = Err(SubmitError::NotKept(KeepError::Failed));
     answers_by(rt, seat)
         == (
-            [Ok(Some(1)), Err(SubmitError::Device), failed],
-            Err(SubmitError::Failed),
+            [
+                Ok(Some(1)),
+                Err(SubmitError::NotKept(KeepError::Device)),
+                failed,
+            ],
+            Err(SubmitError::NotKept(KeepError::Failed)),
         )
 }
 

@@ -9,9 +9,9 @@ ghost use Rattle.canvas_threads.specs.Worked.{HasWorked, HasWorkedOn, IsLastOf};
 use crate::Gate;
 use canvas_board::{Receipt, RoomName};
 use canvas_client::{Client, EditError, EditRequest};
-use canvas_desk::SubmitError;
+use canvas_desk::{Refusal, SubmitError};
 use canvas_front::answer;
-use canvas_journal::Keeper;
+use canvas_journal::{KeepError, Keeper};
 use canvas_judge::{Entry, Message, Outcome};
 use canvas_room::{Lock, Seat};
 use canvas_server::Request;
@@ -46,7 +46,7 @@ impl<K: Keeper + Drop, N: RoomName, Q: Wait + Drop> Node<N, Lock<K, N, Q>> {
 
     /// Makes these edits one after the other, and submits each between two calls of the gate. What the client refuses is passed over.
     ///
-    /// The errors: those of a submit, but for Repeat, and of `read_to`; Memory, after none, where memory is refused besides.
+    /// The errors: those of a submit, but for Repeat, and of `read_to`; `NotKept(Memory)` where memory is refused besides.
     pub(crate) fn make_all<W: Wait, G: Gate>(
         &mut self,
         alloc: Global,
@@ -85,7 +85,7 @@ impl<K: Keeper + Drop, N: RoomName, Q: Wait + Drop> Node<N, Lock<K, N, Q>> {
         gate.after(number, call);
         match answer {
             Ok(receipt) => self.take_in(alloc, rt, receipt),
-            Err(SubmitError::Repeat { .. }) => self.read_to(alloc, rt, u64::MAX),
+            Err(SubmitError::Refused(Refusal::Repeat { .. })) => self.read_to(alloc, rt, u64::MAX),
             Err(error) => Err(error),
         }
     }
@@ -111,7 +111,7 @@ impl<K: Keeper + Drop, N: RoomName, Q: Wait + Drop> Node<N, Lock<K, N, Q>> {
 
     /// Reads until the client has this version, or takes nothing of what is read.
     ///
-    /// The errors: Failed, where the room has ended; Memory, after none, where memory is refused.
+    /// The errors: `NotKept(Failed)` where the room has ended; `NotKept(Memory)` where memory is refused.
     pub(crate) fn read_to<W: Wait>(
         &mut self,
         alloc: Global,
@@ -162,14 +162,14 @@ fn welcomed(mut client: Client, id: u32) -> Result<Client, AllocError>
     Ok(client)
 }
 
-// Makes an edit, and tells whether the client made it or refused it. Memory, after none, where memory is refused.
+// Makes an edit, and tells whether the client made it or refused it. `NotKept(Memory)` where memory is refused.
 fn make(client: &mut Client, request: &EditRequest) -> Result<bool, SubmitError>
     ensures made { IfOk result (λ made. IsTrue made → 0 < length client.new.waiting) }
     ensures once { HasWorkedOn 1 client.old client.new }
 {
     match client.edit(request) {
         Ok(_) => Ok(true),
-        Err(EditError::Memory) => Err(SubmitError::Memory { after: None }),
+        Err(EditError::Memory) => Err(SubmitError::NotKept(KeepError::Memory)),
         Err(_) => Ok(false),
     }
 }
@@ -200,12 +200,13 @@ fn give_all(client: &mut Client, messages: &[Message]) -> Result<(), SubmitError
     Ok(())
 }
 
-// Gives the client a message of an answer. Failed where it is a No, which answers a client that has joined only where the room has ended.
+// Gives the client a message of an answer. `NotKept(Failed)` where it is a No, which answers a client that has joined only where the room
+// has ended.
 fn give(client: &mut Client, message: &Message) -> Result<(), SubmitError>
     ensures { GoesOn client.old client.new }
 {
     if let Message::No(_) = message {
-        return Err(SubmitError::Failed);
+        return Err(SubmitError::NotKept(KeepError::Failed));
     }
     client.receive(message)?;
     Ok(())

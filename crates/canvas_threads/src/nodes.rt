@@ -22,8 +22,8 @@ use std::thread::{Threads, map_vec};
 /// that others use too takes no entry which isn't its own, and stays where it is. Where no thread can be made, nodes run one after
 /// the other.
 ///
-/// The error is that of the first node, in the order of the lists, that had one: those of `Seat::submit` but for Repeat; Failed, where
-/// the room has ended; Memory, after none, where memory is refused besides. What was submitted stays.
+/// The error is that of the first node, in the order of the lists, that had one: those of `Seat::submit` but for Repeat;
+/// `NotKept(Failed)` where the room has ended; `NotKept(Memory)` where memory is refused besides. What was submitted stays.
 pub fn run_nodes<K, N, Q, R, G>(
     rt: &R,
     room: &Room<K, N, Q>,

@@ -6,6 +6,7 @@ use canvas_benches::Bench;
 use canvas_client::Client;
 use canvas_desk::SubmitError;
 use canvas_doc::Doc;
+use canvas_journal::KeepError;
 use canvas_threads::{Gate, NoGate};
 use canvas_tree::{Tree, grow};
 use std::alloc::{AllocError, Global};
@@ -154,7 +155,10 @@ fn fails_once(rt: HostRuntime) -> Result<(), Fail> {
         let bench = Bench { seats: 2, failing };
         let counts = counts(rt, bench, work, &NoGate)?;
         assert!(rt;
-            matches!(counts, Err(SubmitError::Device | SubmitError::Failed)),
+            matches!(
+                counts,
+                Err(SubmitError::NotKept(KeepError::Device | KeepError::Failed))
+            ),
             "at {failing}"
         );
     }
