@@ -1,0 +1,61 @@
+// Why a call of bytes and numbers does nothing.
+use canvas_client::EditError;
+use canvas_value::NameError;
+use thiserror::Error;
+
+/// Why bytes are the JSON of no value: the first reason that holds, in this order, each looked for over the whole text before the next.
+/// But memory can be refused before.
+#[derive(Clone, Copy, Debug, PartialEq, Eq, Error)]
+pub enum ValueError {
+    /// The bytes aren't JSON: not UTF-8, cut short, or nested more than 127 deep.
+    #[error("the bytes aren't JSON")]
+    NotJson,
+    /// The JSON tree isn't that of a value, whatever its whole numbers.
+    #[error("the JSON isn't that of a value")]
+    NotAValue,
+    /// It is that of a value but for a number out of its range.
+    #[error("a number is out of range")]
+    OutOfRange,
+    /// All else fits, and lists nest more than 16 deep.
+    #[error("a value has lists more than 16 deep")]
+    TooDeep,
+    /// Memory was refused.
+    #[error("out of memory")]
+    Memory,
+}
+
+/// Why nothing was created.
+#[derive(Clone, Copy, Debug, PartialEq, Eq, Error)]
+pub enum CreateError {
+    /// The number is that of no kind.
+    #[error("a kind is 1 to 4: page, frame, shape or text")]
+    NoKind,
+    /// The kind is one, and the client refuses the edit.
+    #[error("{0}")]
+    Edit(EditError),
+}
+
+/// Why no property was set: the first that holds, in this order. But memory can be refused before.
+#[derive(Clone, Copy, Debug, PartialEq, Eq, Error)]
+pub enum SetError {
+    /// The bytes are no name.
+    #[error("{0}")]
+    Name(NameError),
+    /// The name is one, and the bytes are the JSON of no value.
+    #[error("{0}")]
+    Value(ValueError),
+    /// Both are what they should be, and the client refuses the edit.
+    #[error("{0}")]
+    Edit(EditError),
+}
+
+/// Why no property was taken away.
+#[derive(Clone, Copy, Debug, PartialEq, Eq, Error)]
+pub enum ClearError {
+    /// The bytes are no name.
+    #[error("{0}")]
+    Name(NameError),
+    /// The name is one, and the client refuses the edit.
+    #[error("{0}")]
+    Edit(EditError),
+}
