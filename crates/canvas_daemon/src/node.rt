@@ -23,6 +23,9 @@ use tungstenite::{Error, HandshakeError, RandomKeys};
 /// The name under which a client shows itself.
 const OWN_NAME: &[u8] = b"me";
 
+// The most bytes of a message that a server answers: a copy is as large as the document.
+const MOST_ANSWER_BYTES: usize = 1 << 30;
+
 /// A client that has joined, and its link to the server.
 #[derive(Drop)]
 pub(crate) struct Node<R: Drop> {
@@ -46,7 +49,14 @@ fn shake_hands<R: RandomSource + AllocGlobal + Clone + Drop>(
         return Err(Fault::Memory);
     };
     match client(alloc, keys, request, stream) {
-        Ok((socket, _response)) => Ok(SocketLink::new(alloc, socket)),
+        Ok((mut socket, _response)) => {
+            let config = *socket.get_config();
+            let limits = config
+                .max_frame_size(Some(MOST_ANSWER_BYTES))
+                .max_message_size(Some(MOST_ANSWER_BYTES));
+            socket.set_config(limits);
+            Ok(SocketLink::new(alloc, socket))
+        }
         Err(HandshakeError::Failure(Error::OutOfMemory)) => Err(Fault::Memory),
         Err(_) => Err(Fault::Device),
     }

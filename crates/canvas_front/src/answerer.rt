@@ -4,7 +4,7 @@ ghost use Rattle.canvas_judge.specs.Seen.{seen_message};
 ghost use Rattle.canvas_nodes.specs.Answers.{IsAnswer};
 ghost use Rattle.canvas_front.specs.Table.{Gives, SeesOn};
 
-use crate::answer;
+use crate::{CHECKPOINT_AT, answer};
 use canvas_board::RoomName;
 use canvas_journal::Keeper;
 use canvas_judge::Message;
@@ -14,11 +14,13 @@ use std::alloc::{AllocError, Global};
 use std::marker::Model;
 use std::sync::Wait;
 
-/// A seat that answers clients, with what it needs to submit. Contracts see it as its seat.
+/// A seat that answers clients, with what it needs to submit, and how many entries stand after a checkpoint when it makes the next one.
+/// Contracts see it as its seat.
 pub struct SeatAnswerer<N: RoomName, D: Drop, W: Drop> {
     alloc: Global,
     rt: W,
     seat: Seat<N, D>,
+    checkpoint_at: u64,
 }
 
 impl<N: RoomName, D: Drop, W: Drop> Drop for SeatAnswerer<N, D, W> {
@@ -27,6 +29,7 @@ impl<N: RoomName, D: Drop, W: Drop> Drop for SeatAnswerer<N, D, W> {
             alloc: _,
             rt: _,
             seat: _,
+            checkpoint_at: _,
         } = self;
     }
 }
@@ -45,11 +48,23 @@ impl<N: RoomName, D: Drop, W: Drop> Model for SeatAnswerer<N, D, W> {
 }
 
 impl<N: RoomName, D: Drop, W: Drop> SeatAnswerer<N, D, W> {
-    /// An answerer at this seat, which waits by `rt`.
+    /// An answerer at this seat, which waits by `rt`, and makes a checkpoint where 256 entries stand after the last one.
     pub fn new(alloc: Global, rt: W, seat: Seat<N, D>) -> Self
         ensures { result ≡ seat }
     {
-        SeatAnswerer { alloc, rt, seat }
+        SeatAnswerer {
+            alloc,
+            rt,
+            seat,
+            checkpoint_at: CHECKPOINT_AT,
+        }
+    }
+
+    /// From now on it makes a checkpoint where so many entries stand after the last one.
+    pub fn checkpoint_at(&mut self, entries: u64)
+        ensures { self.new ≡ self.old }
+    {
+        self.checkpoint_at = entries;
     }
 
     /// The seat.
@@ -60,6 +75,7 @@ impl<N: RoomName, D: Drop, W: Drop> SeatAnswerer<N, D, W> {
             alloc: _,
             rt: _,
             seat,
+            checkpoint_at: _,
         } = self;
         seat
     }
@@ -76,7 +92,13 @@ impl<K: Keeper + Drop, N: RoomName, R: Wait + Drop, W: Wait + Drop> SeatAnswerer
         ensures whole { IfOk result (λ answer. IsAnswer (map seen_message answer.items)) }
         ensures sees { SeesOn N.opening self.old self.new }
     {
-        answer(self.alloc, &self.rt, &mut self.seat, message)
+        answer(
+            self.alloc,
+            &self.rt,
+            &mut self.seat,
+            message,
+            self.checkpoint_at,
+        )
     }
 }
 

@@ -8,5 +8,5 @@ mod requests;
 mod seat_link;
 
 pub use answerer::SeatAnswerer;
-pub use messages::answer;
+pub use messages::{CHECKPOINT_AT, answer};
 pub use seat_link::SeatLink;

@@ -14,11 +14,14 @@ use canvas_server::Request;
 use std::alloc::{AllocError, Global};
 use std::sync::Wait;
 
+/// How many entries stand after a checkpoint when the next one is made, where nobody says otherwise.
+pub const CHECKPOINT_AT: u64 = 256;
+
 /// What a seat answers a client's message, in order: to a Join or an edit what became of it, to an Ask what came after the version that
 /// the client has, and to any other message a No for NotRead. The last message is a Welcome, an Idle or a No, and no other.
 ///
 /// A Join and an edit are submitted, which may wait for the room's lock. What was judged the seat has seen afterwards; then it makes a
-/// checkpoint where 256 entries stand after the last one, and whether that failed isn't told. An Ask waits for nobody; it is answered
+/// checkpoint where so many entries stand after the last one as `checkpoint_at` says, and whether that failed isn't told. An Ask waits for nobody; it is answered
 /// by at most 64 entries, or by a copy where a checkpoint has passed some entry after the client's version.
 ///
 /// Fails only where memory is refused for the answer, and then nothing was submitted.
@@ -27,13 +30,14 @@ pub fn answer<K: Keeper + Drop, N: RoomName, R: Wait + Drop, W: Wait>(
     rt: &W,
     seat: &mut Seat<N, Lock<K, N, R>>,
     message: &Message,
+    checkpoint_at: u64,
 ) -> Result<Vec<Message>, AllocError>
     ensures table { IfOk result (λ answer. IsAnswerTo N.opening seat.old (seen_message message.now) (map seen_message answer.items) seat.new) }
     ensures whole { IfOk result (λ answer. IsAnswer (map seen_message answer.items)) }
     ensures sees { SeesOn N.opening seat.old seat.new }
 {
     match message {
-        Message::Join => answer_request(alloc, rt, seat, &Request::Join),
+        Message::Join => answer_request(alloc, rt, seat, &Request::Join, checkpoint_at),
         Message::Edit {
             client,
             seq,
@@ -46,7 +50,7 @@ pub fn answer<K: Keeper + Drop, N: RoomName, R: Wait + Drop, W: Wait>(
                 seq,
                 change,
             };
-            answer_request(alloc, rt, seat, &edit)
+            answer_request(alloc, rt, seat, &edit, checkpoint_at)
         }
         Message::Ask { client, version } => answer_ask(alloc, seat, *client, *version),
         _ => alone(alloc, Message::No(NoReason::NotRead)),

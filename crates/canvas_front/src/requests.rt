@@ -16,23 +16,21 @@ use canvas_server::Request;
 use std::alloc::{AllocError, Global};
 use std::sync::Wait;
 
-// How many entries stand after the floor when a checkpoint is made.
-const ENTRIES_FOR_A_CHECKPOINT: u64 = 256;
-
 /// The answer to a request: a Welcome where it was a Join, Idle where it was an edit that is judged, now or before, and otherwise a No
 /// with the number of the `SubmitError`. It may wait for the room's lock. Fails only where memory is refused, and then nothing was
-/// asked of the room.
+/// asked of the room. Behind an answer a checkpoint is made where so many entries stand after the last one.
 pub fn answer_request<K: Keeper + Drop, N: RoomName, R: Wait + Drop, W: Wait>(
     alloc: Global,
     rt: &W,
     seat: &mut Seat<N, Lock<K, N, R>>,
     request: &Request,
+    checkpoint_at: u64,
 ) -> Result<Vec<Message>, AllocError>
     ensures answers { IfOk result (λ answer. AnswersRequest N.opening (seen_request request.now) seat.old (map seen_message answer.items) seat.new) }
     ensures sees { SeesOn N.opening seat.old seat.new }
 {
     let mut answer = Vec::with_capacity(alloc, 1)?;
-    let message = submit(rt, seat, request);
+    let message = submit(rt, seat, request, checkpoint_at);
     answer.push_reserved(message);
     Ok(answer)
 }
@@ -42,6 +40,7 @@ fn submit<K: Keeper + Drop, N: RoomName, R: Wait + Drop, W: Wait>(
     rt: &W,
     seat: &mut Seat<N, Lock<K, N, R>>,
     request: &Request,
+    checkpoint_at: u64,
 ) -> Message
     ensures says { SaysOf N.opening (seen_request request.now) seat.old (seen_message result) seat.new }
     ensures sees { SeesOn N.opening seat.old seat.new }
@@ -49,7 +48,7 @@ fn submit<K: Keeper + Drop, N: RoomName, R: Wait + Drop, W: Wait>(
     match seat.submit(rt, request) {
         Ok(receipt) => {
             let message = judged(receipt.entry());
-            take_in(rt, seat, receipt);
+            take_in(rt, seat, receipt, checkpoint_at);
             message
         }
         Err(error) => refused(error),
@@ -61,12 +60,13 @@ fn take_in<K: Keeper + Drop, N: RoomName, R: Wait + Drop, W: Wait>(
     rt: &W,
     seat: &mut Seat<N, Lock<K, N, R>>,
     receipt: Receipt<N>,
+    checkpoint_at: u64,
 )
     ensures learned { IsPrefix receipt.history seat.new }
     ensures sees { Sees N.opening seat.old seat.new }
 {
     seat.learn(receipt);
-    let _ = seat.tidy(rt, ENTRIES_FOR_A_CHECKPOINT);
+    let _ = seat.tidy(rt, checkpoint_at);
 }
 
 // What is answered where this entry was judged: the id to a Join, and Idle to an edit.

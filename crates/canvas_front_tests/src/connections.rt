@@ -3,7 +3,7 @@ ghost use Rattle.std.specs.Prelude.{◌≡◌};
 
 use canvas_benches::{Bench, RoomTest, SeatOf, room_in_memory, told_in_memory};
 use canvas_board::RoomName;
-use canvas_front::{SeatAnswerer, answer};
+use canvas_front::{CHECKPOINT_AT, SeatAnswerer, answer};
 use canvas_journal::Keeper;
 use canvas_judge::Message;
 use canvas_nodes::{Answerer, serve_one};
@@ -96,7 +96,7 @@ fn answered<K: Keeper + Drop, N: RoomName, Q: Wait + Drop, W: Wait>(
     line: &str,
 ) -> Result<Vec<Message>, Fail> {
     let message = decode(alloc, alloc, line.as_bytes())?;
-    Ok(answer(alloc, rt, seat, &message)?)
+    Ok(answer(alloc, rt, seat, &message, CHECKPOINT_AT)?)
 }
 
 // The same, noted.

@@ -22,6 +22,11 @@ pub trait Answerer {
     fn answer(&mut self, message: &Message) -> Result<Vec<Message>, AllocError>
         ensures gives { IfOk result (λ answer. gives self.old (seen_message message.now) (map seen_message answer.items) self.new) }
         ensures whole { IfOk result (λ answer. IsAnswer (map seen_message answer.items)) };
+
+    /// Called once what was answered has left. It is for what an answerer keeps that contracts don't see; as a rule it does nothing.
+    fn sent(&mut self)
+        ensures { self.new ≡ self.old }
+    {}
 }
 
 /// What is answered to the bytes of a message: what the answerer gives; a No for NotRead, where they are a text of no message that a

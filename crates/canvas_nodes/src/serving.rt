@@ -19,6 +19,8 @@ use tungstenite::{Error, Message as Frame, NoMask, WebSocket};
 /// refused while a message is decoded or answered, the answer is a No for Memory. After a No it goes on. Each message of an answer is
 /// one binary message, and a small answer leaves in one write. Pings and pongs are passed over.
 ///
+/// Once the answer to a binary message has left, the answerer is told.
+///
 /// It ends with a closing frame, or the 4294967296th message, which isn't read. Otherwise it tells what ended it: a fault of the
 /// socket, or that memory was refused, for a No too.
 pub fn serve_one<A: Answerer, S: Read + Write + Drop>(
@@ -60,6 +62,7 @@ fn handle<A: Answerer, S: Read + Write + Drop>(
     match frame {
         Frame::Binary(bytes) => {
             answer_bytes(alloc, answerer, socket, bytes.as_slice())?;
+            answerer.sent();
             Ok(true)
         }
         Frame::Text(_) => {

@@ -2,7 +2,7 @@
 ghost use Rattle.std.specs.Prelude.{◌≡◌};
 
 use canvas_board::{Opening, RoomName};
-use canvas_front::{SeatAnswerer, answer};
+use canvas_front::{CHECKPOINT_AT, SeatAnswerer, answer};
 use canvas_journal::{Journal, open};
 use canvas_judge::Message;
 use canvas_nodes::{asked, serve_one};
@@ -72,7 +72,7 @@ fn tell<N: RoomName, R: Wait + Drop, W: Wait>(
     message: &Message,
     texts: &mut Vec<u8>,
 ) -> Result<(), AllocError> {
-    let messages = answer(alloc, rt, seat, message)?;
+    let messages = answer(alloc, rt, seat, message, CHECKPOINT_AT)?;
     add_all(alloc, &messages, texts)
 }
 

@@ -10,7 +10,7 @@ use crate::Gate;
 use canvas_board::{Receipt, RoomName};
 use canvas_client::{Client, EditError, EditRequest};
 use canvas_desk::{Refusal, SubmitError};
-use canvas_front::answer;
+use canvas_front::{CHECKPOINT_AT, answer};
 use canvas_journal::{KeepError, Keeper};
 use canvas_judge::{Entry, Message, Outcome};
 use canvas_room::{Lock, Seat};
@@ -137,7 +137,7 @@ impl<K: Keeper + Drop, N: RoomName, Q: Wait + Drop> Node<N, Lock<K, N, Q>> {
         let Some(ask) = self.client.ask_message() else {
             return Ok(());
         };
-        let messages = answer(alloc, rt, &mut self.seat, &ask)?;
+        let messages = answer(alloc, rt, &mut self.seat, &ask, CHECKPOINT_AT)?;
         give_all(&mut self.client, &messages)
     }
 }
