@@ -21,8 +21,8 @@ pub const CHECKPOINT_AT: u64 = 256;
 /// the client has, and to any other message a No for NotRead. The last message is a Welcome, an Idle or a No, and no other.
 ///
 /// A Join and an edit are submitted, which may wait for the room's lock. What was judged the seat has seen afterwards; then it makes a
-/// checkpoint where so many entries stand after the last one as `checkpoint_at` says, and whether that failed isn't told. An Ask waits for nobody; it is answered
-/// by at most 64 entries, or by a copy where a checkpoint has passed some entry after the client's version.
+/// checkpoint where so many entries stand after the last one as `checkpoint_at` says, and whether that failed isn't told. An Ask waits
+/// for nobody; it is answered by at most 64 entries, or by a copy where a checkpoint has passed some entry after the client's version.
 ///
 /// Fails only where memory is refused for the answer, and then nothing was submitted.
 pub fn answer<K: Keeper + Drop, N: RoomName, R: Wait + Drop, W: Wait>(
