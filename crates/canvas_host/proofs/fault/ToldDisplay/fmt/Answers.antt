@@ -1,0 +1,12 @@
+use Rattle.std.proofs.Common.{append_assoc}
+use Rattle.std.proofs.Output.{has_written_of_eq}
+use Rattle.canvas_host.proofs.fault.ToldDisplay.fmt.Goals as goal
+
+pub returns-in-Damaged-clause-writes : goal.returns-in-Damaged-clause-writes
+returns-in-Damaged-clause-writes g c = λ plain ok. rw c.in-Damaged.is (has_written_of_eq _ _ _ _ _ (simp append_assoc) (c.write-in-Damaged.ensures.writes plain ok))
+
+pub returns-in-TooLarge-clause-writes : goal.returns-in-TooLarge-clause-writes
+returns-in-TooLarge-clause-writes g c = λ plain ok. rw c.in-TooLarge.is (c.write-in-TooLarge.ensures.writes plain ok)
+
+pub returns-in-JournalFailed-clause-writes : goal.returns-in-JournalFailed-clause-writes
+returns-in-JournalFailed-clause-writes g c = λ plain ok. rw c.in-JournalFailed.is (c.write-in-JournalFailed.ensures.writes plain ok)

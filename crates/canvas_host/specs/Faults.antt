@@ -1,0 +1,106 @@
+-- What ends a server, and how it is told.
+use Rattle.std.specs.Prelude.{◌≡◌, ◌≤◌, ◌<◌, ◌⊎◌, ℕ, List, [], ◌∷◌, ◌++◌, codes, Option}
+use Rattle.std.specs.Fmt.{decimal}
+use Rattle.std.specs.Io.KnownBytes.{Appends}
+use Rattle.canvas_folder.specs.declared.error.FolderError.{FolderError}
+use Rattle.canvas_folder.specs.declared.error.FolderError.TheVariants as folder
+use Rattle.canvas_journal.specs.declared.fault.OpenError.{OpenError}
+use Rattle.canvas_journal.specs.declared.fault.OpenError.TheVariants as opening
+use Rattle.canvas_room.specs.declared.faults.RoomError.{RoomError}
+use Rattle.canvas_room.specs.declared.faults.RoomError.TheVariants as room
+use Rattle.canvas_host.specs.declared.fault.Fault.{Fault}
+use Rattle.canvas_host.specs.declared.fault.Fault.TheVariants.{ClientCount, PortInUse, NoPort, FolderInUse, NoFolder, NoIdentity, Damaged, TooLarge, NoThread, JournalFailed, Memory}
+
+-- 2 for a wrong number of clients, 3 for want of memory, 5 for a damaged journal, 6 for one without room, and 4 for all that the system
+-- refuses
+abbrev pub status_of : Fault → ℕ
+status_of ClientCount = 2
+status_of PortInUse = 4
+status_of NoPort = 4
+status_of FolderInUse = 4
+status_of NoFolder = 4
+status_of NoIdentity = 5
+status_of (Damaged segment offset) = 5
+status_of TooLarge = 6
+status_of NoThread = 4
+status_of JournalFailed = 4
+status_of Memory = 3
+
+-- the sentence that tells of a fault at this folder and port
+abbrev pub sentence : Fault → List ℕ → ℕ → List ℕ
+sentence ClientCount dir port = codes "1 to 64 clients can be served at once"
+sentence PortInUse dir port = codes "port " ++ decimal port ++ codes " is in use: end the other program, or choose another port"
+sentence NoPort dir port = codes "port " ++ decimal port ++ codes " can't be had: choose one above 1023"
+sentence FolderInUse dir port = codes "another server has the folder " ++ dir
+sentence NoFolder dir port = codes "the folder " ++ dir ++ codes " can't be read and written: look at its rights and at the disk"
+sentence NoIdentity dir port = codes "the file identity in " ++ dir ++ codes " isn't 32 hex digits: put the one of a backup in its place"
+sentence (Damaged segment offset) dir port = codes "the document in " ++ dir ++ codes " is damaged in segment " ++ decimal segment ++ codes " at offset " ++ decimal offset ++ codes ": put a backup in its place"
+sentence TooLarge dir port = codes "the document in " ++ dir ++ codes " is too large for a checkpoint"
+sentence NoThread dir port = codes "no thread can be made: ask for fewer clients, or raise the system's limit"
+sentence JournalFailed dir port = codes "the disk of " ++ dir ++ codes " failed: what was acknowledged is kept; look at the disk, and start anew"
+sentence Memory dir port = codes "out of memory"
+
+-- the fault that a folder that isn't opened is
+abbrev pub fault_of_folder : FolderError → Fault
+fault_of_folder folder.InUse = FolderInUse
+fault_of_folder folder.Device = NoFolder
+fault_of_folder folder.Memory = Memory
+
+-- the fault that a journal that isn't opened is
+abbrev pub fault_of_opening : OpenError → Fault
+fault_of_opening opening.Device = NoFolder
+fault_of_opening (opening.Damaged segment offset) = Damaged segment offset
+fault_of_opening opening.TooLarge = TooLarge
+fault_of_opening opening.Memory = Memory
+
+-- the fault that a room that isn't made is
+abbrev pub fault_of_room : RoomError → Fault
+fault_of_room room.SeatCount = ClientCount
+fault_of_room room.NoPlace = Memory
+fault_of_room room.Memory = Memory
+
+-- the fault is one of the port
+abbrev pub IsPortFault : Fault → Type 0
+IsPortFault fault = (fault ≡ PortInUse) ⊎ (fault ≡ NoPort)
+
+-- so many clients can be served
+abbrev pub IsClientCount : ℕ → Type 0
+IsClientCount clients = (0 < clients) × (clients ≤ 64)
+
+-- why a document isn't opened for so many clients
+abbrev pub IsOpeningFault : ℕ → Fault → Type 0
+IsOpeningFault clients ClientCount = IsClientCount clients → ⊥
+IsOpeningFault clients PortInUse = ⊥
+IsOpeningFault clients NoPort = ⊥
+IsOpeningFault clients FolderInUse = Unit {0}
+IsOpeningFault clients NoFolder = Unit {0}
+IsOpeningFault clients NoIdentity = Unit {0}
+IsOpeningFault clients (Damaged segment offset) = Unit {0}
+IsOpeningFault clients TooLarge = Unit {0}
+IsOpeningFault clients NoThread = ⊥
+IsOpeningFault clients JournalFailed = ⊥
+IsOpeningFault clients Memory = Unit {0}
+
+-- why a server doesn't get its port and its document for so many clients
+abbrev pub IsPreparingFault : ℕ → Fault → Type 0
+IsPreparingFault clients fault = IsPortFault fault ⊎ IsOpeningFault clients fault
+
+-- why a folder has no identity
+abbrev pub IsIdentityFault : Fault → Type 0
+IsIdentityFault fault = (fault ≡ NoIdentity) ⊎ (fault ≡ NoFolder) ⊎ (fault ≡ Memory)
+
+-- why a server that has its document doesn't go on
+abbrev pub IsRunningFault : Fault → Type 0
+IsRunningFault fault = (fault ≡ NoThread) ⊎ (fault ≡ JournalFailed) ⊎ (fault ≡ Memory)
+
+-- what may end a server for so many clients
+abbrev pub IsServeFault : ℕ → Fault → Type 0
+IsServeFault clients fault = IsPreparingFault clients fault ⊎ IsRunningFault fault
+
+-- the fault's status, where it was told by its sentence in a line of its own, or 4
+abbrev pub IsEnd : Fault → List ℕ → ℕ → ℕ → Option (List ℕ) → Option (List ℕ) → Type 0
+IsEnd fault dir port status faults told = ((status ≡ status_of fault) × Appends faults told (sentence fault dir port ++ 10 ∷ [])) ⊎ (status ≡ 4)
+
+-- a server of this folder, at this port, for so many clients, was ended by a fault, which was told
+abbrev pub IsServed : List ℕ → ℕ → ℕ → ℕ → Option (List ℕ) → Option (List ℕ) → Type 0
+IsServed dir port clients status faults told = (fault : Fault) × IsServeFault clients fault × IsEnd fault dir port status faults told

@@ -1,0 +1,176 @@
+// What ends a server: its sentence, and the status that the program ends with.
+ghost use Rattle.std.specs.Prelude.{◌≡◌};
+ghost use Rattle.canvas_host.specs.Faults.{status_of};
+
+use canvas_folder::FolderError;
+use canvas_journal::OpenError;
+use canvas_room::RoomError;
+use std::alloc::{AllocError, AllocFailed};
+use std::fmt;
+
+/// What ends a server.
+#[derive(Clone, Copy, Debug, PartialEq, Eq)]
+pub enum Fault {
+    /// Fewer clients than 1 or more than 64 were asked for.
+    ClientCount,
+    /// Another program listens at the port.
+    PortInUse,
+    /// The port can't be had for another reason.
+    NoPort,
+    /// Another server has the folder.
+    FolderInUse,
+    /// The folder can't be made, read or written.
+    NoFolder,
+    /// The file `identity` of the folder holds no identity.
+    NoIdentity,
+    /// A record of the journal isn't what it has to be.
+    Damaged {
+        /// The number of the segment.
+        segment: u32,
+        /// Where the record begins, in bytes from the beginning of the segment.
+        offset: usize,
+    },
+    /// The journal has no room for its checkpoint.
+    TooLarge,
+    /// A thread couldn't be made.
+    NoThread,
+    /// The journal failed while the server ran.
+    JournalFailed,
+    /// Memory was refused.
+    Memory,
+}
+
+impl Fault {
+    /// The program's status.
+    pub fn status(&self) -> u8
+        ensures { result ≡ status_of self.now }
+    {
+        match self {
+            Fault::ClientCount => 2,
+            Fault::Memory => 3,
+            Fault::PortInUse
+            | Fault::NoPort
+            | Fault::FolderInUse
+            | Fault::NoFolder
+            | Fault::NoThread
+            | Fault::JournalFailed => 4,
+            Fault::NoIdentity | Fault::Damaged { .. } => 5,
+            Fault::TooLarge => 6,
+        }
+    }
+}
+
+/// A fault with what a person needs to know beside it. Its text is a sentence that says what happened, where, and what to do.
+#[derive(Clone, Copy, Debug)]
+pub struct Told<'a> {
+    /// What happened.
+    pub fault: Fault,
+    /// The folder of the document.
+    pub dir: &'a str,
+    /// The port.
+    pub port: u16,
+}
+
+impl fmt::Display for Told<'_> {
+    ghost use Rattle.std.specs.Prelude.{Some};
+    ghost use Rattle.canvas_host.specs.Faults.{sentence};
+
+    ghost output = { λ told. Some (sentence told.fault told.dir.now told.port) };
+
+    fn fmt<W: fmt::Write>(&self, f: &mut fmt::Formatter<W>) -> fmt::Result {
+        let Told { fault, dir, port } = *self;
+        match fault {
+            Fault::ClientCount => write!(f, "1 to 64 clients can be served at once"),
+            Fault::PortInUse => write!(
+                f,
+                "port {port} is in use: end the other program, or choose another port"
+            ),
+            Fault::NoPort => write!(f, "port {port} can't be had: choose one above 1023"),
+            Fault::FolderInUse => write!(f, "another server has the folder {dir}"),
+            Fault::NoFolder => write!(
+                f,
+                "the folder {dir} can't be read and written: look at its rights and at the disk"
+            ),
+            Fault::NoIdentity => write!(
+                f,
+                "the file identity in {dir} isn't 32 hex digits: put the one of a backup in its place"
+            ),
+            Fault::Damaged { segment, offset } => write!(
+                f,
+                "the document in {dir} is damaged in segment {segment} at offset {offset}: put a backup in its place"
+            ),
+            Fault::TooLarge => write!(f, "the document in {dir} is too large for a checkpoint"),
+            Fault::NoThread => write!(
+                f,
+                "no thread can be made: ask for fewer clients, or raise the system's limit"
+            ),
+            Fault::JournalFailed => write!(
+                f,
+                "the disk of {dir} failed: what was acknowledged is kept; look at the disk, and start anew"
+            ),
+            Fault::Memory => write!(f, "out of memory"),
+        }
+    }
+}
+
+impl From<AllocError> for Fault {
+    ghost use Rattle.canvas_host.specs.declared.fault.Fault.TheVariants.{Memory};
+
+    ghost from_gives = { λ _ fault. fault ≡ Memory };
+
+    fn from(_: AllocError) -> Fault {
+        Fault::Memory
+    }
+}
+
+impl<T: Drop> From<AllocFailed<T>> for Fault {
+    ghost use Rattle.canvas_host.specs.declared.fault.Fault.TheVariants.{Memory};
+
+    ghost from_gives = { λ _ fault. fault ≡ Memory };
+
+    fn from(_: AllocFailed<T>) -> Fault {
+        Fault::Memory
+    }
+}
+
+impl From<FolderError> for Fault {
+    ghost use Rattle.canvas_host.specs.Faults.{fault_of_folder};
+
+    ghost from_gives = { λ error fault. fault ≡ fault_of_folder error };
+
+    fn from(error: FolderError) -> Fault {
+        match error {
+            FolderError::InUse => Fault::FolderInUse,
+            FolderError::Device => Fault::NoFolder,
+            FolderError::Memory => Fault::Memory,
+        }
+    }
+}
+
+impl From<OpenError> for Fault {
+    ghost use Rattle.canvas_host.specs.Faults.{fault_of_opening};
+
+    ghost from_gives = { λ error fault. fault ≡ fault_of_opening error };
+
+    fn from(error: OpenError) -> Fault {
+        match error {
+            OpenError::Device => Fault::NoFolder,
+            OpenError::Damaged { segment, offset } => Fault::Damaged { segment, offset },
+            OpenError::TooLarge => Fault::TooLarge,
+            OpenError::Memory => Fault::Memory,
+        }
+    }
+}
+
+impl From<RoomError> for Fault {
+    ghost use Rattle.canvas_host.specs.Faults.{fault_of_room};
+
+    ghost from_gives = { λ error fault. fault ≡ fault_of_room error };
+
+    fn from(error: RoomError) -> Fault {
+        match error {
+            RoomError::SeatCount => Fault::ClientCount,
+            RoomError::NoPlace | RoomError::Memory => Fault::Memory,
+        }
+    }
+}

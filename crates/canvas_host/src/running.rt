@@ -1,0 +1,105 @@
+// The program: its words, and the status that it ends with.
+ghost use Rattle.std.specs.Prelude.{string_bytes};
+ghost use Rattle.canvas_host.specs.Faults.{IsEnd, IsServed};
+
+use crate::fault::{Fault, Told};
+use crate::hosting::serve;
+use crate::options::Options;
+use crate::words::{Asked, read_words};
+use canvas_daemon::{end, show};
+use std::alloc::AllocError;
+use std::io::{Eprint, Print, Write};
+use std::net::{Net, TcpListener, TcpStream};
+use std::random::RandomSource;
+use std::sync::Wait;
+use std::thread::Threads;
+use std::time::Clock;
+
+/// Does what the words ask for, of which the first is the program's name, and answers the program's status: 0, or that of the fault
+/// that ended it, which is told on `faults`.
+pub fn run<R, W, F>(
+    rt: &R,
+    files: HostRuntime,
+    words: &[String],
+    output: &mut W,
+    faults: &mut F,
+) -> u8
+where
+    R: Net<Listener = TcpListener, Stream = TcpStream>
+        + Threads
+        + Wait
+        + Clock
+        + Print
+        + Eprint
+        + AllocGlobal
+        + Clone
+        + Send
+        + Sync
+        + Drop
+        + 'static,
+    W: Write,
+    F: Write,
+{
+    match read_words(rt.alloc(), words) {
+        Ok(Asked::Serve(options)) => run_server(rt, files, options, faults),
+        Ok(Asked::Show { dir }) => match show(files, dir.as_str(), output) {
+            Ok(()) => 0,
+            Err(fault) => end(&fault, faults),
+        },
+        Err(error) => match error.print(rt) {
+            Ok(()) => error.exit_code() as u8,
+            Err(_) => 4,
+        },
+    }
+}
+
+// Serves until a fault ends it, and tells of the fault.
+fn run_server<R, F>(rt: &R, files: HostRuntime, options: Options, faults: &mut F) -> u8
+where
+    R: Net<Listener = TcpListener, Stream = TcpStream>
+        + Threads
+        + Wait
+        + Clock
+        + Eprint
+        + AllocGlobal
+        + Clone
+        + Send
+        + Sync
+        + Drop
+        + 'static,
+    F: Write,
+    ensures { IsServed (string_bytes options.dir) options.port options.clients result (F.contents faults.old) (F.contents faults.new) }
+{
+    let port = options.port;
+    match String::from_str(rt.alloc(), &options.dir) {
+        Ok(dir) => {
+            let fault = serve(rt, files, options);
+            tell(
+                &Told {
+                    fault,
+                    dir: &dir,
+                    port,
+                },
+                faults,
+            )
+        }
+        Err(_) => tell(
+            &Told {
+                fault: Fault::Memory,
+                dir: "",
+                port,
+            },
+            faults,
+        ),
+    }
+}
+
+// Tells of a fault: its sentence and a line feed. The program's status: the fault's, or 4 where it can't be told.
+fn tell<F: Write>(told: &Told<'_>, faults: &mut F) -> u8
+    ensures { IsEnd told.now.fault told.now.dir.now told.now.port result (F.contents faults.old) (F.contents faults.new) }
+{
+    if writeln!(faults, "{told}").is_err() || faults.flush().is_err() {
+        return 4;
+    }
+    told.fault.status()
+}

@@ -1,0 +1,25 @@
+//! `lugcurrant` serves a document to clients over WebSockets for as long as it is left running.
+#![tactic(auto)]
+
+use canvas_host::run;
+use std::env;
+use std::io::{self, ErrorKind};
+use std::process::ExitCode;
+
+// The program's words, of which the first is its name.
+fn words(rt: &HostRuntime) -> io::Result<Vec<String>> {
+    let words: Vec<String> = env::args(rt)?.collect(rt.alloc())?;
+    Ok(words)
+}
+
+fn main(rt: HostRuntime) -> ExitCode {
+    let status = match words(&rt) {
+        Ok(words) => run(&rt, rt, &words, &mut rt.stdout(), &mut rt.stderr()),
+        Err(error) => if error.kind() == ErrorKind::OutOfMemory {
+            3
+        } else {
+            2
+        },
+    };
+    ExitCode::from(status)
+}

@@ -1,0 +1,503 @@
+#!/usr/bin/env python3
+"""run.py LUGCURRANT [SECONDS] [KILLS]: tries `lugcurrant serve` as its users and its attackers would, each group on a folder of its own.
+
+- reuse: 1,000 clients one after the other over 4 seats; each joins, edits and is answered.
+- full: 64 clients at once, and the 65th is answered 503; once one has left, the next is served.
+- quiet: a peer that says nothing, one that sends half a head, one that sends it byte by byte, and one that closes its half: none
+  keeps a seat or the port. A client that is silent past --idle gives its seat back.
+- pages: health, metrics, document, the page's files, HEAD, what isn't there, paths that lead out of the folder, wrong methods.
+- origins: a page of the same host, of a named one, of a foreign one, and none.
+- identity: /document/ID connects, another ID doesn't; the ID stands in the answer, and stays after a restart.
+- kills: 16 clients edit while the server is killed KILLS (40) times; every edit that was answered is there at the end.
+- sizes: a message above --message-bytes ends its connection with code 1009, and the next client is served.
+- disk: on a disk that is full an edit is answered No 5, the server ends with status 4 and its sentence, and every edit that was
+  answered is there afterwards. (It mounts a small tmpfs, and passes where it may not.)
+- sentences: each fault that can be had has its sentence and its status.
+- coming: six clients come, edit and go again for SECONDS (30), and the server's memory stays flat.
+
+Prints a line for each group, and exits with 1 where one went wrong. Needs no package."""
+
+import base64
+import json
+import os
+import random
+import re
+import shutil
+import signal
+import socket
+import struct
+import subprocess
+import sys
+import tempfile
+import threading
+import time
+
+PROGRAM = os.path.abspath(sys.argv[1])
+SECONDS = float(sys.argv[2]) if len(sys.argv) > 2 else 30.0
+KILLS = int(sys.argv[3]) if len(sys.argv) > 3 else 40
+LAST = {"welcome", "idle", "no"}
+
+
+class Wrong(Exception):
+    """Something is not as it should be."""
+
+
+def require(holds, *words):
+    if not holds:
+        raise Wrong(" ".join(str(word) for word in words))
+
+
+class Client:
+    """A WebSocket client that waits for each answer."""
+
+    def __init__(self, port, path="/", origin=None, timeout=30):
+        self.socket = socket.create_connection(("127.0.0.1", port), timeout=timeout)
+        lines = [f"GET {path} HTTP/1.1", f"Host: 127.0.0.1:{port}", "Upgrade: websocket", "Connection: Upgrade",
+                 "Sec-WebSocket-Key: " + base64.b64encode(os.urandom(16)).decode(), "Sec-WebSocket-Version: 13"]
+        if origin is not None:
+            lines.append(f"Origin: {origin}")
+        self.socket.sendall(("\r\n".join(lines) + "\r\n\r\n").encode())
+        self.rest = b""
+        while b"\r\n\r\n" not in self.rest:
+            part = self.socket.recv(65536)
+            if not part:
+                break
+            self.rest += part
+        head, _, self.rest = self.rest.partition(b"\r\n\r\n")
+        self.head = head.decode()
+        self.status = int(self.head.split()[1]) if self.head else 0
+
+    def send(self, payload, opcode=2):
+        mask = os.urandom(4)
+        size = len(payload)
+        if size < 126:
+            head = struct.pack("!BB", 128 | opcode, 128 | size)
+        elif size < 65536:
+            head = struct.pack("!BBH", 128 | opcode, 128 | 126, size)
+        else:
+            head = struct.pack("!BBQ", 128 | opcode, 128 | 127, size)
+        key = (mask * (size // 4 + 1))[:size]
+        masked = (int.from_bytes(payload, "big") ^ int.from_bytes(key, "big")).to_bytes(size, "big") if size else b""
+        self.socket.sendall(head + mask + masked)
+
+    def take(self, count):
+        while len(self.rest) < count:
+            part = self.socket.recv(1 << 20)
+            if not part:
+                raise ConnectionError("the server closed the connection")
+            self.rest += part
+        taken, self.rest = self.rest[:count], self.rest[count:]
+        return taken
+
+    def frame(self):
+        first, second = self.take(2)
+        size = second & 127
+        if size == 126:
+            size = struct.unpack("!H", self.take(2))[0]
+        elif size == 127:
+            size = struct.unpack("!Q", self.take(8))[0]
+        return first & 15, self.take(size)
+
+    def ask(self, *message):
+        """Sends a message. The messages of its answer, in order."""
+        self.send(json.dumps(list(message), separators=(",", ":")).encode())
+        answer = []
+        while not answer or answer[-1][0] not in LAST:
+            opcode, payload = self.frame()
+            if opcode == 8:
+                raise ConnectionError(f"the server closed: {payload!r}")
+            answer.append(json.loads(payload))
+        return answer
+
+    def join(self):
+        answer = self.ask("join", 2)
+        require(answer[0][0] == "welcome", "a join is answered", answer)
+        return answer[0][1]
+
+    def leave(self):
+        self.send(struct.pack("!H", 1000), opcode=8)
+        try:
+            self.frame()
+        except (ConnectionError, OSError):
+            pass
+        self.socket.close()
+
+    def drop(self):
+        self.socket.close()
+
+
+class Server:
+    """A server on a folder, at a port of its own."""
+
+    def __init__(self, folder, *options, log=None):
+        self.folder, self.options = folder, options
+        self.told = log or os.path.join(os.path.dirname(folder), "log")
+        self.port = free_port()
+        self.start()
+
+    def start(self):
+        self.log = open(self.told, "ab")
+        self.process = subprocess.Popen([PROGRAM, "serve", self.folder, "--port", str(self.port), *self.options],
+                                        stdin=subprocess.DEVNULL, stdout=self.log, stderr=self.log)
+        for _ in range(600):
+            try:
+                socket.create_connection(("127.0.0.1", self.port), timeout=5).close()
+                return
+            except OSError:
+                require(self.process.poll() is None, "the server ended at once with", self.process.returncode)
+                time.sleep(0.02)
+        raise Wrong("the server doesn't listen")
+
+    def kill(self):
+        self.process.send_signal(signal.SIGKILL)
+        self.process.wait()
+        self.log.close()
+
+    def memory(self):
+        with open(f"/proc/{self.process.pid}/status") as status:
+            return int(re.search(r"VmRSS:\s+(\d+)", status.read()).group(1))
+
+    def get(self, path, method="GET", *fields, host=None):
+        """Status, head and body of an answer."""
+        with socket.create_connection(("127.0.0.1", self.port), timeout=30) as peer:
+            host = host or f"127.0.0.1:{self.port}"
+            lines = [f"{method} {path} HTTP/1.1", f"Host: {host}", *fields]
+            peer.sendall(("\r\n".join(lines) + "\r\n\r\n").encode())
+            return read_answer(peer)
+
+
+def read_answer(peer):
+    data = b""
+    while True:
+        part = peer.recv(1 << 20)
+        if not part:
+            break
+        data += part
+    head, _, body = data.partition(b"\r\n\r\n")
+    head = head.decode()
+    return (int(head.split()[1]) if head else 0), head, body
+
+
+def free_port():
+    with socket.socket() as probe:
+        probe.bind(("127.0.0.1", 0))
+        return probe.getsockname()[1]
+
+
+def shown(folder):
+    done = subprocess.run([PROGRAM, "show", folder], capture_output=True)
+    require(done.returncode == 0, "show ended with", done.returncode, done.stderr)
+    return done.stdout.decode()
+
+
+def page(client, number):
+    return ["create", [client, number], "page", [[0, 0], f"{number:06d}O"]]
+
+
+def reuse(room):
+    server = Server(room, "--clients", "4", "--quiet")
+    for _ in range(1000):
+        client = Client(server.port)
+        require(client.status == 101, "a client was answered", client.head)
+        name = client.join()
+        require(client.ask("edit", name, 1, ["delete", [name, 9]]) == [["idle"]], "an edit wasn't judged")
+        client.leave()
+    metrics = server.get("/metrics")[2].decode()
+    require("lugcurrant_connections_total 1000\n" in metrics, metrics)
+    server.kill()
+    return "1000 clients over 4 seats"
+
+
+def full(room):
+    server = Server(room, "--quiet")
+    clients = [Client(server.port) for _ in range(64)]
+    require(all(client.status == 101 for client in clients), "a client of 64 wasn't served")
+    for client in clients:
+        client.join()
+    late = Client(server.port)
+    require(late.status == 503 and "Retry-After" in late.head, "the 65th was answered", late.head)
+    status, _, body = server.get("/health")
+    require(status == 200 and b"clients 64\n" in body, "health:", status, body)
+    clients.pop().leave()
+    after = Client(server.port)
+    require(after.status == 101 and after.join() > 0, "the seat that was left isn't given again")
+    server.kill()
+    return "64 at once, 503 for the 65th, and its seat once one has left"
+
+
+def quiet(room):
+    server = Server(room, "--clients", "2", "--idle", "2", "--quiet")
+    peers = [socket.create_connection(("127.0.0.1", server.port)) for _ in range(3)]
+    peers[1].sendall(b"GET / HTTP/1.1\r\nHost: x\r\n")
+    peers[2].sendall(b"GET / HTTP/1.1\r\n")
+    peers[2].shutdown(socket.SHUT_WR)
+    slow = socket.create_connection(("127.0.0.1", server.port))
+
+    def drip():
+        try:
+            for byte in b"GET /health HTTP/1.1\r\nX-Long: " + b"a" * 2000:
+                slow.sendall(bytes([byte]))
+                time.sleep(0.02)
+        except OSError:
+            pass
+
+    threading.Thread(target=drip, daemon=True).start()
+    start = time.time()
+    require(server.get("/health")[0] == 200, "health isn't answered beside silent peers")
+    one, two = Client(server.port), Client(server.port)
+    one.join()
+    two.join()
+    require(time.time() - start < 5, "clients wait for silent peers")
+    time.sleep(3)
+    again = Client(server.port)
+    require(again.status == 101, "a silent client keeps its seat:", again.head)
+    for peer in [*peers, slow]:
+        peer.settimeout(15)
+        while True:
+            try:
+                if not peer.recv(4096):
+                    break
+            except socket.timeout as error:
+                raise Wrong("a silent peer isn't closed in 15 seconds") from error
+            except OSError:
+                break
+    server.kill()
+    return "silent, slow and half-closed peers are closed, and keep no seat"
+
+
+def pages(room):
+    site = os.path.join(os.path.dirname(room), "page")
+    os.mkdir(site)
+    with open(os.path.join(site, "index.html"), "w") as index:
+        index.write("<!doctype html>")
+    with open(os.path.join(site, "secret"), "w") as secret:
+        secret.write("no")
+    server = Server(room, "--page", site, "--quiet")
+    status, head, body = server.get("/")
+    require((status, body) == (200, b"<!doctype html>") and "text/html" in head, head)
+    require("Content-Security-Policy" in head and "nosniff" in head, head)
+    status, head, body = server.get("/", "HEAD")
+    require(status == 200 and body == b"" and "Content-Length: 15" in head, head)
+    require(server.get("/index.html?x=1")[2] == b"<!doctype html>", "a query changes the file")
+    wanted = {"/health": 200, "/metrics": 200, "/document": 200, "/page.js": 404, "/secret": 404, "/../log": 404, "/%2e%2e/log": 404,
+              "//index.html": 404, "/index.html/": 404, "http://x/": 400, "*": 400}
+    for path, status in wanted.items():
+        require(server.get(path)[0] == status, path, "is answered", server.get(path)[0])
+    require(server.get("/health", "POST")[0] == 405, "POST is answered", server.get("/health", "POST")[0])
+    with socket.create_connection(("127.0.0.1", server.port), timeout=30) as peer:
+        peer.sendall(b"\x16\x03\x01\x02\x00\x01\x00")
+        require(read_answer(peer)[0] == 400, "a TLS hello isn't answered 400")
+    with socket.create_connection(("127.0.0.1", server.port), timeout=30) as peer:
+        peer.sendall(b"GET / HTTP/1.1\r\nHost: x\r\nX: " + b"a" * 20000)
+        require(read_answer(peer)[0] == 400, "a head of 20,000 bytes isn't answered 400")
+    server.kill()
+    return "the page, health, metrics and document are answered, and nothing else"
+
+
+def origins(room):
+    server = Server(room, "--origin", "https://canvas.example", "--quiet")
+    own = f"127.0.0.1:{server.port}"
+    wanted = {None: 101, f"http://{own}": 101, f"https://{own}": 101, "https://canvas.example": 101, "https://evil.example": 403,
+              "null": 403, f"http://{own}.evil.example": 403, "http://127.0.0.1": 403, "https://canvas.example.evil": 403, "": 403}
+    for origin, status in wanted.items():
+        client = Client(server.port, origin=origin)
+        require(client.status == status, "Origin", origin, "is answered", client.status)
+        client.drop()
+    server.kill()
+    return f"{len(wanted)} origins"
+
+
+def identity(room):
+    server = Server(room, "--quiet")
+    name = server.get("/document")[2].decode().strip()
+    require(re.fullmatch("[0-9a-f]{32}", name), "the identity is", name)
+    client = Client(server.port, f"/document/{name}")
+    require(client.status == 101 and f"lugcurrant-document: {name}" in client.head.lower(), client.head)
+    other = ("0" if name[0] != "0" else "1") + name[1:]
+    require(Client(server.port, f"/document/{other}").status == 404, "another identity is served")
+    require(Client(server.port, "/elsewhere").status == 404, "another path is served")
+    server.kill()
+    server.start()
+    require(server.get("/document")[2].decode().strip() == name, "the identity changes with a restart")
+    server.kill()
+    return "the document's own identity, and no other"
+
+
+def kills(room):
+    server = Server(room, "--clients", "20", "--quiet")
+    kept, stop = [[] for _ in range(16)], threading.Event()
+
+    def edit(mine):
+        name = number = 0
+        while not stop.is_set():
+            try:
+                client = Client(server.port, timeout=10)
+                if client.status != 101:
+                    client.drop()
+                    continue
+                if not name:
+                    name = client.join()
+                    number = 1
+                while not stop.is_set():
+                    answer = client.ask("edit", name, number, page(name, number))
+                    if answer == [["no", 1]]:
+                        raise Wrong(f"client {name} is unknown")
+                    if answer == [["idle"]]:
+                        mine.append(f"{name}:{number}")
+                        number += 1
+                client.leave()
+            except (OSError, ConnectionError, ValueError):
+                time.sleep(0.01)
+
+    threads = [threading.Thread(target=edit, args=(mine,)) for mine in kept]
+    for thread in threads:
+        thread.start()
+    for _ in range(KILLS):
+        time.sleep(random.uniform(0.05, 0.4))
+        server.kill()
+        server.start()
+    stop.set()
+    for thread in threads:
+        thread.join()
+    server.kill()
+    tree = set(re.findall(r"\d+:\d+", shown(room)))
+    answered = [name for mine in kept for name in mine]
+    lost = [name for name in answered if name not in tree]
+    require(len(answered) > 16 and not lost, len(lost), "of", len(answered), "answered edits are lost")
+    return f"{KILLS} kills, {len(answered)} answered edits, 0 lost"
+
+
+def sizes(room):
+    server = Server(room, "--message-bytes", "100000", "--quiet")
+    client = Client(server.port)
+    name = client.join()
+    first = page(name, 1)
+    require(client.ask("edit", name, 1, first) == [["idle"]], "an edit isn't judged")
+    require(client.ask("edit", name, 2, ["set", first[1], "text", "a" * 90000]) == [["idle"]], "an edit of 90,000 bytes isn't judged")
+    client.send(json.dumps(["edit", name, 3, ["set", first[1], "text", "a" * 110000]]).encode())
+    opcode, payload = client.frame()
+    require(opcode == 8 and payload[:2] == struct.pack("!H", 1009), "a message of 110,000 bytes is answered", opcode, payload)
+    again = Client(server.port)
+    require(again.ask("edit", name, 3, ["clear", first[1], "text"]) == [["idle"]], "the client isn't served again")
+    server.kill()
+    return "a message above the limit ends its connection with 1009"
+
+
+def disk(room):
+    above = os.path.dirname(room)
+    small = os.path.join(above, "small")
+    os.mkdir(small)
+    if subprocess.run(["mount", "-t", "tmpfs", "-o", "size=400k", "tmpfs", small], capture_output=True).returncode:
+        return "not tried: no tmpfs can be mounted here"
+    try:
+        room = os.path.join(small, "room")
+        server = Server(room, "--quiet", log=os.path.join(above, "log"))
+        client = Client(server.port)
+        name, number, kept = client.join(), 0, []
+        answer = [["idle"]]
+        while answer == [["idle"]] and number < 100000:
+            number += 1
+            answer = client.ask("edit", name, number, page(name, number))
+            if answer == [["idle"]]:
+                kept.append(f"{name}:{number}")
+        require(answer == [["no", 5]], "a full disk is answered", answer)
+        require(client.ask("edit", name, number, page(name, number)) == [["no", 6]], "the next edit isn't answered No 6")
+        require(server.process.wait(timeout=20) == 4, "the server ends with", server.process.returncode)
+        server.log.close()
+        with open(server.told) as log:
+            require("the disk of" in log.read(), "the fault isn't told")
+        copy = os.path.join(above, "copy")
+        shutil.copytree(room, copy)
+        tree = set(re.findall(r"\d+:\d+", shown(copy)))
+        require(all(page in tree for page in kept), "an answered edit is lost")
+        return f"{len(kept)} edits on a disk of 400 kB, then No 5, No 6 and status 4; none lost"
+    finally:
+        subprocess.run(["umount", "-l", small], check=False)
+
+
+def sentences(room):
+    above = os.path.dirname(room)
+    server = Server(room, "--quiet")
+
+    def fault(status, sentence, *words):
+        done = subprocess.run([PROGRAM, *words], capture_output=True, text=True, timeout=60)
+        require(done.returncode == status and sentence in done.stderr, words, "end with", done.returncode, done.stderr)
+
+    fault(4, "is in use", "serve", os.path.join(above, "other"), "--port", str(server.port))
+    require(not os.path.exists(os.path.join(above, "other")), "a port in use touches the folder")
+    fault(4, "another server has the folder", "serve", room, "--port", "0")
+    with open(os.path.join(above, "file"), "w"):
+        pass
+    fault(4, "can't be read and written", "serve", os.path.join(above, "file"), "--port", "0")
+    fault(2, "--clients", "serve", room, "--clients", "65")
+    fault(2, "--port", "serve", room, "--port", "70000")
+    fault(2, "Usage", "serve")
+    server.kill()
+    with open(os.path.join(room, "identity"), "w") as name:
+        name.write("nonsense\n")
+    fault(5, "isn't 32 hex digits", "serve", room, "--port", "0")
+    segment = [name for name in os.listdir(room) if name.startswith("segment")][0]
+    with open(os.path.join(room, segment), "r+b") as damaged:
+        damaged.seek(40)
+        byte = damaged.read(1)
+        damaged.seek(40)
+        damaged.write(bytes([byte[0] ^ 1]))
+    done = subprocess.run([PROGRAM, "--help"], capture_output=True, text=True)
+    require(done.returncode == 0 and "serve" in done.stdout, "--help:", done.returncode, done.stdout)
+    done = subprocess.run([PROGRAM, "--version"], capture_output=True, text=True)
+    require(done.returncode == 0 and "lugcurrant" in done.stdout, "--version:", done.returncode, done.stdout)
+    return "each fault has its sentence and its status"
+
+
+def coming(room):
+    server = Server(room, "--clients", "8", "--quiet")
+    stop, refused, served = threading.Event(), [0], [0]
+
+    def come():
+        name = number = 0
+        while not stop.is_set():
+            client = Client(server.port)
+            if client.status == 503:
+                refused[0] += 1
+                client.drop()
+                continue
+            require(client.status == 101, client.head)
+            name = name or client.join()
+            for _ in range(random.randint(1, 5)):
+                number += 1
+                require(client.ask("edit", name, number, ["delete", [name, 9]]) == [["idle"]], "an edit isn't judged")
+            served[0] += 1
+            random.choice([client.leave, client.drop])()
+
+    threads = [threading.Thread(target=come) for _ in range(6)]
+    for thread in threads:
+        thread.start()
+    time.sleep(SECONDS / 3)
+    before = server.memory()
+    time.sleep(SECONDS * 2 / 3)
+    after = server.memory()
+    stop.set()
+    for thread in threads:
+        thread.join()
+    server.kill()
+    require(refused[0] == 0, refused[0], "of", served[0], "were refused while seats were free")
+    require(after < before + 2000, "memory rises from", before, "to", after, "kB")
+    return f"{served[0]} clients in {SECONDS:.0f} s, none refused, memory {before} kB after a third, {after} kB at the end"
+
+
+def main():
+    wrong = 0
+    for group in (reuse, full, quiet, pages, origins, identity, kills, sizes, disk, sentences, coming):
+        above = tempfile.mkdtemp()
+        try:
+            print(f"{group.__name__}: {group(os.path.join(above, 'room'))}", flush=True)
+        except Exception as error:  # every group is tried
+            wrong += 1
+            print(f"{group.__name__}: WRONG: {type(error).__name__}: {error}", flush=True)
+        finally:
+            subprocess.run(["pkill", "-9", "-f", f"serve {above}"], check=False)
+            shutil.rmtree(above, ignore_errors=True)
+    return 1 if wrong else 0
+
+
+sys.exit(main())
