@@ -1,2 +1,3 @@
 mod Counting
+mod Handing
 pub mod Count
