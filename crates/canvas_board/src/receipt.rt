@@ -66,7 +66,8 @@ impl<N: RoomName> Receipt<N> {
         ensures ends { EndsWith N.opening self.now.history self.now.entry self.now.version }
         ensures legal { IsLegal N.opening self.now.history }
     {
-        let _marks = self.front.len();
+        // What the type says of its history is known by this.
+        let _known = self.front.len();
         self.version - 1
     }
 
