@@ -3,7 +3,7 @@ use Rattle.std.proofs.Common.{◌≡◌, ◌∷◌, ◌++◌, List, [], Bool, tr
 use Rattle.std.specs.Prelude.{◌↔◌, IsTrue}
 use Rattle.std.proofs.lemmas.List.{map-append}
 use Rattle.canvas_model.specs.Messages.{Message}
-use Rattle.canvas_nodes.specs.Answers.{IsEnd, IsAnswer, IsBegun, Extends}
+use Rattle.canvas_nodes.specs.Answers.{IsEnd, IsAnswer, IsBegun, Extends, IsDecoded, AreDecoded}
 
 ends : (ms : List Message) (m : Message) → IsBegun ms → IsEnd m → IsAnswer (ms ++ m ∷ [])
 ends [] m begun end = end
@@ -21,3 +21,11 @@ one_more false ms m is = λ begun. goes_on ms m begun (λ end. let f : false ≡
 -- the same for messages as they are seen
 pub extends : {S : Type 0} (seen : S → Message) (old new : List S) (s : S) (last : Bool) → IsTrue last ↔ IsEnd (seen s) → new ≡ old ++ s ∷ [] → Extends last (map seen old) (map seen new)
 extends seen old new s last is now = subst (λ (ms : List Message). Extends last (map seen old) ms) (sym (ap (map seen) now ∙ map-append seen old (s ∷ []))) (one_more last (map seen old) (seen s) is)
+
+decodes_more : (ms : List Message) (m : Message) → AreDecoded ms → IsDecoded m → AreDecoded (ms ++ m ∷ [])
+decodes_more [] m are is = (is, tt)
+decodes_more (n ∷ ms) m are is = (are.0, decodes_more ms m are.1 is)
+
+-- one message more was decoded
+pub decodes : {S : Type 0} (seen : S → Message) (old new : List S) (s : S) → IsDecoded (seen s) → new ≡ old ++ s ∷ [] → AreDecoded (map seen old) → AreDecoded (map seen new)
+decodes seen old new s is now are = subst AreDecoded (sym (ap (map seen) now ∙ map-append seen old (s ∷ []))) (decodes_more (map seen old) (seen s) are is)

@@ -3,3 +3,5 @@ pub mod Unasked
 pub mod Texts
 pub mod Sending
 pub mod Begun
+pub mod Hearing
+pub mod Following

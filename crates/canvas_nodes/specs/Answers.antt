@@ -16,6 +16,15 @@ IsAsked (messages.Edit client seq change) = Unit {0}
 IsAsked (messages.Ask client version) = Unit {0}
 IsAsked _ = ⊥
 
+-- some bytes are a text of the message
+abbrev pub IsDecoded : Message → Type 0
+IsDecoded m = (bytes : List ℕ) × SpellsMessage bytes m
+
+-- each of these messages was decoded
+abbrev pub AreDecoded : List Message → Type 0
+AreDecoded [] = Unit {0}
+AreDecoded (m ∷ ms) = IsDecoded m × AreDecoded ms
+
 -- the bytes are a text of this message, and a client sends such messages
 abbrev pub SpellsAsked : List ℕ → Message → Type 0
 SpellsAsked bytes m = SpellsMessage bytes m × IsAsked m
@@ -53,6 +62,10 @@ IsBegun (m ∷ ms) = (IsEnd m → ⊥) × IsBegun ms
 abbrev pub Extends : Bool → List Message → List Message → Type 0
 Extends true old new = IsBegun old → IsAnswer new
 Extends false old new = IsBegun old → IsBegun new
+
+-- the messages were decoded, and are an answer
+abbrev pub IsDecodedAnswer : List Message → Type 0
+IsDecodedAnswer answer = IsAnswer answer × AreDecoded answer
 
 -- a No for this reason, alone
 abbrev pub refused : NoReason → List Message

@@ -1,3 +1,4 @@
 pub mod GoesOn
 pub mod Answers
 pub mod Served
+pub mod Hears

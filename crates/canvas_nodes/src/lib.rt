@@ -4,6 +4,7 @@
 
 mod answering;
 mod asking;
+mod laws;
 mod link;
 mod rounds;
 mod serving;
@@ -11,6 +12,7 @@ mod socket_link;
 
 pub use answering::{Answerer, reply};
 pub use asking::asked;
+pub use laws::every_hearing;
 pub use link::{Link, LinkError};
 pub use rounds::{exchange, join};
 pub use serving::serve_one;

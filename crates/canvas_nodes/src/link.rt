@@ -1,4 +1,6 @@
 // A link to a server.
+ghost use Rattle.std.specs.Prelude.{IfErr, IfOk, map};
+ghost use Rattle.canvas_judge.specs.Seen.{seen_message};
 
 use canvas_judge::{Message, NoReason};
 use std::alloc::{AllocError, AllocFailed};
@@ -43,11 +45,23 @@ impl<T: Drop> From<AllocFailed<T>> for LinkError {
     }
 }
 
-/// A client's way to a server. Nothing is said of what it answers.
+/// A client's way to a server.
 pub trait Link {
+    ghost use Rattle.std.specs.Prelude.{List};
+    ghost use Rattle.canvas_model.specs.Messages as messages;
+    ghost use Rattle.canvas_nodes.specs.declared.link.LinkError as link;
+
+    /// What a round may have answered to a message, from what the link has seen to what it has seen afterwards.
+    ghost gives: { Self → messages.Message → List messages.Message → Self → Type 0 };
+
+    /// By which error a round may have given no answer to a message, and what the link has seen afterwards.
+    ghost fails: { Self → messages.Message → link.LinkError → Self → Type 0 };
+
     /// Sends a message, and gives the messages of its answer, in order.
     ///
     /// Answers Ended where the connection has ended or failed, Refused where the answer ends with a No, NotRead where what came isn't
     /// an answer, and Memory where memory was refused.
-    fn round(&mut self, message: &Message) -> Result<Vec<Message>, LinkError>;
+    fn round(&mut self, message: &Message) -> Result<Vec<Message>, LinkError>
+        ensures gives { IfOk result (λ answer. gives self.old (seen_message message.now) (map seen_message answer.items) self.new) }
+        ensures fails { IfErr result (λ e. fails self.old (seen_message message.now) e self.new) };
 }

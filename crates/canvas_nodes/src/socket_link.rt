@@ -1,7 +1,7 @@
 // A client's side of a connection.
 ghost use Rattle.std.specs.Prelude.{◌↔◌, IfOk, IsTrue, map};
 ghost use Rattle.canvas_judge.specs.Seen.{seen_message};
-ghost use Rattle.canvas_nodes.specs.Answers.{Extends, IsAnswer, IsEnd};
+ghost use Rattle.canvas_nodes.specs.Answers.{AreDecoded, Extends, IsDecoded, IsDecodedAnswer, IsEnd};
 
 use crate::{Link, LinkError};
 use canvas_judge::Message;
@@ -60,7 +60,9 @@ impl<S: Read + Write + Drop, K: MaskKeys + Drop> SocketLink<S, K> {
     }
 
     // Reads the next message that is no ping and no pong.
-    fn receive(&mut self) -> Result<Message, LinkError> {
+    fn receive(&mut self) -> Result<Message, LinkError>
+        ensures { IfOk result (λ m. IsDecoded (seen_message m)) }
+    {
         for _ in 0..u32::MAX {
             match self.socket.read() {
                 Ok(Frame::Binary(bytes)) => return read(self.alloc, bytes.as_slice()),
@@ -75,7 +77,8 @@ impl<S: Read + Write + Drop, K: MaskKeys + Drop> SocketLink<S, K> {
 
     // Reads the next message of an answer, and tells whether it is the last.
     fn hear(&mut self, answer: &mut Vec<Message>) -> Result<bool, LinkError>
-        ensures { IfOk result (λ last. Extends last (map seen_message answer.old.items) (map seen_message answer.new.items)) }
+        ensures extends { IfOk result (λ last. Extends last (map seen_message answer.old.items) (map seen_message answer.new.items)) }
+        ensures decoded { IfOk result (λ _. AreDecoded (map seen_message answer.old.items) → AreDecoded (map seen_message answer.new.items)) }
     {
         let message = self.receive()?;
         if let Message::No(reason) = &message {
@@ -88,7 +91,7 @@ impl<S: Read + Write + Drop, K: MaskKeys + Drop> SocketLink<S, K> {
 
     // Sends a message, and reads its answer.
     fn ask(&mut self, message: &Message) -> Result<Vec<Message>, LinkError>
-        ensures { IfOk result (λ answer. IsAnswer (map seen_message answer.items)) }
+        ensures { IfOk result (λ answer. IsDecodedAnswer (map seen_message answer.items)) }
     {
         self.send(message)?;
         let mut answer = Vec::new(self.alloc);
@@ -102,8 +105,12 @@ impl<S: Read + Write + Drop, K: MaskKeys + Drop> SocketLink<S, K> {
 }
 
 impl<S: Read + Write + Drop, K: MaskKeys + Drop> Link for SocketLink<S, K> {
+    ghost gives = { λ _ _ answer _. IsDecodedAnswer answer };
+
+    ghost fails = { λ _ _ _ _. Unit {0} };
+
     fn round(&mut self, message: &Message) -> Result<Vec<Message>, LinkError>
-        ensures { IfOk result (λ answer. IsAnswer (map seen_message answer.items)) }
+        ensures { IfOk result (λ answer. IsDecodedAnswer (map seen_message answer.items)) }
     {
         if self.broken {
             return Err(LinkError::Ended);
@@ -125,7 +132,9 @@ fn is_end(message: &Message) -> bool
 }
 
 // The message of which the bytes are a text.
-fn read(alloc: Global, bytes: &[u8]) -> Result<Message, LinkError> {
+fn read(alloc: Global, bytes: &[u8]) -> Result<Message, LinkError>
+    ensures { IfOk result (λ m. IsDecoded (seen_message m)) }
+{
     match decode(alloc, alloc, bytes) {
         Ok(message) => Ok(message),
         Err(WireError::Memory) => Err(LinkError::Memory),

@@ -231,6 +231,10 @@ fn two_clients(rt: HostRuntime) -> Result<(), Fail> {
 struct Broken;
 
 impl Link for Broken {
+    ghost gives = { λ _ _ _ _. Unit {0} };
+
+    ghost fails = { λ _ _ _ _. Unit {0} };
+
     fn round(&mut self, _message: &Message) -> Result<Vec<Message>, LinkError> {
         Err(LinkError::Ended)
     }
