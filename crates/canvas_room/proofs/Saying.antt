@@ -9,7 +9,7 @@ use Rattle.canvas_server.specs.Served.{Served}
 use Rattle.canvas_board.specs.Marks.{IsLegal, Logged, Mark, Opening, board, start, step}
 use Rattle.canvas_board.specs.Receipts.{ReceiptValue}
 use Rattle.canvas_board.proofs.Boards.{legal_begin, version_before}
-use Rattle.canvas_board.proofs.Fronts.{prefix_self, prefix_trans}
+use base.Growing.{prefix_refl, prefix_trans}
 use Rattle.canvas_desk.specs.declared.faults.SubmitError.{SubmitError}
 use Rattle.canvas_desk.specs.declared.faults.SubmitError.TheVariants.{Refused, NotKept, Owed}
 use Rattle.canvas_desk.specs.Batches.{AreJudged, IsAnswered, LeavesBatch, as_owed, marks, receipts, unjudged}
@@ -99,7 +99,7 @@ said_owed o due (q ∷ qs) (s ∷ ss) (Err e ∷ answers) h = (h.0, said_owed o 
 pub answers_said : (o : Opening) (qs : List Asked) (seens : List (List Mark)) (shown front history due history' due' : List Mark) (failed failed' : Bool) (answers : List (Result ReceiptValue SubmitError))
     → IsAnswered o qs due history' due' failed failed' answers → IsPrefix history due → shown ≡ history → AreSeen shown seens → front ≡ due' → IsLegal o due' → AreSaid o front qs seens answers
 answers_said o qs seens shown front history due history' due' failed failed' answers h longer was seen is legal =
-    let all : IsPrefix (due ++ marks h.fates) due' = subst (λ (l : List Mark). IsPrefix l due') h.more (prefix_self due') in
+    let all : IsPrefix (due ++ marks h.fates) due' = subst (λ (l : List Mark). IsPrefix l due') h.more (prefix_refl due') in
     let before = seen_more history due seens longer (subst (λ (l : List Mark). AreSeen l seens) was seen) in
     let said = said_each o due' legal qs seens h.fates due (board o due) (board o due).version refl refl before h.judged all in
     let told : AreSaid o due' qs seens answers =

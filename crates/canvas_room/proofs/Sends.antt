@@ -51,9 +51,9 @@ use Rattle.canvas_room.specs.contracts.mailbox.Ticket as Ticket
 use Rattle.canvas_room.specs.contracts.mailbox.Mailbox as Mailbox
 use Rattle.canvas_room.specs.contracts.mailbox.Reply as Reply
 use Rattle.canvas_room.specs.contracts.mailbox.Reply.TheInside as in_reply
+use Rattle.canvas_room.specs.contracts.mailbox.Content as Content
 use Rattle.canvas_room.specs.contracts.mailbox.Slot as Slot
 use Rattle.canvas_room.specs.contracts.seat_slot.SeatSlot as SeatSlot
-use Rattle.canvas_room.specs.contracts.seat_slot.SharedMailbox as SharedMailbox
 use Rattle.canvas_room.specs.contracts.seat.Seat as Seat
 use Rattle.canvas_room.specs.contracts.seat.Seat.TheInside as in_seat
 use Rattle.crossbeam_utils.specs.declared.rule.Protocol as protocol
@@ -220,23 +220,26 @@ Ticket-send N g s = declared_send (Ticket.the_type N g) (Request-send, (search (
 pub Reply-send : (N : RattleType) (g : Ghosts N.Denot) → IsSend N → IsSend (Reply.the_row N g)
 Reply-send N g s = view_send (in_reply.the_row N g) _ _ _ _ (declared_send (in_reply.the_type N g) (Ticket-send N g s, (Told-send N g s, tt)))
 
-pub Slot-send : (N : RattleType) (g : Ghosts N.Denot) → IsSend N → IsSend (Slot.the_row N g)
-Slot-send N g s =
+pub Content-send : (N : RattleType) (g : Ghosts N.Denot) → IsSend N → IsSend (Content.the_row N g)
+Content-send N g s =
     let r = Reply-send N g s in
-    variants_send (Slot.enum N g) (tt, ((Ticket-send N g s, tt), (tt, ((search (r, sendable), tt), tt))))
+    variants_send (Content.enum N g) (tt, ((Ticket-send N g s, tt), (tt, ((search (r, sendable), tt), tt))))
+
+pub Slot-send : (N : RattleType) (g : Ghosts N.Denot) → IsSend N → IsSend (Slot.the_row N g)
+Slot-send N g s = let c = Content-send N g s in declared_send (Slot.the_type N g) (search (c, sendable, crosses) depth 40 fits 4000, (search (sendable, crosses) depth 40 fits 4000, tt))
+
+pub Slot-sync : (N : RattleType) (g : Ghosts N.Denot) → IsSend N → IsSync (Slot.the_row N g)
+Slot-sync N g s = let c = Content-send N g s in declared_sync (Slot.the_type N g) (search (c, sendable, crosses) depth 40 fits 4000, (search (sendable, crosses) depth 40 fits 4000, tt))
 
 pub Mailbox-send : (N : RattleType) (g : Ghosts N.Denot) → IsSend N → IsSend (Mailbox.the_row N g)
-Mailbox-send N g s = let l = Slot-send N g s in declared_send (Mailbox.the_type N g) (search (l, sendable, crosses), (search sendable, tt))
+Mailbox-send N g s = let l = Slot-send N g s in declared_send (Mailbox.the_type N g) (search (l, sendable, crosses) depth 40 fits 4000, (search (sendable, crosses) depth 40 fits 4000, (search (sendable, crosses) depth 40 fits 4000, tt)))
 
-pub Shared-mailbox-send : (N : RattleType) (g : Ghosts N.Denot) → IsSend N → IsSend (SharedMailbox.the_row N g)
-Shared-mailbox-send N g s = let l = Mailbox-send N g s in declared_send (SharedMailbox.the_type N g) (search (l, sendable, crosses) depth 40 fits 4000, (search (sendable, crosses) depth 40 fits 4000, tt))
-
-pub Shared-mailbox-sync : (N : RattleType) (g : Ghosts N.Denot) → IsSend N → IsSync (SharedMailbox.the_row N g)
-Shared-mailbox-sync N g s = let l = Mailbox-send N g s in declared_sync (SharedMailbox.the_type N g) (search (l, sendable, crosses) depth 40 fits 4000, (search (sendable, crosses) depth 40 fits 4000, tt))
+pub Mailbox-sync : (N : RattleType) (g : Ghosts N.Denot) → IsSend N → IsSync (Mailbox.the_row N g)
+Mailbox-sync N g s = let l = Slot-sync N g s in declared_sync (Mailbox.the_type N g) (search (l, sendable, crosses) depth 40 fits 4000, (search (sendable, crosses) depth 40 fits 4000, (search (sendable, crosses) depth 40 fits 4000, tt)))
 
 -- a seat's slot in it, as a field
 pub SeatSlot-field-send : (N : RattleType) (g : Ghosts N.Denot) → IsSend N → IsSend (SeatSlot.the_field N g).row
-SeatSlot-field-send N g s = struct_send (shape (SeatSlot.the_type N g)) (heap.the_field_send, (Arc-send _ (Shared-mailbox-send N g s) (Shared-mailbox-sync N g s), (search sendable, tt)))
+SeatSlot-field-send N g s = struct_send (shape (SeatSlot.the_type N g)) (heap.the_field_send, (Arc-send _ (Mailbox-send N g s) (Mailbox-sync N g s), (search sendable, tt)))
 
 pub Seat-send : (N D : RattleType) (g : Ghosts N.Denot) → IsSend N → IsSync N → IsSend D → IsSync D → IsSend (Seat.the_row N D g)
 Seat-send N D g s y sd yd =

@@ -16,7 +16,7 @@ use Rattle.canvas_board.specs.Marks.{IsLegal, Logged, Mark, Opening, TellsFailur
 use Rattle.canvas_board.specs.Receipts.{ReceiptValue, EndsWith}
 use Rattle.canvas_board.proofs.Boards.{version_before}
 use Rattle.canvas_board.proofs.Failures.{tells_later}
-use Rattle.canvas_board.proofs.Fronts.{prefix_self, prefix_trans}
+use base.Growing.{prefix_refl, prefix_trans}
 use Rattle.canvas_desk.specs.declared.faults.Refusal.TheVariants.{Stranger, Repeat, Gap, Full}
 use Rattle.canvas_desk.specs.declared.faults.SubmitError.{SubmitError}
 use Rattle.canvas_desk.specs.declared.faults.SubmitError.TheVariants.{Refused, NotKept, Owed}
@@ -105,7 +105,7 @@ refused_since : (o : Opening) (q : Asked) (e : SubmitError) (seen shown shown' d
 refused_since o q e seen shown shown' due due' front pre all same learns legal refuses = record {
   at = due;
   from = subst (λ (l : List Mark). IsPrefix seen l) (all.1 ∙ same) (prefix_trans seen shown shown' pre all.0);
-  to = subst (λ (l : List Mark). IsPrefix due l) (sym (learns ∙ (all.1 ∙ same))) (prefix_self due);
+  to = subst (λ (l : List Mark). IsPrefix due l) (sym (learns ∙ (all.1 ∙ same))) (prefix_refl due);
   legal = legal;
   refuses = refuses;
 }
@@ -175,4 +175,4 @@ pub learned_failure : (o : Opening) (seen told : List Mark) → IsPrefix seen to
 learned_failure o seen told pre legal t = ((pre, legal), t)
 
 pub seen_failure : (o : Opening) (seen told again : List Mark) → again ≡ seen → IsLegal o again → IsPrefix told seen → TellsFailure told → IsFailedSince o seen again
-seen_failure o seen told again same legal pre t = ((subst (λ (l : List Mark). IsPrefix seen l) (sym same) (prefix_self seen), legal), subst TellsFailure (sym same) (tells_later told seen pre t))
+seen_failure o seen told again same legal pre t = ((subst (λ (l : List Mark). IsPrefix seen l) (sym same) (prefix_refl seen), legal), subst TellsFailure (sym same) (tells_later told seen pre t))

@@ -5,13 +5,13 @@ ghost use Rattle.canvas_board.specs.Marks.{IsLegal};
 ghost use Rattle.canvas_room.specs.Batches.{AreSaid, AreSeen, IsUnanswered, Says, seen_of};
 
 use crate::asking::{Told, is_refusal, learned};
-use crate::mailbox::{Mailbox, Reply, Slot, Ticket};
+use crate::mailbox::{Content, Mailbox, Reply, Ticket};
 use canvas_board::{Front, Receipt, RoomName};
 use canvas_desk::{Desk, SubmitError};
 use canvas_journal::Keeper;
 use canvas_server::Request;
 use std::alloc::{AllocError, Global};
-use std::sync::{Mutex, Wait};
+use std::sync::Wait;
 
 /// A room has at most so many seats.
 pub const MOST_SEATS: usize = 64;
@@ -31,9 +31,10 @@ pub struct Batch<N: RoomName> {
 }
 
 // Takes the tickets that wait, except those of seats that have seen more than this. Fails only where memory is refused, and then takes none.
-fn gather<N: RoomName>(
+fn gather<N: RoomName, W: Wait>(
     alloc: Global,
-    mailbox: &mut Mailbox<N>,
+    rt: &W,
+    mailbox: &Mailbox<N>,
     shown: &Front<N>,
 ) -> Result<Batch<N>, AllocError>
     ensures most { IfOk result (λ batch. length batch.requests.items ≤ 64) }
@@ -42,7 +43,7 @@ fn gather<N: RoomName>(
     let mut requests = Vec::with_capacity(alloc, MOST_SEATS)?;
     let mut senders = Vec::with_capacity(alloc, MOST_SEATS)?;
     for seat in 0..MOST_SEATS {
-        let Some(ticket) = mailbox.take_ticket(seat, shown) else {
+        let Some(ticket) = mailbox.take_ticket(rt, seat, shown) else {
             continue;
         };
         let Ticket { request, seen } = ticket;
@@ -69,8 +70,9 @@ fn reply<N: RoomName>(
 }
 
 // Leaves the answer to a request in the slot of its seat.
-fn leave<N: RoomName>(
-    mailbox: &mut Mailbox<N>,
+fn leave<N: RoomName, W: Wait>(
+    rt: &W,
+    mailbox: &Mailbox<N>,
     request: Request,
     sender: Sender<N>,
     answer: Result<Receipt<N>, SubmitError>,
@@ -81,13 +83,14 @@ fn leave<N: RoomName>(
 {
     let Sender { seat, seen } = sender;
     if let Some(reply) = reply(Ticket { request, seen }, answer, due, is_shown) {
-        mailbox.put(seat, Slot::Answered(reply));
+        mailbox.put(rt, seat, Content::Answered(reply));
     }
 }
 
 // Leaves each answer of a batch in the slot of its seat.
-fn leave_each<N: RoomName>(
-    mailbox: &mut Mailbox<N>,
+fn leave_each<N: RoomName, W: Wait>(
+    rt: &W,
+    mailbox: &Mailbox<N>,
     batch: Batch<N>,
     answers: Vec<Result<Receipt<N>, SubmitError>>,
     due: &Front<N>,
@@ -105,7 +108,7 @@ fn leave_each<N: RoomName>(
         let Some(answer) = answers.next() else {
             return;
         };
-        leave(mailbox, request, sender, answer, due, is_shown);
+        leave(rt, mailbox, request, sender, answer, due, is_shown);
     }
 }
 
@@ -113,18 +116,17 @@ fn leave_each<N: RoomName>(
 fn waiting<N: RoomName, W: Wait>(
     alloc: Global,
     rt: &W,
-    mailbox: &Mutex<Mailbox<N>>,
+    mailbox: &Mailbox<N>,
     seat: usize,
     shown: &Front<N>,
 ) -> Option<Batch<N>>
     ensures most { IfSome result (λ batch. length batch.requests.items ≤ 64) }
     ensures seen { IfSome result (λ batch. AreSeen shown.now (map seen_of batch.senders.items)) }
 {
-    let mut mailbox = mailbox.lock(rt);
-    if !mailbox.has_others(seat) {
+    if !mailbox.has_others(rt, seat) {
         return None;
     }
-    gather(alloc, &mut mailbox, shown).ok()
+    gather(alloc, rt, mailbox, shown).ok()
 }
 
 /// Where requests of other seats than this one wait, has all that wait committed as one batch, and leaves the answers in their slots.
@@ -135,7 +137,7 @@ pub fn commit<K: Keeper, N: RoomName, R: Wait + Drop, W: Wait>(
     alloc: Global,
     rt: &W,
     desk: &mut Desk<K, N, R>,
-    mailbox: &Mutex<Mailbox<N>>,
+    mailbox: &Mailbox<N>,
     seat: usize,
 ) -> Result<(), SubmitError>
     ensures { IfErr result (IsUnanswered desk.new.failed) }
@@ -147,7 +149,6 @@ pub fn commit<K: Keeper, N: RoomName, R: Wait + Drop, W: Wait>(
     let answers = desk.submit_many(rt, &batch.requests)?;
     let due = desk.due();
     let is_shown = due.is_same(&desk.shown());
-    let mut mailbox = mailbox.lock(rt);
-    leave_each(&mut mailbox, batch, answers, &due, is_shown);
+    leave_each(rt, mailbox, batch, answers, &due, is_shown);
     Ok(())
 }

@@ -1,15 +1,18 @@
 // The mailbox of a room, where seats leave their requests for the one that leads.
-ghost use Rattle.std.specs.Prelude.{◌≡◌, IfOk, IfSome, IsTrue, MatchOption, slice_get, slice_set};
+ghost use Rattle.std.specs.Prelude.{◌≡◌, IfOk, IfSome, IsTrue};
 ghost use mathlib.Core.List.{IsPrefix};
 ghost use Rattle.canvas_server.specs.Asked.{seen_request};
 ghost use Rattle.canvas_room.specs.Seats.{IsAnswerTo};
 
 use crate::asking::Told;
+use crate::batch::MOST_SEATS;
 use canvas_board::{Front, RoomName};
 use canvas_server::Request;
 use std::alloc::{AllocError, Global};
 use std::marker::Model;
 use std::mem::replace;
+use std::sync::atomic::{AtomicBool, Ordering};
+use std::sync::{Condvar, Mutex, Wait};
 
 /// A request, with what its seat has seen.
 #[derive(Drop)]
@@ -51,7 +54,7 @@ impl<N: RoomName> Model for Reply<N> {
 
 /// What is in a slot of the mailbox.
 #[derive(Drop)]
-pub enum Slot<N: RoomName> {
+pub enum Content<N: RoomName> {
     /// Nothing.
     Empty,
     /// A request that waits.
@@ -62,10 +65,57 @@ pub enum Slot<N: RoomName> {
     Answered(Reply<N>),
 }
 
-/// A slot for each seat of a room, and whether a seat leads: it is to have what waits committed.
+impl<N: RoomName> Content<N> {
+    // Takes the ticket that waits, unless its seat has seen more than this. Until its answer is put there, the request is one that comes
+    // alone.
+    fn take_ticket(&mut self, shown: &Front<N>) -> Option<Ticket<N>>
+        ensures { IfSome result (λ ticket. IsPrefix ticket.seen shown.now) }
+    {
+        match replace(self, Content::Alone) {
+            Content::Waiting(ticket) => {
+                if ticket.seen.begins(shown) {
+                    return Some(ticket);
+                }
+                *self = Content::Waiting(ticket);
+            }
+            content => *self = content,
+        }
+        None
+    }
+
+    // Takes the reply, if there is one.
+    fn take_reply(&mut self) -> Option<Reply<N>> {
+        match replace(self, Content::Empty) {
+            Content::Answered(reply) => Some(reply),
+            content => {
+                *self = content;
+                None
+            }
+        }
+    }
+}
+
+/// A seat's slot in the mailbox of its room: what is in it, and the call that the seat waits for. Each has a lock of its own, so that a seat
+/// waits for none but the one that leads.
+pub struct Slot<N: RoomName> {
+    content: Mutex<Content<N>>,
+    call: Condvar,
+}
+
+impl<N: RoomName> Drop for Slot<N> {
+    fn drop(self) {
+        let Slot {
+            content: _,
+            call: _,
+        } = self;
+    }
+}
+
+/// A slot for each seat of a room; whether a seat leads: it is to have what waits committed; and whether one is about a checkpoint.
 pub struct Mailbox<N: RoomName> {
     slots: Vec<Slot<N>>,
-    is_led: bool,
+    is_led: AtomicBool,
+    is_tidied: AtomicBool,
 }
 
 impl<N: RoomName> Drop for Mailbox<N> {
@@ -73,8 +123,15 @@ impl<N: RoomName> Drop for Mailbox<N> {
         let Mailbox {
             slots: _,
             is_led: _,
+            is_tidied: _,
         } = self;
     }
+}
+
+// Whom a seat that leads no more calls: one whose request waits, and each whose request was answered, or comes alone.
+struct Calls {
+    next: Option<usize>,
+    done: [bool; MOST_SEATS],
 }
 
 // A request once more. Fails only where memory is refused.
@@ -157,101 +214,119 @@ impl<N: RoomName> Mailbox<N> {
     pub fn new(alloc: Global, seats: usize) -> Result<Mailbox<N>, AllocError> {
         let mut slots = Vec::with_capacity(alloc, seats)?;
         for _ in 0..seats {
-            slots.push(Slot::Empty)?;
+            slots.push(Slot {
+                content: Mutex::new(Content::Empty),
+                call: Condvar::new(),
+            })?;
         }
         Ok(Mailbox {
             slots,
-            is_led: false,
+            is_led: AtomicBool::new(false),
+            is_tidied: AtomicBool::new(false),
         })
     }
 
     /// Puts this into the slot of a seat, in place of what is there.
-    pub fn put(&mut self, seat: usize, content: Slot<N>)
-        ensures { self.new.slots.items ≡ slice_set self.old.slots.items seat content }
-    {
-        if let Some(slot) = self.slots.get_mut(seat) {
-            *slot = content;
+    pub fn put<W: Wait>(&self, rt: &W, seat: usize, content: Content<N>) {
+        if let Some(slot) = self.slots.get(seat) {
+            *slot.content.lock(rt) = content;
         }
     }
 
     /// Takes what is in the slot of a seat, and leaves it empty.
-    pub fn take(&mut self, seat: usize) -> Slot<N>
-        ensures taken { MatchOption (slice_get self.old.slots.items seat) (result ≡ Slot.Empty) (λ content. result ≡ content) }
-        ensures left { self.new.slots.items ≡ slice_set self.old.slots.items seat Slot.Empty }
-    {
-        match self.slots.get_mut(seat) {
-            Some(slot) => replace(slot, Slot::Empty),
-            None => Slot::Empty,
-        }
-    }
-
-    // Takes the ticket that waits in the slot of a seat.
-    fn take_waiting(&mut self, seat: usize) -> Option<Ticket<N>> {
-        match self.take(seat) {
-            Slot::Waiting(ticket) => Some(ticket),
-            content => {
-                self.put(seat, content);
-                None
-            }
+    pub fn take<W: Wait>(&self, rt: &W, seat: usize) -> Content<N> {
+        match self.slots.get(seat) {
+            Some(slot) => replace(&mut *slot.content.lock(rt), Content::Empty),
+            None => Content::Empty,
         }
     }
 
     /// Takes the ticket that waits in the slot of a seat, unless that has seen more than this. Until its answer is put there, the
     /// request is one that comes alone.
-    pub fn take_ticket(&mut self, seat: usize, shown: &Front<N>) -> Option<Ticket<N>>
+    pub fn take_ticket<W: Wait>(&self, rt: &W, seat: usize, shown: &Front<N>) -> Option<Ticket<N>>
         ensures { IfSome result (λ ticket. IsPrefix ticket.seen shown.now) }
     {
-        let ticket = self.take_waiting(seat)?;
-        if ticket.seen.begins(shown) {
-            self.put(seat, Slot::Alone);
-            return Some(ticket);
-        }
-        self.put(seat, Slot::Waiting(ticket));
-        None
+        self.slots.get(seat)?.content.lock(rt).take_ticket(shown)
     }
 
-    /// Takes the reply in the slot of a seat.
-    pub fn take_reply(&mut self, seat: usize) -> Option<Reply<N>> {
-        match self.take(seat) {
-            Slot::Answered(reply) => Some(reply),
-            content => {
-                self.put(seat, content);
-                None
+    // Waits so long as another seat leads and the slot of this one has no reply. Takes the reply, if there is one.
+    fn wait<W: Wait>(&self, rt: &W, seat: usize) -> Option<Reply<N>> {
+        let Slot { content, call } = self.slots.get(seat)?;
+        let content = content.lock(rt);
+        let mut content = call.wait_while(rt, content, |content| self.is_pending(content));
+        content.take_reply()
+    }
+
+    // Whether the seat with this in its slot is to go on waiting: another leads, and there is no reply.
+    fn is_pending(&self, content: &Content<N>) -> bool {
+        self.is_led.load(Ordering::SeqCst) && !matches!(content, Content::Answered(_))
+    }
+
+    /// Says that a seat leads from now on. False where one did already.
+    pub fn lead(&self) -> bool {
+        !self.is_led.swap(true, Ordering::SeqCst)
+    }
+
+    /// Waits so long as another seat leads and the slot of this one has no reply. Takes the reply, if there is one; else this seat leads
+    /// from now on.
+    pub fn follow<W: Wait>(&self, rt: &W, seat: usize) -> Option<Reply<N>> {
+        for _turn in rt.forever() {
+            if let Some(reply) = self.wait(rt, seat) {
+                return Some(reply);
+            }
+            if self.lead() {
+                return None;
             }
         }
-    }
-
-    /// Whether a seat is to go on waiting: another leads, and its own slot has no reply.
-    pub fn is_pending(&self, seat: usize) -> bool {
-        self.is_led && !matches!(self.slots.get(seat), Some(Slot::Answered(_)))
-    }
-
-    /// Says whether a seat leads from now on.
-    pub fn set_led(&mut self, is_led: bool)
-        ensures { self.new.slots ≡ self.old.slots }
-    {
-        self.is_led = is_led;
-    }
-
-    /// Whether the seat that leads is done with the request of a seat: it was answered, or comes alone.
-    pub fn is_done(&self, seat: usize) -> bool {
-        matches!(self.slots.get(seat), Some(Slot::Answered(_) | Slot::Alone))
-    }
-
-    /// A seat whose ticket waits, if there is one.
-    pub fn some_waiting(&self) -> Option<usize> {
-        self.slots
-            .iter()
-            .position(|slot| matches!(slot, Slot::Waiting(_)))
+        unreachable!()
     }
 
     /// Whether a ticket waits in the slot of another seat.
-    pub fn has_others(&self, seat: usize) -> bool {
+    pub fn has_others<W: Wait>(&self, rt: &W, seat: usize) -> bool {
         for (other, slot) in self.slots.iter().enumerate() {
-            if other != seat && matches!(slot, Slot::Waiting(_)) {
+            if other != seat && matches!(*slot.content.lock(rt), Content::Waiting(_)) {
                 return true;
             }
         }
         false
+    }
+
+    // Whom a seat that leads no more calls.
+    fn calls<W: Wait>(&self, rt: &W) -> Calls {
+        let mut next = None;
+        let mut done = [false; MOST_SEATS];
+        for (seat, (slot, is_done)) in self.slots.iter().zip(done.iter_mut()).enumerate() {
+            match *slot.content.lock(rt) {
+                Content::Waiting(_) => next = Some(seat),
+                Content::Answered(_) | Content::Alone => *is_done = true,
+                Content::Empty => {}
+            }
+        }
+        Calls { next, done }
+    }
+
+    /// Says that a seat is about a checkpoint from now on. False where one was already.
+    pub fn begin_tidying(&self) -> bool {
+        !self.is_tidied.swap(true, Ordering::SeqCst)
+    }
+
+    /// Says that no seat is about a checkpoint.
+    pub fn end_tidying(&self) {
+        self.is_tidied.store(false, Ordering::SeqCst);
+    }
+
+    /// Says that no seat leads. Calls first one whose request waits, so that it leads, and then those whose request was answered, or
+    /// comes alone.
+    pub fn step_down<W: Wait>(&self, rt: &W) {
+        self.is_led.store(false, Ordering::SeqCst);
+        let Calls { next, done } = self.calls(rt);
+        if let Some(slot) = next.and_then(|seat| self.slots.get(seat)) {
+            slot.call.notify_one();
+        }
+        for (slot, is_done) in self.slots.iter().zip(done) {
+            if is_done {
+                slot.call.notify_one();
+            }
+        }
     }
 }

@@ -3,7 +3,8 @@ ghost use Rattle.std.specs.Prelude.{◌≡◌, ◌≤◌, ◌<◌, ◌⊎◌, []
 ghost use Rattle.canvas_model.specs.Log.{last_version};
 ghost use Rattle.canvas_desk.specs.Desks.{IsKeptAt};
 
-use crate::seat_slot::{SeatSlot, SharedMailbox};
+use crate::mailbox::Mailbox;
+use crate::seat_slot::SeatSlot;
 use crate::{RoomError, Seat};
 use canvas_board::{Blank, Board, Mark, Opening, Published, Reader, RoomName, Step, open_board};
 use canvas_desk::Desk;
@@ -133,7 +134,7 @@ fn opened<K: Keeper + Drop, N: RoomName, R: Wait + Drop>(
     let server = Server::rebuild(alloc, state, version);
     let desk = Desk::new(alloc, server, keeper, publisher, rt);
     let shared = Arc::new(alloc, Mutex::new(desk))?;
-    let mailbox = Arc::new(alloc, SharedMailbox::new(alloc, seats)?)?;
+    let mailbox = Arc::new(alloc, Mailbox::new(alloc, seats)?)?;
     let seats = seats_of(alloc, &shared, &mailbox, readers)?;
     Ok((Room { shared }, seats))
 }
@@ -142,7 +143,7 @@ fn opened<K: Keeper + Drop, N: RoomName, R: Wait + Drop>(
 fn seats_of<N: RoomName, D: Drop>(
     alloc: Global,
     shared: &Arc<D, Global>,
-    mailbox: &Arc<SharedMailbox<N>, Global>,
+    mailbox: &Arc<Mailbox<N>, Global>,
     readers: Vec<Reader<N>>,
 ) -> Result<Vec<Seat<N, D>>, AllocError>
     ensures { IfOk result (λ seats. seats.items ≡ readers.items) }
