@@ -27,7 +27,7 @@ refused_ends (Refused Full) = tt
 refused_ends (NotKept error) = tt
 refused_ends (Owed v) = tt
 
-says_ends : (o : Opening) (q : Asked) (old : List Mark) (m : Message) (new : List Mark) → SaysOf o q old m new → IsEnd m
+pub says_ends : (o : Opening) (q : Asked) (old : List Mark) (m : Message) (new : List Mark) → SaysOf o q old m new → IsEnd m
 says_ends o q old m new says = ⊎_elim
     (λ (j : IsJudged q old m new). told_ends j.entry.what j.entry.outcome m j.told)
     (λ (r : TellsRefusal o q old m new). subst IsEnd (sym r.told) (refused_ends r.error))

@@ -2,3 +2,4 @@ pub mod Boards
 pub mod Judged
 pub mod News
 pub mod Ends
+pub mod SeesOn

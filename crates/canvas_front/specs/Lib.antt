@@ -1,3 +1,4 @@
 pub mod News
 pub mod Table
 pub mod Links
+pub mod Exchanges

@@ -3,10 +3,12 @@
 
 mod answerer;
 mod asking;
+mod laws;
 mod messages;
 mod requests;
 mod seat_link;
 
 pub use answerer::SeatAnswerer;
+pub use laws::every_exchange;
 pub use messages::{CHECKPOINT_AT, answer};
 pub use seat_link::SeatLink;

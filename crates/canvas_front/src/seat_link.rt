@@ -2,8 +2,7 @@
 ghost use Rattle.std.specs.Prelude.{◌≡◌, IfErr, IfNone, IfOk, IfSome, map};
 ghost use Rattle.canvas_judge.specs.Seen.{seen_message};
 ghost use Rattle.canvas_nodes.specs.Answers.{IsAnswer, refused};
-ghost use Rattle.canvas_front.specs.Table.{Gives};
-ghost use Rattle.canvas_front.specs.Links.{IsNo, RefusesRound};
+ghost use Rattle.canvas_front.specs.Links.{Grants, IsNo, RefusesRound};
 
 use crate::SeatAnswerer;
 use canvas_board::RoomName;
@@ -60,11 +59,14 @@ impl<N: RoomName, D: Drop, W: Drop> SeatLink<N, D, W> {
 
 impl<K: Keeper + Drop, N: RoomName, R: Wait + Drop, W: Wait + Drop> Link
     for SeatLink<N, Lock<K, N, R>, W> {
+    ghost gives = { Grants N.opening };
+
+    ghost fails = { RefusesRound N.opening };
+
     /// The seat's answer. Refused where that is a No, and Memory where memory is refused for it.
     fn round(&mut self, message: &Message) -> Result<Vec<Message>, LinkError>
-        ensures gives { IfOk result (λ answer. Gives N.opening self.old (seen_message message.now) (map seen_message answer.items) self.new) }
+        ensures gives { IfOk result (λ answer. Grants N.opening self.old (seen_message message.now) (map seen_message answer.items) self.new) }
         ensures whole { IfOk result (λ answer. IsAnswer (map seen_message answer.items)) }
-        ensures granted { IfOk result (λ answer. IsNo (map seen_message answer.items) → ⊥) }
         ensures refused { IfErr result (λ e. RefusesRound N.opening self.old (seen_message message.now) e self.new) }
     {
         let answer = self.answerer.told(message)?;
