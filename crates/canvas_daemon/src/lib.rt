@@ -2,6 +2,7 @@
 //! and its commands.
 #![tactic(auto)]
 
+mod closing;
 mod editing;
 mod fault;
 mod node;

@@ -4,10 +4,11 @@ ghost use Rattle.std.specs.Io.KnownBytes.{Appends};
 ghost use Rattle.canvas_daemon.specs.Faults.{IsMemoryOrDevice};
 ghost use Rattle.canvas_daemon.specs.Served.{BeginsServing, IsServeFault, WritesServed, served_line, serving_line};
 
+use crate::closing::Closing;
 use crate::fault::Fault;
 use canvas_board::{Opening, RoomName};
 use canvas_desk::Desk;
-use canvas_folder::{DirShelf, OsFolder};
+use canvas_folder::{DirShelf, OsFolder, Removed};
 use canvas_front::SeatAnswerer;
 use canvas_journal::{Journal, Keeper, open};
 use canvas_nodes::serve_one;
@@ -53,30 +54,34 @@ where
     ensures faults { IfErr result (IsServeFault connections) }
 {
     let listener = listen(rt, port)?;
-    let room = open_room(files, dir, connections)?;
-    serve_room::<Brand, _, _, _>(rt, room, &listener, port, output)
+    let (room, removed) = open_room(files, dir, connections)?;
+    let door = Door {
+        listener: &listener,
+        removed: &removed,
+    };
+    serve_room::<Brand, _, _, _>(rt, room, door, port, output)
 }
 
-/// The room of a folder's document, without a name yet, with so many seats.
+// The room of a folder's document, without a name yet, and the files that the folder removes.
+type Blank = (BlankRoom<Journal<DirShelf<OsFolder<HostRuntime>>>>, Removed);
+
+/// The room of a folder's document, without a name yet, with so many seats; and the files that the folder removes.
 ///
 /// The errors are those of `serve`.
-pub(crate) fn open_room(
-    files: HostRuntime,
-    dir: &str,
-    seats: u32,
-) -> Result<BlankRoom<Journal<DirShelf<OsFolder<HostRuntime>>>>, Fault>
-    ensures seats { IfOk result (λ room. room.seats ≡ seats) }
+pub(crate) fn open_room(files: HostRuntime, dir: &str, seats: u32) -> Result<Blank, Fault>
+    ensures seats { IfOk result (λ opened. opened.0.seats ≡ seats) }
     ensures faults { IfErr result (IsServeFault seats) }
 {
     let alloc = files.alloc();
     let shelf = DirShelf::new(files, dir)?;
+    let removed = shelf.folder().removed().share()?;
     let (journal, state, version) = match open(alloc, shelf) {
         Ok(opened) => opened,
         Err((_shelf, error)) => return Err(Fault::from(error)),
     };
     let opening = Opening { state, version };
     match blank_room(alloc, journal, opening, seats as usize) {
-        Ok(room) => Ok(room),
+        Ok(room) => Ok((room, removed)),
         Err((_journal, error)) => Err(Fault::from(error)),
     }
 }
@@ -87,6 +92,13 @@ pub(crate) fn listen<R: Net>(rt: &R, port: u16) -> Result<R::Listener, Fault>
 {
     let address = SocketAddr::from((Ipv4Addr::LOCALHOST, port));
     TcpListener::bind(rt, address).map_err(|_| Fault::Device)
+}
+
+/// Where connections come from, and the files that are closed beside them.
+#[derive(Clone, Copy)]
+pub(crate) struct Door<'a> {
+    pub(crate) listener: &'a TcpListener,
+    pub(crate) removed: &'a Removed,
 }
 
 // A room with its seats.
@@ -113,7 +125,7 @@ where
 fn serve_room<N, K, R, W>(
     rt: &R,
     room: BlankRoom<K>,
-    listener: &TcpListener,
+    door: Door<'_>,
     port: u16,
     output: &mut W,
 ) -> Result<(), Fault>
@@ -134,7 +146,7 @@ where
     let count = seats.len();
     let version = room.desk(rt).version();
     write_line(output, serving_line(rt.alloc(), port, version)?)?;
-    serve_seats(rt, listener, seats)?;
+    serve_seats(rt, door, seats)?;
     let desk = room.desk(rt);
     let version = desk.version();
     let ended = check_journal(&desk);
@@ -173,7 +185,7 @@ fn served_line(alloc: Global, count: usize, version: u64) -> Result<String, Allo
 /// The errors: `Device`, where a connection wasn't accepted; `Memory`, where memory was refused.
 fn serve_seats<N, K, R>(
     rt: &R,
-    listener: &TcpListener,
+    door: Door<'_>,
     seats: Vec<Seat<N, Lock<K, N, R>>>,
 ) -> Result<(), Fault>
 where
@@ -182,7 +194,7 @@ where
     R: Threads + Wait + AllocGlobal + Clone + Send + Sync + Drop,
     ensures { IfErr result IsMemoryOrDevice }
 {
-    let ended = map_vec(rt, seats, &|seat| serve_next(rt, listener, seat))?;
+    let ended = map_vec(rt, seats, &|seat| serve_next(rt, door, seat))?;
     for end in ended {
         end?;
     }
@@ -194,7 +206,7 @@ where
 /// The errors: `Device`, where no connection was accepted; `Memory`, where memory was refused.
 pub(crate) fn serve_next<N, K, R>(
     rt: &R,
-    listener: &TcpListener,
+    door: Door<'_>,
     seat: Seat<N, Lock<K, N, R>>,
 ) -> Result<(), Fault>
 where
@@ -203,15 +215,17 @@ where
     R: Wait + AllocGlobal + Clone + Drop,
     ensures { IfErr result IsMemoryOrDevice }
 {
-    let (stream, _address) = listener.accept().map_err(|_| Fault::Device)?;
-    serve_stream(rt, seat, stream)
+    let (stream, _address) = door.listener.accept().map_err(|_| Fault::Device)?;
+    serve_stream(rt, seat, stream, door.removed.share()?)
 }
 
-/// Serves a connection until it ends. How it ended isn't told. The errors: `Memory`, where memory was refused.
+/// Serves a connection until it ends, and closes beside it what the folder removes. How it ended isn't told. The errors: `Memory`, where
+/// memory was refused.
 pub(crate) fn serve_stream<N, K, R>(
     rt: &R,
     seat: Seat<N, Lock<K, N, R>>,
     stream: TcpStream,
+    removed: Removed,
 ) -> Result<(), Fault>
 where
     N: RoomName,
@@ -222,7 +236,7 @@ where
     let alloc = rt.alloc();
     // Each answer leaves at once; without this some would wait for an acknowledgement.
     let _ = stream.set_nodelay(true);
-    let mut answerer = SeatAnswerer::new(alloc, rt.clone()?, seat);
+    let mut answerer = Closing::new(SeatAnswerer::new(alloc, rt.clone()?, seat), removed);
     if let Ok(mut socket) = tungstenite::accept(alloc, stream) {
         let _ended = serve_one(alloc, &mut answerer, &mut socket);
     }

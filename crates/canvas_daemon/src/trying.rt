@@ -8,7 +8,7 @@ ghost use Rattle.canvas_daemon.specs.Trials.{WritesTrial, equal_word, trial_line
 use crate::editing::connect;
 use crate::fault::Fault;
 use crate::node::Node;
-use crate::serving::{listen, open_room, opened, serve_next};
+use crate::serving::{Door, listen, open_room, opened, serve_next};
 use crate::showing::report_text;
 use canvas_board::RoomName;
 use canvas_client::{Client, EditError};
@@ -51,8 +51,12 @@ where
     ensures faults { IfErr result (IsServeFault 2) }
 {
     let listener = listen(rt, 0)?;
-    let room = open_room(files, dir, 2)?;
-    let (version, equal) = try_room::<Brand, _, _>(rt, room, &listener)?;
+    let (room, removed) = open_room(files, dir, 2)?;
+    let door = Door {
+        listener: &listener,
+        removed: &removed,
+    };
+    let (version, equal) = try_room::<Brand, _, _>(rt, room, door)?;
     let line = trial_line(rt.alloc(), version, equal)?;
     write_out(output, line.as_bytes())?;
     Ok(equal)
@@ -74,11 +78,7 @@ fn equal_word(equal: bool) -> &'static str
 }
 
 // Serves two clients from a room of two seats. Answers the first one's version, and whether they agree.
-fn try_room<N, K, R>(
-    rt: &R,
-    room: BlankRoom<K>,
-    listener: &TcpListener,
-) -> Result<(u64, bool), Fault>
+fn try_room<N, K, R>(rt: &R, room: BlankRoom<K>, door: Door<'_>) -> Result<(u64, bool), Fault>
 where
     N: RoomName + Send + Sync,
     K: Keeper + Drop + Send,
@@ -96,13 +96,13 @@ where
     ensures { IfErr result IsMemoryOrDevice }
 {
     let (_room, seats) = opened::<N, K, R>(rt, room)?;
-    let address = listener.local_addr().map_err(|_| Fault::Device)?;
+    let address = door.listener.local_addr().map_err(|_| Fault::Device)?;
     // Both connections stand before one is accepted, so that none is waited for that never comes.
     let first = connect(rt, address.port())?;
     let second = connect(rt, address.port())?;
     let serve = |seat: Seat<N, Lock<K, N, R>>| -> Result<(), Fault>
         ensures { IfErr result IsMemoryOrDevice }
-    { serve_next(rt, listener, seat) };
+    { serve_next(rt, door, seat) };
     edit_both(rt, seats, &serve, first, second)
 }
 

@@ -9,6 +9,7 @@ mod names;
 mod opening;
 mod os;
 mod place;
+mod removed;
 mod segments;
 mod shelf;
 mod state;
@@ -20,4 +21,5 @@ pub use laws::{
 };
 pub use opening::make_ready;
 pub use os::OsFolder;
+pub use removed::Removed;
 pub use shelf::DirShelf;

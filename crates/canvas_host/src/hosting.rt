@@ -80,7 +80,7 @@ where
         quiet,
     } = options;
     let listener = listen(rt, port)?;
-    let room = open_room(files, &dir, clients as usize)?;
+    let (room, removed) = open_room(files, &dir, clients as usize)?;
     let site = Site {
         origins,
         identity: identity(&files, &dir)?,
@@ -92,6 +92,7 @@ where
         page,
         figures: Figures::new(),
         copies: Permits::new(rt, MOST_COPIES)?,
+        removed,
         limits: Limits {
             idle_seconds,
             message_bytes,

@@ -4,7 +4,7 @@ ghost use Rattle.canvas_host.specs.Faults.{IsOpeningFault, IsPortFault};
 
 use crate::fault::Fault;
 use canvas_board::{Opening, RoomName};
-use canvas_folder::{DirShelf, OsFolder};
+use canvas_folder::{DirShelf, OsFolder, Removed};
 use canvas_journal::{Journal, Keeper, open};
 use canvas_room::{BlankRoom, Lock, Room, Seat, blank_room};
 use std::io::ErrorKind;
@@ -29,23 +29,25 @@ pub(crate) fn listen<R: Net>(rt: &R, port: u16) -> Result<R::Listener, Fault>
 /// The journal of a folder.
 pub(crate) type FolderJournal = Journal<DirShelf<OsFolder<HostRuntime>>>;
 
-/// The room of a folder's document, without a name yet, with so many seats. The folder is made where it is missing, and locked.
+/// The room of a folder's document, without a name yet, with so many seats; and the files that the folder removes. The folder is made where
+/// it is missing, and locked.
 pub(crate) fn open_room(
     files: HostRuntime,
     dir: &str,
     seats: usize,
-) -> Result<BlankRoom<FolderJournal>, Fault>
-    ensures seats { IfOk result (λ room. room.seats ≡ seats) }
+) -> Result<(BlankRoom<FolderJournal>, Removed), Fault>
+    ensures seats { IfOk result (λ opened. opened.0.seats ≡ seats) }
     ensures faults { IfErr result (IsOpeningFault seats) }
 {
     let alloc = files.alloc();
     let shelf = DirShelf::new(files, dir)?;
+    let removed = shelf.folder().removed().share()?;
     let (journal, state, version) = match open(alloc, shelf) {
         Ok(opened) => opened,
         Err((_shelf, error)) => return Err(Fault::from(error)),
     };
     match blank_room(alloc, journal, Opening { state, version }, seats) {
-        Ok(room) => Ok(room),
+        Ok(room) => Ok((room, removed)),
         Err((_journal, error)) => Err(Fault::from(error)),
     }
 }

@@ -2,6 +2,7 @@
 
 use crate::figures::Figures;
 use crate::permits::Permits;
+use canvas_folder::Removed;
 use canvas_http::Site;
 use std::net::TcpListener;
 
@@ -34,6 +35,7 @@ pub(crate) struct Shared {
     pub(crate) page: Option<String>,
     pub(crate) figures: Figures,
     pub(crate) copies: Permits,
+    pub(crate) removed: Removed,
     pub(crate) limits: Limits,
     pub(crate) quiet: bool,
 }

@@ -19,7 +19,8 @@ use std::time::Clock;
 /// A seat that answers clients, makes checkpoints at the pace of its document, and copies the document only with a permit. Contracts
 /// see it as its seat.
 ///
-/// It has its permit until the copy has left, or its connection has ended.
+/// It has its permit until the copy has left, or its connection has ended. Once an answer has left, it closes a file that the folder has
+/// removed, if there is one.
 pub(crate) struct Seated<'a, N: RoomName, D: Drop, W: Drop> {
     answerer: SeatAnswerer<N, D, W>,
     rt: W,
@@ -118,5 +119,6 @@ where
 
     fn sent(&mut self) {
         self.rest();
+        self.shared.removed.close();
     }
 }
