@@ -5,55 +5,75 @@ use canvas_benches::{Bench, SeatOf, room_in_memory};
 use canvas_board::RoomName;
 use canvas_client::Client;
 use canvas_doc::{Kind, ObjId};
+use canvas_follow::{exchange_at, join_at};
 use canvas_front::SeatLink;
 use canvas_journal::Keeper;
 use canvas_judge::{Message, NoReason};
-use canvas_nodes::{Link, LinkError, exchange, join};
-use canvas_room::{BlankRoom, Room};
+use canvas_nodes::LinkError;
+use canvas_room::{BlankRoom, Lock, Room};
 use std::alloc::Global;
 use std::marker::Brand;
 use std::sync::Wait;
 use std::test::Fail;
 
+// A link to a seat of a room.
+type LinkOf<K, N, Q, W> = SeatLink<N, Lock<K, N, Q>, W>;
+
 // A client that has joined.
-fn joined<L: Link>(alloc: Global, link: &mut L) -> Result<Client, Fail> {
+fn joined<K: Keeper + Drop, N: RoomName, Q: Wait + Drop, W: Wait + Drop>(
+    alloc: Global,
+    link: &mut LinkOf<K, N, Q, W>,
+) -> Result<Client, Fail> {
     let mut client = Client::new(alloc)?;
-    join(&mut client, link)?;
+    join_at(&mut client, link)?;
     Ok(client)
 }
 
 // Makes two edits, and exchanges.
-fn edit<L: Link>(alloc: Global, client: &mut Client, link: &mut L) -> Result<(), Fail> {
+fn edit<K: Keeper + Drop, N: RoomName, Q: Wait + Drop, W: Wait + Drop>(
+    alloc: Global,
+    client: &mut Client,
+    link: &mut LinkOf<K, N, Q, W>,
+) -> Result<(), Fail> {
     client.create(Kind::Page, ObjId::ROOT, None)?;
     client.delete(ObjId {
         client: 1,
         counter: 1,
     })?;
     if let Some(_) = client.id() {
-        exchange(alloc, client, link)?;
+        exchange_at(alloc, client, link)?;
     }
     Ok(())
 }
 
 // The version of a client that has joined and done so, and how many of its edits wait.
-fn versions<L: Link>(alloc: Global, link: &mut L) -> Result<(u64, u64), Fail> {
+fn versions<K: Keeper + Drop, N: RoomName, Q: Wait + Drop, W: Wait + Drop>(
+    alloc: Global,
+    link: &mut LinkOf<K, N, Q, W>,
+) -> Result<(u64, u64), Fail> {
     let mut client = joined(alloc, link)?;
     edit(alloc, &mut client, link)?;
     Ok((client.version(), client.unacknowledged()))
 }
 
 // What is refused to a client of a room that has seen nothing of it.
-fn refused<L: Link>(alloc: Global, link: &mut L) -> Result<Option<LinkError>, Fail> {
+fn refused<K: Keeper + Drop, N: RoomName, Q: Wait + Drop, W: Wait + Drop>(
+    alloc: Global,
+    link: &mut LinkOf<K, N, Q, W>,
+) -> Result<Option<LinkError>, Fail> {
     let mut client = Client::new(alloc)?;
     client.receive(&Message::<Global>::Welcome(7))?;
     match client.id() {
-        Some(_) => Ok(exchange(alloc, &mut client, link).err()),
+        Some(_) => Ok(exchange_at(alloc, &mut client, link).err()),
         None => Ok(None),
     }
 }
 
 // Whether after an exchange nothing waits, and the client is at version 3; and whether a stranger is refused.
-fn exchanges_over<L: Link>(alloc: Global, link: &mut L) -> Result<bool, Fail> {
+fn exchanges_over<K: Keeper + Drop, N: RoomName, Q: Wait + Drop, W: Wait + Drop>(
+    alloc: Global,
+    link: &mut LinkOf<K, N, Q, W>,
+) -> Result<bool, Fail> {
     let versions = versions(alloc, link)?;
     let stranger = refused(alloc, link)?;
     Ok(versions == (3, 0) && stranger == Some(LinkError::Refused(NoReason::Stranger)))

@@ -1,0 +1,20 @@
+use Rattle.canvas_follow.proofs.Heard.{heard_one}
+use Rattle.canvas_follow.proofs.Making.{follows_edited}
+use Rattle.canvas_follow.proofs.Crashes.{new_room_opens}
+use Rattle.canvas_follow.proofs.Headlines.{agree, headline}
+use Rattle.canvas_follow.proofs.laws.every_follower.Goals as goal
+
+pub returns-clause-truths : goal.returns-clause-truths
+returns-clause-truths c = λ log legal id edits all old f m is new h. heard_one c.every_log.ensures.sound c.every_view.ensures.taken c.every_told_entry.ensures log legal id edits all old f m is new h
+
+pub returns-clause-edits : goal.returns-clause-edits
+returns-clause-edits c = λ log legal id edits old f request change makes. follows_edited c.every_log.ensures.sound c.every_view.ensures.edited log legal id edits old f request change makes
+
+pub returns-clause-shows : goal.returns-clause-shows
+returns-clause-shows c = headline
+
+pub returns-clause-agree : goal.returns-clause-agree
+returns-clause-agree c = agree
+
+pub returns-clause-opens : goal.returns-clause-opens
+returns-clause-opens c = new_room_opens

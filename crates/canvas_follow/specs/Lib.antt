@@ -1,0 +1,4 @@
+pub mod Follows
+pub mod Histories
+pub mod Exchanges
+pub mod Laws
