@@ -1,0 +1,86 @@
+-- What each call answers, and what it leaves.
+use Rattle.std.specs.Prelude.{◌≡◌, ℕ, ◌<◌, ◌≤◌, ◌++◌, ◌⊎◌, List, [], length, drop, Option, Some, None}
+use Rattle.canvas_model.specs.declared.ObjId.{ObjId}
+use Rattle.canvas_model.specs.Client.{Client, new_client}
+use Rattle.canvas_model.specs.Local.{Target, Move, Delete}
+use Rattle.canvas_model.specs.Messages.{Join}
+use Rattle.canvas_client.specs.Asked.{HasMade, IsRefusal, StandsStill, refusal}
+use Rattle.canvas_wire.specs.Text.{EncodesMessage, IsMessageError}
+use Rattle.canvas_wire.specs.declared.fault.WireError.{WireError}
+use Rattle.canvas_embed.specs.declared.heard.Heard.{Heard}
+use Rattle.canvas_embed.specs.Edits.{HasCleared, HasCreatedKind, HasSet}
+use Rattle.canvas_embed.specs.Faults.{IsClearError, IsCreateError, IsSetError}
+use Rattle.canvas_embed.specs.Messages.{HasHeard, IsAskText, IsEditText}
+use Rattle.canvas_embed.specs.Trees.{IsTreeText}
+use Rattle.canvas_c.specs.declared.ids.ObjectId.{ObjectId}
+use Rattle.canvas_c.specs.declared.session.Session.{Session}
+use Rattle.canvas_c.specs.Ids.{told}
+use Rattle.canvas_c.specs.Numbers.{done, memory, held, nothing, no_room, no_client, edit_number, create_number, set_number, clear_number, wire_number, heard_number}
+
+-- a client without an id, and nothing is left to be read
+abbrev pub IsNew : Session → Type 0
+IsNew s = (s.client ≡ new_client) × (s.left.items ≡ [])
+
+-- a new session is held; or one was held already, or memory was refused, and nothing has changed
+abbrev pub NewAnswer : ℕ → Option Session → Option Session → Type 0
+NewAnswer n None (Some new) = (n ≡ done) × IsNew new
+NewAnswer n None None = n ≡ memory
+NewAnswer n (Some old) new = (n ≡ held) × (new ≡ Some old)
+
+-- the session that was held has ended, or none was held
+abbrev pub FreeAnswer : ℕ → Option Session → Option Session → Type 0
+FreeAnswer n (Some old) new = (n ≡ done) × (new ≡ None)
+FreeAnswer n None new = (n ≡ no_client) × (new ≡ None)
+
+-- the bytes are a text of a message, and that is what the client has received and what is told; or they are none, this is why, and nothing
+-- has changed
+abbrev pub ReceiveAnswer : List ℕ → ℕ → Session → Session → Type 0
+ReceiveAnswer bytes n old new =
+    ((heard : Heard) × (n ≡ heard_number heard) × HasHeard old.client bytes heard new.client × (new.left ≡ old.left))
+    ⊎ ((e : WireError) × (n ≡ wire_number e) × IsMessageError bytes e × (new ≡ old))
+
+-- the client has made the edit, and stands where it stood; or this is why it hasn't, and nothing has changed
+abbrev pub EditAnswer : {E : Type 0} → (E → ℕ) → (Client → Client → Type 0) → (Client → E → Type 0) → ℕ → Session → Session → Type 0
+EditAnswer {E} number Made IsError n old new =
+    ((n ≡ done) × Made old.client new.client × StandsStill old.client new.client × (new.left ≡ old.left))
+    ⊎ ((e : E) × (n ≡ number e) × IsError old.client e × (new ≡ old))
+
+-- the same of a creation: `made` is the id that the object got, or as it was
+abbrev pub CreateAnswer : ℕ → Target → ObjectId → ObjectId → ℕ → Session → Session → Type 0
+CreateAnswer kind target was made =
+    EditAnswer create_number (λ old new. HasCreatedKind old kind target (told made) new) (λ old e. IsCreateError old kind target e × (made ≡ was))
+
+abbrev pub SetAnswer : ObjId → List ℕ → List ℕ → ℕ → Session → Session → Type 0
+SetAnswer id name json = EditAnswer set_number (λ old new. HasSet old id name json new) (λ old e. IsSetError old id name json e)
+
+abbrev pub ClearAnswer : ObjId → List ℕ → ℕ → Session → Session → Type 0
+ClearAnswer id name = EditAnswer clear_number (λ old new. HasCleared old id name new) (λ old e. IsClearError old id name e)
+
+abbrev pub MoveAnswer : ObjId → Target → ℕ → Session → Session → Type 0
+MoveAnswer id target = EditAnswer edit_number (λ old new. HasMade old (Move id target) new) (λ old e. IsRefusal old (Move id target) (refusal e))
+
+abbrev pub DeleteAnswer : ObjId → ℕ → Session → Session → Type 0
+DeleteAnswer id = EditAnswer edit_number (λ old new. HasMade old (Delete id) new) (λ old e. IsRefusal old (Delete id) (refusal e))
+
+-- the text is left; or there is none, and this is why; or memory was refused. The client is as it was, and unless a text is left, all is
+abbrev pub TextAnswer : (List ℕ → Type 0) → Type 0 → ℕ → Session → Session → Type 0
+TextAnswer IsText IsNone n old new =
+    ((n ≡ done) × IsText new.left.items × (new.client ≡ old.client)) ⊎ (((n ≡ nothing) × IsNone × (new ≡ old)) ⊎ ((n ≡ memory) × (new ≡ old)))
+
+abbrev pub JoinAnswer : ℕ → Session → Session → Type 0
+JoinAnswer n old new = TextAnswer (λ text. EncodesMessage text Join) ⊥ n old new
+
+abbrev pub AskAnswer : ℕ → Session → Session → Type 0
+AskAnswer n old new = TextAnswer (IsAskText old.client) (old.client.id ≡ None) n old new
+
+-- i counts the edits that wait from 1
+abbrev pub WaitingAnswer : ℕ → ℕ → Session → Session → Type 0
+WaitingAnswer i n old new = TextAnswer (IsEditText old.client i) (0 < i → i ≤ length old.client.waiting → ⊥) n old new
+
+abbrev pub TreeAnswer : ℕ → Session → Session → Type 0
+TreeAnswer n old new = TextAnswer (IsTreeText old.client) ⊥ n old new
+
+-- what was left stands at the start of the room, and behind it the room is as it was; or it is longer than the room, which is as it was
+abbrev pub ReadAnswer : List ℕ → List ℕ → ℕ → Session → Session → Type 0
+ReadAnswer was room n old new =
+    (new ≡ old) × (((n ≡ done) × (room ≡ old.left.items ++ drop (length old.left.items) was)) ⊎ ((n ≡ no_room) × (length was < length old.left.items) × (room ≡ was)))

@@ -1,0 +1,324 @@
+//! The client for programs in C and in whatever calls C: a handle that they hold, and a call for each thing that it does.
+//!
+//! `clients/c/lugcurrant.h` declares these calls, and says what each number means. No call can be made to fail: whatever the handle's
+//! mark, the bytes and the numbers are, it answers, and its contract says what then holds.
+#![tactic(auto)]
+
+ghost use Rattle.std.specs.Prelude.{◌≡◌, IfOk, length};
+ghost use Rattle.std.specs.Option.{unwrap_or};
+ghost use Rattle.canvas_c.specs.Answers.{AskAnswer, ClearAnswer, CreateAnswer, DeleteAnswer, FreeAnswer, IsNew, JoinAnswer, MoveAnswer, NewAnswer, ReadAnswer, ReceiveAnswer, SetAnswer, TreeAnswer, WaitingAnswer};
+ghost use Rattle.canvas_c.specs.Held.{OnHeld};
+ghost use Rattle.canvas_c.specs.Ids.{object, target_of};
+ghost use Rattle.canvas_c.specs.Numbers.{no_client};
+
+mod handle;
+mod ids;
+mod kept;
+mod numbers;
+mod parked;
+mod session;
+
+use canvas_doc::ObjId;
+use handle::Handle;
+use ids::{ObjectId, after_of};
+use numbers::{DONE, HELD, MEMORY, NO_CLIENT};
+use session::Session;
+use std::alloc::{AllocError, Global};
+
+/// Makes a client without an id, which shows the root alone.
+#[unsafe(no_mangle)]
+pub extern "C" fn lugcurrant_new(handle: &mut Handle, alloc: Global) -> u32
+    ensures { NewAnswer result handle.old.kept.session handle.new.kept.session }
+{
+    if !handle.is_empty() {
+        return HELD;
+    }
+    match boxed(alloc) {
+        Ok(session) => {
+            handle.put(session);
+            DONE
+        }
+        Err(_) => MEMORY,
+    }
+}
+
+// A new session in a box.
+fn boxed(alloc: Global) -> Result<Box<Session>, AllocError>
+    ensures { IfOk result (λ session. IsNew session.value) }
+{
+    let session = Session::new(alloc)?;
+    match Box::new(alloc, session) {
+        Ok(held) => Ok(held),
+        Err(_) => Err(AllocError),
+    }
+}
+
+/// Ends the client, with all that waits.
+#[unsafe(no_mangle)]
+pub extern "C" fn lugcurrant_free(handle: &mut Handle, alloc: Global) -> u32
+    ensures { FreeAnswer result handle.old.kept.session handle.new.kept.session }
+{
+    match handle.take(alloc) {
+        Some(session) => {
+            drop(session);
+            DONE
+        }
+        None => NO_CLIENT,
+    }
+}
+
+/// The client's id, or 0 while it has none or there is no client.
+#[unsafe(no_mangle)]
+pub extern "C" fn lugcurrant_id(handle: &mut Handle, alloc: Global) -> u32
+    ensures { OnHeld (λ old new. (new ≡ old) × (result ≡ unwrap_or old.client.id 0)) (result ≡ 0) handle.old.kept.session handle.new.kept.session }
+{
+    let Some(session) = handle.take(alloc) else {
+        return 0;
+    };
+    let answer = session.client.id().unwrap_or(0);
+    handle.put(session);
+    answer
+}
+
+/// The version that it has reached; 0 where there is no client.
+#[unsafe(no_mangle)]
+pub extern "C" fn lugcurrant_version(handle: &mut Handle, alloc: Global) -> u64
+    ensures { OnHeld (λ old new. (new ≡ old) × (result ≡ old.client.version)) (result ≡ 0) handle.old.kept.session handle.new.kept.session }
+{
+    let Some(session) = handle.take(alloc) else {
+        return 0;
+    };
+    let answer = session.client.version();
+    handle.put(session);
+    answer
+}
+
+/// The number of its last edit of which it has taken the entry; 0 where there is no client.
+#[unsafe(no_mangle)]
+pub extern "C" fn lugcurrant_acknowledged(handle: &mut Handle, alloc: Global) -> u64
+    ensures { OnHeld (λ old new. (new ≡ old) × (result ≡ old.client.acknowledged)) (result ≡ 0) handle.old.kept.session handle.new.kept.session }
+{
+    let Some(session) = handle.take(alloc) else {
+        return 0;
+    };
+    let answer = session.client.acknowledged();
+    handle.put(session);
+    answer
+}
+
+/// How many of its edits wait; 0 where there is no client.
+#[unsafe(no_mangle)]
+pub extern "C" fn lugcurrant_waiting(handle: &mut Handle, alloc: Global) -> u64
+    ensures { OnHeld (λ old new. (new ≡ old) × (result ≡ length old.client.waiting)) (result ≡ 0) handle.old.kept.session handle.new.kept.session }
+{
+    let Some(session) = handle.take(alloc) else {
+        return 0;
+    };
+    let answer = session.client.unacknowledged();
+    handle.put(session);
+    answer
+}
+
+/// Receives one message.
+#[unsafe(no_mangle)]
+pub extern "C" fn lugcurrant_receive(handle: &mut Handle, alloc: Global, bytes: &[u8]) -> u32
+    ensures { OnHeld (ReceiveAnswer bytes.now result) (result ≡ no_client) handle.old.kept.session handle.new.kept.session }
+{
+    let Some(mut session) = handle.take(alloc) else {
+        return NO_CLIENT;
+    };
+    let answer = session.receive(alloc, bytes);
+    handle.put(session);
+    answer
+}
+
+/// Creates an object of the kind of this number under the parent, after a child of it, or first where that is 0:0.
+#[unsafe(no_mangle)]
+pub extern "C" fn lugcurrant_create(
+    handle: &mut Handle,
+    alloc: Global,
+    kind: u32,
+    parent_client: u32,
+    parent_counter: u32,
+    after_client: u32,
+    after_counter: u32,
+    made: &mut ObjectId,
+) -> u32
+    ensures { OnHeld (CreateAnswer kind (target_of parent_client parent_counter after_client after_counter) made.old made.new result) ((result ≡ no_client) × (made.new ≡ made.old)) handle.old.kept.session handle.new.kept.session }
+{
+    let Some(mut session) = handle.take(alloc) else {
+        return NO_CLIENT;
+    };
+    let parent = ObjId {
+        client: parent_client,
+        counter: parent_counter,
+    };
+    let answer = session.create(kind, parent, after_of(after_client, after_counter), made);
+    handle.put(session);
+    answer
+}
+
+/// Gives a property of the object the value of which the bytes are the JSON.
+#[unsafe(no_mangle)]
+pub extern "C" fn lugcurrant_set(
+    handle: &mut Handle,
+    alloc: Global,
+    client: u32,
+    counter: u32,
+    name: &[u8],
+    json: &[u8],
+) -> u32
+    ensures { OnHeld (SetAnswer (object client counter) name.now json.now result) (result ≡ no_client) handle.old.kept.session handle.new.kept.session }
+{
+    let Some(mut session) = handle.take(alloc) else {
+        return NO_CLIENT;
+    };
+    let id = ObjId { client, counter };
+    let answer = session.set(alloc, id, name, json);
+    handle.put(session);
+    answer
+}
+
+/// Takes a property of the object away.
+#[unsafe(no_mangle)]
+pub extern "C" fn lugcurrant_clear(
+    handle: &mut Handle,
+    alloc: Global,
+    client: u32,
+    counter: u32,
+    name: &[u8],
+) -> u32
+    ensures { OnHeld (ClearAnswer (object client counter) name.now result) (result ≡ no_client) handle.old.kept.session handle.new.kept.session }
+{
+    let Some(mut session) = handle.take(alloc) else {
+        return NO_CLIENT;
+    };
+    let id = ObjId { client, counter };
+    let answer = session.clear(alloc, id, name);
+    handle.put(session);
+    answer
+}
+
+/// Moves the object under the parent, after a child of it, or first where that is 0:0.
+#[unsafe(no_mangle)]
+pub extern "C" fn lugcurrant_move(
+    handle: &mut Handle,
+    alloc: Global,
+    client: u32,
+    counter: u32,
+    parent_client: u32,
+    parent_counter: u32,
+    after_client: u32,
+    after_counter: u32,
+) -> u32
+    ensures { OnHeld (MoveAnswer (object client counter) (target_of parent_client parent_counter after_client after_counter) result) (result ≡ no_client) handle.old.kept.session handle.new.kept.session }
+{
+    let Some(mut session) = handle.take(alloc) else {
+        return NO_CLIENT;
+    };
+    let id = ObjId { client, counter };
+    let parent = ObjId {
+        client: parent_client,
+        counter: parent_counter,
+    };
+    let answer = session.move_to(id, parent, after_of(after_client, after_counter));
+    handle.put(session);
+    answer
+}
+
+/// Removes the object; what lies below it is shown no more.
+#[unsafe(no_mangle)]
+pub extern "C" fn lugcurrant_delete(
+    handle: &mut Handle,
+    alloc: Global,
+    client: u32,
+    counter: u32,
+) -> u32
+    ensures { OnHeld (DeleteAnswer (object client counter) result) (result ≡ no_client) handle.old.kept.session handle.new.kept.session }
+{
+    let Some(mut session) = handle.take(alloc) else {
+        return NO_CLIENT;
+    };
+    let id = ObjId { client, counter };
+    let answer = session.delete(id);
+    handle.put(session);
+    answer
+}
+
+/// Leaves the text of a Join.
+#[unsafe(no_mangle)]
+pub extern "C" fn lugcurrant_join(handle: &mut Handle, alloc: Global) -> u32
+    ensures { OnHeld (JoinAnswer result) (result ≡ no_client) handle.old.kept.session handle.new.kept.session }
+{
+    let Some(mut session) = handle.take(alloc) else {
+        return NO_CLIENT;
+    };
+    let answer = session.join(alloc);
+    handle.put(session);
+    answer
+}
+
+/// Leaves the text that asks for what came after the client's version; there is none while it has no id.
+#[unsafe(no_mangle)]
+pub extern "C" fn lugcurrant_ask(handle: &mut Handle, alloc: Global) -> u32
+    ensures { OnHeld (AskAnswer result) (result ≡ no_client) handle.old.kept.session handle.new.kept.session }
+{
+    let Some(mut session) = handle.take(alloc) else {
+        return NO_CLIENT;
+    };
+    let answer = session.ask(alloc);
+    handle.put(session);
+    answer
+}
+
+/// Leaves the text of the i-th edit that waits, counted from 1.
+#[unsafe(no_mangle)]
+pub extern "C" fn lugcurrant_edit(handle: &mut Handle, alloc: Global, i: u64) -> u32
+    ensures { OnHeld (WaitingAnswer i result) (result ≡ no_client) handle.old.kept.session handle.new.kept.session }
+{
+    let Some(mut session) = handle.take(alloc) else {
+        return NO_CLIENT;
+    };
+    let answer = session.waiting(alloc, i);
+    handle.put(session);
+    answer
+}
+
+/// Leaves the text of the tree that the client shows.
+#[unsafe(no_mangle)]
+pub extern "C" fn lugcurrant_tree(handle: &mut Handle, alloc: Global) -> u32
+    ensures { OnHeld (TreeAnswer result) (result ≡ no_client) handle.old.kept.session handle.new.kept.session }
+{
+    let Some(mut session) = handle.take(alloc) else {
+        return NO_CLIENT;
+    };
+    let answer = session.tree(alloc);
+    handle.put(session);
+    answer
+}
+
+/// How many bytes were left; 0 where there is no client.
+#[unsafe(no_mangle)]
+pub extern "C" fn lugcurrant_length(handle: &mut Handle, alloc: Global) -> usize
+    ensures { OnHeld (λ old new. (new ≡ old) × (result ≡ length old.left.items)) (result ≡ 0) handle.old.kept.session handle.new.kept.session }
+{
+    let Some(session) = handle.take(alloc) else {
+        return 0;
+    };
+    let length = session.left.len();
+    handle.put(session);
+    length
+}
+
+/// Copies the bytes that were left to the start of the room, where they fit.
+#[unsafe(no_mangle)]
+pub extern "C" fn lugcurrant_read(handle: &mut Handle, alloc: Global, room: &mut [u8]) -> u32
+    ensures { OnHeld (ReadAnswer room.old room.new result) ((result ≡ no_client) × (room.new ≡ room.old)) handle.old.kept.session handle.new.kept.session }
+{
+    let Some(mut session) = handle.take(alloc) else {
+        return NO_CLIENT;
+    };
+    let answer = session.read(room);
+    handle.put(session);
+    answer
+}

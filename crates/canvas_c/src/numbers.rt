@@ -1,0 +1,125 @@
+// The numbers that calls answer.
+ghost use Rattle.std.specs.Prelude.{◌≡◌};
+ghost use Rattle.canvas_c.specs.Numbers.{clear_number, create_number, edit_number, heard_number, name_number, received_number, set_number, value_number, wire_number};
+
+use canvas_client::{EditError, Received};
+use canvas_embed::{ClearError, CreateError, Heard, SetError, ValueError};
+use canvas_value::NameError;
+use canvas_wire::WireError;
+
+// The call has done what it is for.
+pub(crate) const DONE: u32 = 0;
+
+// Memory was refused.
+pub(crate) const MEMORY: u32 = 10;
+
+// The handle holds no client.
+pub(crate) const NO_CLIENT: u32 = 20;
+
+// The handle holds a client already.
+pub(crate) const HELD: u32 = 21;
+
+// There is no such text.
+pub(crate) const NOTHING: u32 = 22;
+
+// The room is too small.
+pub(crate) const NO_ROOM: u32 = 23;
+
+// Why the client refuses an edit.
+pub(crate) fn edit_number(error: EditError) -> u32
+    ensures { result ≡ edit_number error }
+{
+    error.number() as u32
+}
+
+// Why bytes are no name.
+fn name_number(error: NameError) -> u32
+    ensures { result ≡ name_number error }
+{
+    match error {
+        NameError::Empty => 30,
+        NameError::TooLong => 31,
+        NameError::BadByte => 32,
+        NameError::Memory => MEMORY,
+    }
+}
+
+// Why bytes are the JSON of no value.
+fn value_number(error: ValueError) -> u32
+    ensures { result ≡ value_number error }
+{
+    match error {
+        ValueError::NotJson => 40,
+        ValueError::NotAValue => 41,
+        ValueError::OutOfRange => 43,
+        ValueError::TooDeep => 44,
+        ValueError::Memory => MEMORY,
+    }
+}
+
+// Why bytes are the text of no message.
+pub(crate) fn wire_number(error: WireError) -> u32
+    ensures { result ≡ wire_number error }
+{
+    match error {
+        WireError::NotJson => 40,
+        WireError::NotAMessage => 42,
+        WireError::OutOfRange => 43,
+        WireError::TooDeep => 44,
+        WireError::Memory => MEMORY,
+    }
+}
+
+// Why nothing is created.
+pub(crate) fn create_number(error: CreateError) -> u32
+    ensures { result ≡ create_number error }
+{
+    match error {
+        CreateError::NoKind => 24,
+        CreateError::Edit(error) => edit_number(error),
+    }
+}
+
+// Why no property is set.
+pub(crate) fn set_number(error: SetError) -> u32
+    ensures { result ≡ set_number error }
+{
+    match error {
+        SetError::Name(error) => name_number(error),
+        SetError::Value(error) => value_number(error),
+        SetError::Edit(error) => edit_number(error),
+    }
+}
+
+// Why no property is taken away.
+pub(crate) fn clear_number(error: ClearError) -> u32
+    ensures { result ≡ clear_number error }
+{
+    match error {
+        ClearError::Name(error) => name_number(error),
+        ClearError::Edit(error) => edit_number(error),
+    }
+}
+
+// What the client did with a message.
+fn received_number(received: Received) -> u32
+    ensures { result ≡ received_number received }
+{
+    match received {
+        Received::Took => 50,
+        Received::Old => 51,
+        Received::Ahead => 52,
+        Received::NotForMe => 53,
+    }
+}
+
+// What was heard of the server.
+pub(crate) fn heard_number(heard: Heard) -> u32
+    ensures { result ≡ heard_number heard }
+{
+    match heard {
+        Heard::Received(received) => received_number(received),
+        Heard::Idle => 54,
+        Heard::No(reason) => 60 + reason.number() as u32,
+    }
+}
