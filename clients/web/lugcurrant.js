@@ -1,0 +1,512 @@
+// The client of a Lugcurrant document for JavaScript, over the WebAssembly module of the proved client: an ES module for browsers,
+// workers and node 20, without dependencies. Types stand in lugcurrant.d.ts, what is proved and what is trusted in README.md.
+//
+// All merging is done by the module. What stands here passes numbers and bytes, reads the tree's text, and keeps a connection.
+
+export const ROOT = '0:0';
+export const KINDS = Object.freeze({ page: 1, frame: 2, shape: 3, text: 4 });
+
+const DONE = 0, MEMORY = 10, NONE = 22;
+const HANDLE_BYTES = 16, ID_BYTES = 8, FIRST_ROOM = 1024;
+
+// What a call answers that isn't done: a name, and what it means.
+const FAULTS = new Map([
+  [1, ['NotOpen', 'the server has not given this client an id yet']],
+  [2, ['NotShown', 'the object is not shown any more']],
+  [3, ['ParentNotShown', 'what it would stand in is not shown any more']],
+  [4, ['BadParent', 'such an object may not stand there']],
+  [5, ['OwnDescendant', 'an object can not stand in itself']],
+  [6, ['Crowded', 'there is no room left at this place']],
+  [7, ['IsRoot', 'the document itself can not be moved or deleted']],
+  [8, ['IdsSpent', 'this client can create no more objects']],
+  [9, ['Full', 'this client can make no more edits']],
+  [MEMORY, ['Memory', 'there is no memory left']],
+  [11, ['TooDeep', 'objects stand at most 100 deep']],
+  [20, ['NoClient', 'this client was freed']],
+  [23, ['NoRoom', 'the room is smaller than the bytes']],
+  [24, ['NoKind', 'an object is a page, a frame, a shape or a text']],
+  [30, ['NameEmpty', 'the name of a property is empty']],
+  [31, ['NameTooLong', 'the name of a property has more than 32 bytes']],
+  [32, ['NameBadByte', 'the name of a property is of a to z, 0 to 9 and _']],
+  [40, ['NotJson', 'this is no JSON']],
+  [41, ['NotAValue', 'this is no value of a property']],
+  [42, ['NotAMessage', 'this is no message']],
+  [43, ['OutOfRange', 'a number is out of its range']],
+  [44, ['ValueTooDeep', 'lists stand at most 16 deep in one another']],
+]);
+const HEARD = new Map([[50, 'took'], [51, 'old'], [52, 'ahead'], [53, 'not for me'], [54, 'idle']]);
+const NO = 60;
+
+// The reasons of a No, and those for which the server refuses an edit: by their numbers, a name and what it means.
+export const NO_REASONS = Object.freeze({
+  1: ['stranger', 'the server does not know this client'],
+  3: ['gap', 'an edit before this one is missing'],
+  4: ['full', 'the server can take no more edits'],
+  5: ['disk failed', "the server's disk failed"],
+  6: ['disk failed before', "the server's disk failed before"],
+  7: ['no memory', 'the server has no memory for this now'],
+  8: ['too large', 'the edit is too large for the server'],
+  9: ['unreadable', 'the server can not read what was sent'],
+});
+export const REFUSALS = Object.freeze({
+  1: ['IsRoot', 'the document itself can not be moved or deleted'],
+  2: ['BadId', 'the id was used before'],
+  3: ['Gone', 'the object was deleted meanwhile'],
+  4: ['ParentGone', 'what it would stand in was deleted meanwhile'],
+  5: ['BadParent', 'such an object may not stand there'],
+  6: ['Cycle', 'somebody moved the other one into it first'],
+  7: ['Crowded', 'there is no room left at this place'],
+  8: ['TooDeep', 'objects stand at most 100 deep'],
+});
+
+// Why a call did nothing: `code` is the name, and the message says it in words.
+export class ClientError extends Error {
+  constructor(number) {
+    const [code, words] = FAULTS.get(number) ?? ['Unknown', `the module answered ${number}`];
+    super(words);
+    this.name = 'ClientError';
+    this.code = code;
+    this.number = number;
+  }
+}
+
+// A colour, 8 bits each for red, green, blue and how opaque it is.
+export class Colour {
+  constructor(rgba) {
+    if (!Number.isInteger(rgba) || rgba < 0 || rgba > 0xffffffff) throw new RangeError('a colour is a number of 32 bits');
+    this.rgba = rgba;
+    Object.freeze(this);
+  }
+  static of(hex) {
+    const digits = /^#([0-9a-f]{6})([0-9a-f]{2})?$/i.exec(hex);
+    if (!digits) throw new RangeError('a colour is written #rrggbb or #rrggbbaa');
+    return new Colour(parseInt(digits[1] + (digits[2] ?? 'ff'), 16));
+  }
+  toString() { return `#${this.rgba.toString(16).padStart(8, '0')}`; }
+}
+
+// A number of 64 bits as a number where it fits, and else as a BigInt.
+function fitted(big) {
+  const number = Number(big);
+  return Number.isSafeInteger(number) ? number : big;
+}
+
+// The JSON of a value: whole numbers, BigInts, truth values, texts, colours, and lists of values.
+export function valueText(value) {
+  switch (typeof value) {
+    case 'number':
+      if (!Number.isSafeInteger(value)) throw new TypeError('a number of a property is whole; a large one is a BigInt');
+      return String(value === 0 ? 0 : value);
+    case 'bigint': return String(value);
+    case 'boolean': return String(value);
+    case 'string': return JSON.stringify(value);
+    default:
+      if (value instanceof Colour) return `["rgba",${value.rgba}]`;
+      if (Array.isArray(value)) return `[${['"list"', ...value.map(valueText)].join(',')}]`;
+      throw new TypeError('a value is a whole number, a truth value, a text, a colour or a list of values');
+  }
+}
+
+// The value of which this is the JSON. Numbers that don't fit are set in marked lists first, as JSON.parse would round them.
+export function readValue(text) {
+  const kept = /\d{16}/.test(text)
+    ? text.replace(/"(?:[^"\\]|\\.)*"|-?\d+/g, (part) => part[0] === '"' || Number.isSafeInteger(Number(part)) ? part : `["big","${part}"]`)
+    : text;
+  return valueOf(JSON.parse(kept));
+}
+
+function valueOf(json) {
+  if (!Array.isArray(json)) return json;
+  if (json[0] === 'rgba') return new Colour(json[1]);
+  if (json[0] === 'big') return BigInt(json[1]);
+  return json.slice(1).map(valueOf);
+}
+
+// An id's two numbers.
+function numbersOf(id) {
+  const parts = /^(\d{1,10}):(\d{1,10})$/.exec(id);
+  if (!parts || Number(parts[1]) > 0xffffffff || Number(parts[2]) > 0xffffffff) throw new TypeError(`an id is written client:counter, and ${id} is none`);
+  return [Number(parts[1]), Number(parts[2])];
+}
+
+const utf8 = new TextEncoder(), fromUtf8 = new TextDecoder();
+const bytesOf = (text) => typeof text === 'string' ? utf8.encode(text) : text;
+
+// The compiled module, out of its bytes or the answer to a request for it.
+export async function compile(source) {
+  const given = await source;
+  if (given instanceof WebAssembly.Module) return given;
+  if (!(given instanceof Response)) return WebAssembly.compile(given);
+  if (!given.ok) throw new Error(`the module can not be had: ${given.url} is answered ${given.status}`);
+  return WebAssembly.compileStreaming(given);
+}
+
+export class Client {
+  #calls; #handle; #made; #buffer; #room;
+  #objects = null;                  // the tree of the client as it is now, once it was read
+  #told = new Map();                // that of the last `changed`
+
+  // A client without an id, of the module's bytes, of the answer to a request for it, or of the compiled module.
+  static async load(source) {
+    return new Client((await WebAssembly.instantiate(await compile(source), {})).exports);
+  }
+
+  constructor(exports) {
+    this.#calls = exports;
+    this.#handle = this.#take(HANDLE_BYTES);
+    this.#made = this.#take(ID_BYTES);
+    this.#buffer = this.#take(FIRST_ROOM);
+    this.#room = FIRST_ROOM;
+    this.#bytes(this.#handle, HANDLE_BYTES).fill(0);
+    this.#need(exports.lugcurrant_new(this.#handle));
+  }
+
+  // Ends the client, with all that waits.
+  free() { this.#need(this.#calls.lugcurrant_free(this.#handle)); this.#objects = null; }
+
+  // Its id, or null while it has none; the version that it has reached; its last edit of which it has the entry; how many wait.
+  get id() { return this.#calls.lugcurrant_id(this.#handle) >>> 0 || null; }
+  get version() { return fitted(BigInt.asUintN(64, this.#calls.lugcurrant_version(this.#handle))); }
+  get acknowledged() { return fitted(BigInt.asUintN(64, this.#calls.lugcurrant_acknowledged(this.#handle))); }
+  get waiting() { return fitted(BigInt.asUintN(64, this.#calls.lugcurrant_waiting(this.#handle))); }
+  // The bytes of memory that the module has, and those that are in use.
+  get memory() { return this.#calls.memory.buffer.byteLength; }
+  get memoryInUse() { return Number(this.#calls.memory_in_use()); }
+
+  // Receives a message, and tells what came of it: { what: 'took' | 'old' | 'ahead' | 'not for me' | 'idle' }, or { what: 'no', reason }.
+  receive(message) {
+    const [at, length] = this.#write(bytesOf(message));
+    const answer = this.#calls.lugcurrant_receive(this.#handle, at, length) >>> 0;
+    if (answer > NO && answer < NO + 10) return { what: 'no', reason: answer - NO };
+    const what = HEARD.get(answer);
+    if (!what) throw new ClientError(answer);
+    if (what === 'took') this.#objects = null;
+    return { what };
+  }
+
+  // Creates an object in the parent, behind its child `after` or as the first, and answers its id.
+  create(kind, parent, after = null) {
+    const [client, counter] = numbersOf(parent), [afterClient, afterCounter] = numbersOf(after ?? ROOT);
+    this.#edited(this.#calls.lugcurrant_create(this.#handle, KINDS[kind] ?? 0, client, counter, afterClient, afterCounter, this.#made));
+    const made = new DataView(this.#calls.memory.buffer, Number(this.#made), ID_BYTES);
+    return `${made.getUint32(0, true)}:${made.getUint32(4, true)}`;
+  }
+
+  set(id, name, value) { this.setJson(id, name, valueText(value)); }
+
+  // The same with the JSON of the value.
+  setJson(id, name, json) {
+    const [client, counter] = numbersOf(id), first = bytesOf(name), second = bytesOf(json);
+    const both = new Uint8Array(first.length + second.length);
+    both.set(first);
+    both.set(second, first.length);
+    const [at] = this.#write(both), begin = BigInt(first.length);
+    this.#edited(this.#calls.lugcurrant_set(this.#handle, client, counter, at, begin, at + begin, BigInt(second.length)));
+  }
+
+  clear(id, name) {
+    const [client, counter] = numbersOf(id), [at, length] = this.#write(bytesOf(name));
+    this.#edited(this.#calls.lugcurrant_clear(this.#handle, client, counter, at, length));
+  }
+
+  // Moves the object into the parent, behind its child `after` or as the first.
+  move(id, parent, after = null) {
+    const [client, counter] = numbersOf(id), [intoClient, intoCounter] = numbersOf(parent), [afterClient, afterCounter] = numbersOf(after ?? ROOT);
+    this.#edited(this.#calls.lugcurrant_move(this.#handle, client, counter, intoClient, intoCounter, afterClient, afterCounter));
+  }
+
+  delete(id) {
+    const [client, counter] = numbersOf(id);
+    this.#edited(this.#calls.lugcurrant_delete(this.#handle, client, counter));
+  }
+
+  // What is sent: to get an id; to hear what is new, null while there is no id; the i-th edit that waits, null where so many don't.
+  joinMessage() { return this.#left(this.#calls.lugcurrant_join(this.#handle)); }
+  askMessage() { return this.#left(this.#calls.lugcurrant_ask(this.#handle)); }
+  editMessage(i) { return this.#left(this.#calls.lugcurrant_edit(this.#handle, BigInt(i))); }
+
+  // All edits that wait, in order.
+  *messages() {
+    for (let i = 1n, message; (message = this.editMessage(i)); i += 1n) yield message;
+  }
+
+  // The tree that the client shows as text, as `lugcurrant show` prints it.
+  text() { return fromUtf8.decode(this.#left(this.#calls.lugcurrant_tree(this.#handle))); }
+
+  // The objects of the tree by their ids, each before its children. They are read out of the text once after each change.
+  objects() { return (this.#objects ??= readTree(this.text())); }
+  object(id) { return this.objects().get(id) ?? null; }
+  children(id) { return this.object(id)?.children ?? []; }
+  tree() { return this.object(ROOT); }
+
+  // What has become other in the tree since the last call: objects that are new or changed, each before its children, and ids that are gone.
+  changed() {
+    const now = this.objects(), before = this.#told;
+    const put = [...now.values()].filter((object) => before.get(object.id)?.text !== object.text);
+    const gone = [...before.keys()].filter((id) => !now.has(id));
+    this.#told = now;
+    return { put, gone };
+  }
+
+  #need(answer) { if (answer !== DONE) throw new ClientError(answer >>> 0); }
+  #edited(answer) { this.#need(answer); this.#objects = null; }
+
+  // Room in the module's memory: addresses are BigInts, as the module's are of 64 bits.
+  #take(bytes) {
+    const at = this.#calls.memory_take(BigInt(bytes));
+    if (at === 0n) throw new ClientError(MEMORY);
+    return at;
+  }
+
+  // A view of the module's memory, good until its next call: memory that grows has a new buffer.
+  #bytes(at, length) { return new Uint8Array(this.#calls.memory.buffer, Number(at), length); }
+
+  // Makes the buffer hold so many bytes. One that is too small is given back only when there is a larger one.
+  #reserve(bytes) {
+    if (bytes <= this.#room) return;
+    const at = this.#take(2 * bytes);
+    this.#calls.memory_give(this.#buffer);
+    this.#buffer = at;
+    this.#room = 2 * bytes;
+  }
+
+  // Puts bytes where the module can read them: the address and the length for a call.
+  #write(bytes) {
+    this.#reserve(bytes.length);
+    this.#bytes(this.#buffer, bytes.length).set(bytes);
+    return [this.#buffer, BigInt(bytes.length)];
+  }
+
+  // The bytes that a call has left, or null where it had none to leave.
+  #left(answer) {
+    if (answer === NONE) return null;
+    this.#need(answer);
+    const length = Number(this.#calls.lugcurrant_length(this.#handle));
+    this.#reserve(length);
+    this.#need(this.#calls.lugcurrant_read(this.#handle, this.#buffer, BigInt(length)));
+    return this.#bytes(this.#buffer, length).slice();
+  }
+}
+
+// The objects of a tree's text: a line `ID KIND POSITION` for each, two blanks deeper than its parent's, and lines `.NAME JSON`.
+function readTree(text) {
+  const objects = new Map(), path = [];
+  for (const line of text.split('\n')) {
+    if (!line) continue;
+    const depth = line.search(/[^ ]/) / 2, rest = line.slice(2 * depth);
+    const blank = rest.indexOf(' ');
+    if (rest[0] === '.') {
+      const object = path[depth - 1];
+      object.properties[rest.slice(1, blank)] = readValue(rest.slice(blank + 1));
+      object.text += `\n${rest}`;
+      continue;
+    }
+    const next = rest.indexOf(' ', blank + 1), parent = depth ? path[depth - 1] : null;
+    const object = {
+      id: rest.slice(0, blank), kind: rest.slice(blank + 1, next < 0 ? undefined : next), parent: parent?.id ?? null,
+      position: next < 0 ? null : rest.slice(next + 1), properties: Object.create(null), children: [], text: '',
+    };
+    object.text = `${object.parent} ${rest}`;
+    parent?.children.push(object.id);
+    path[depth] = object;
+    objects.set(object.id, object);
+  }
+  for (const object of objects.values()) object.text += `\n${object.children.join(' ')}`;
+  return objects;
+}
+
+const sleeper = (milliseconds) => {
+  let wake;
+  const slept = new Promise((resolve) => { wake = resolve; });
+  const timer = setTimeout(wake, milliseconds);
+  return { slept, wake: () => { clearTimeout(timer); wake(); } };
+};
+
+// A client's way to a server: it joins, sends what waits, asks for what is new, and connects again where the connection is lost.
+//
+// `url` is the server's, as ws://127.0.0.1:7411/. `told` has functions, each of which may be left out: `state(link)` when the state is
+// another, `changed()` when the client took something, `refused(refusal)` when the server refused an edit of the client's.
+export class Link {
+  #told; #socket = null; #inbox = []; #waiter = null; #sleep = null; #ended = false; #isOffline = false; #asksDocument; #isTold = false; #Socket; #pauses;
+
+  constructor(client, url, told = {}, options = {}) {
+    this.client = client;
+    this.url = new URL(url);
+    this.state = 'connecting';
+    this.words = '';
+    this.document = options.document || null;      // the identity of the document, once it is known
+    this.#asksDocument = options.document !== false;
+    this.#told = told;
+    this.#Socket = options.WebSocket ?? globalThis.WebSocket;
+    this.#pauses = { least: options.leastPause ?? 80, most: options.mostPause ?? 400, retry: options.retry ?? 300, mostRetry: options.mostRetry ?? 10000 };
+    this.done = this.#run();
+  }
+
+  // Offline the connection is closed, and edits wait.
+  get offline() { return this.#isOffline; }
+  set offline(value) {
+    this.#isOffline = Boolean(value);
+    if (this.#isOffline) { this.#tell('offline'); this.#socket?.close(); }
+    this.wake();
+  }
+
+  // There is something to send, or to hear: no pause is waited out.
+  wake() { this.#sleep?.wake(); }
+
+  // Ends the link. What waits in the client stays there.
+  close() { this.#ended = true; this.#socket?.close(); this.wake(); }
+
+  #tell(state, words = '') {
+    if (this.state === state && this.words === words) return;
+    this.state = state;
+    this.words = words;
+    this.#told.state?.(this);
+  }
+
+  async #pause(milliseconds) {
+    this.#sleep = sleeper(milliseconds);
+    await this.#sleep.slept;
+    this.#sleep = null;
+  }
+
+  async #run() {
+    let retry = this.#pauses.retry;
+    while (!this.#ended && this.state !== 'another document') {
+      if (this.#isOffline) { await this.#pause(3600000); continue; }
+      const connected = await this.#connect();
+      if (connected && await this.#talk()) retry = this.#pauses.retry;
+      this.#socket?.close();
+      if (this.#ended || this.#isOffline || this.state === 'another document') continue;
+      if (!connected) await this.#tellWhy();
+      else if (this.state === 'online') this.#tell('no server', 'the connection has ended; it is tried again');
+      await this.#pause(retry * (0.75 + Math.random() / 2));
+      retry = Math.min(2 * retry, this.#pauses.mostRetry);
+    }
+    if (this.#ended) this.#tell('closed');
+  }
+
+  // The server's answer to a GET of this path, or null. Other servers than `lugcurrant` have none.
+  async #get(path) {
+    try {
+      const at = new URL(path, this.url);
+      at.protocol = at.protocol === 'wss:' || at.protocol === 'https:' ? 'https:' : 'http:';
+      const answer = await fetch(at, { cache: 'no-store', signal: AbortSignal.timeout(3000) });
+      return answer.ok ? (await answer.text()).trim() : null;
+    } catch { return null; }
+  }
+
+  // Connects to the very document of which the client has heard; whether it could.
+  async #connect() {
+    const identity = this.#asksDocument ? await this.#get('/document') : null;
+    if (this.#isTold && !identity) return false;                 // it has told its identity before: it is away
+    if (identity && /^[0-9a-f]{32}$/.test(identity)) {
+      if (this.document && this.document !== identity) {
+        this.#tell('another document', 'the server has another document now; reload to begin anew with it');
+        return false;
+      }
+      this.document = identity;
+      this.#isTold = true;
+    }
+    const at = this.document ? new URL(`/document/${this.document}`, this.url) : this.url;
+    this.#inbox = [];
+    return new Promise((resolve) => {
+      const socket = new this.#Socket(at.href.replace(/^http/, 'ws'));
+      this.#socket = socket;
+      socket.binaryType = 'arraybuffer';
+      socket.onopen = () => resolve(!this.#isOffline && !this.#ended);
+      socket.onmessage = ({ data }) => { this.#inbox.push(new Uint8Array(data)); this.#pump(); };
+      socket.onclose = () => { if (this.#socket === socket) { this.#socket = null; this.#pump(); } resolve(false); };
+      socket.onerror = () => resolve(false);
+    });
+  }
+
+  // Why there is no connection. A browser isn't told, so the server is asked how it is.
+  async #tellWhy() {
+    const health = this.#asksDocument ? await this.#get('/health') : null;
+    if (this.#isOffline) return;
+    if (health) this.#tell('no seat', 'every seat of the server is taken; it is tried again');
+    else this.#tell('no server', 'no server answers; it is tried again');
+  }
+
+  #pump() {
+    if (!this.#waiter || (!this.#inbox.length && this.#socket)) return;
+    const waiter = this.#waiter;
+    this.#waiter = null;
+    waiter(this.#inbox.shift() ?? null);
+  }
+
+  #next() { return new Promise((resolve) => { this.#waiter = resolve; this.#pump(); }); }
+
+  // Sends a message, and lets the client receive what is answered: how the answer ends, and whether something was taken.
+  async #round(message) {
+    let took = false;
+    this.#socket?.send(message);
+    for (;;) {
+      const part = await this.#next();
+      if (!part) return { end: 'lost', took };
+      const heard = this.client.receive(part);
+      if (heard.what === 'took') { took = true; this.#tellRefusal(part); }
+      const isWelcome = part[2] === 0x77;                        // the `w` of ["welcome"
+      if (heard.what === 'idle' || heard.what === 'no' || isWelcome) return { end: heard.what, reason: heard.reason, took };
+    }
+  }
+
+  // An entry of the client's own that was refused is told in words. The client has taken it already: nothing is changed here.
+  #tellRefusal(part) {
+    if (!this.#told.refused || part[2] !== 0x65) return;         // the `e` of ["entry"
+    const text = fromUtf8.decode(part);
+    if (!text.includes('["refused",')) return;
+    const [, version, [author, number, what, outcome]] = JSON.parse(text);
+    if (author !== this.client.id || outcome[0] !== 'refused') return;
+    const [name, words] = REFUSALS[outcome[1]] ?? ['Unknown', 'the server refused it'];
+    this.#told.refused({ version, number, edit: what[0], id: what[1].join(':'), name, words });
+  }
+
+  // Talks on this connection until it ends. Whether that went well, so that another one may be tried soon.
+  async #talk() {
+    const { client } = this;
+    this.#tell('online');
+    let sent = null, pause = this.#pauses.least;                // the number of the last edit that was sent on this connection
+    try {
+      while (this.#socket && !this.#ended && !this.#isOffline) {
+        if (!client.id) {
+          const { end, took } = await this.#round(client.joinMessage());
+          if (took) this.#told.changed?.();
+          if (end === 'no') return false;
+          continue;
+        }
+        const known = BigInt(client.acknowledged);
+        if (sent === null || sent < known) sent = known;
+        const message = client.editMessage(sent - known + 1n);
+        const round = await this.#round(message ?? client.askMessage());
+        if (round.took) this.#told.changed?.();
+        if (round.end === 'no') {
+          if (!await this.#afterNo(round.reason)) return false;
+          sent = null;
+        } else if (message) {
+          sent += 1n;
+        } else if (round.end !== 'lost') {
+          this.#tell('online');
+          pause = round.took ? this.#pauses.least : Math.min(pause * 1.25, this.#pauses.most);
+          if (!round.took && !client.editMessage(sent - BigInt(client.acknowledged) + 1n)) await this.#pause(pause);
+        }
+      }
+      return true;
+    } catch (fault) {
+      this.#tell('fault', String(fault.message ?? fault));
+      return false;
+    }
+  }
+
+  // After a No: whether the connection is of use any more.
+  async #afterNo(reason) {
+    const [name, words] = NO_REASONS[reason] ?? ['unknown', 'the server refused to answer'];
+    this.#tell(name, words);
+    if (reason === 3) return true;
+    await this.#pause(1000);
+    if (reason !== 4 && reason !== 8) return reason === 7;
+    const round = await this.#round(this.client.askMessage());   // nothing more can be written, and others can be heard
+    if (round.took) this.#told.changed?.();
+    return round.end === 'idle';
+  }
+}
