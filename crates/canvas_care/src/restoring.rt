@@ -1,0 +1,52 @@
+// What a new folder is made of: the rows of an input, or a backup.
+ghost use Rattle.std.specs.Prelude.{◌≡◌, IfOk};
+ghost use Rattle.std.specs.FinMap as map;
+ghost use Rattle.canvas_journal.specs.Found.{AreRowTexts};
+ghost use Rattle.canvas_lines.specs.Lines.{lines_of};
+ghost use Rattle.canvas_care.specs.Imports.{row_texts};
+
+use crate::fault::Fault;
+use crate::importing::{document_of, read_rows};
+use canvas_folder::DirShelf;
+use canvas_journal::look;
+use canvas_judge::State;
+use canvas_lines::read_input;
+use std::alloc::Global;
+use std::fs::File;
+use std::io::Read;
+use std::rt::Files;
+
+/// The version of a document that was imported. At version 0 every client would take the document to be empty; below this one each asks for
+/// a copy.
+const IMPORTED: u64 = 1;
+
+/// The state that the rows of an input are, and its version, which is 1.
+///
+/// The errors: `Stream`, where the input can't be read or has more than 2^30 bytes; `BadLine` and `NoDocument`, where its lines aren't
+/// the rows of a document; `Memory`.
+pub fn import<I: Read>(alloc: Global, input: &mut I) -> Result<(State, u64), Fault>
+    ensures { IfOk result (λ imported. imported.1 ≡ 1) }
+{
+    let text = read_input(alloc, input)?;
+    Ok((document_in(alloc, &text)?, IMPORTED))
+}
+
+// The state of the document whose rows the lines of a text are.
+fn document_in(alloc: Global, text: &[u8]) -> Result<State, Fault>
+    ensures { IfOk result (λ state. AreRowTexts (row_texts (lines_of text.now)) (map.entries state.doc)) }
+{
+    let rows = read_rows(alloc, text)?;
+    document_of(alloc, rows)
+}
+
+/// The state that a backup holds, and its version. Writes nothing to it.
+///
+/// The errors: `Device`, where the backup is missing or can't be read; `Damaged`, where it isn't whole; `Memory`.
+pub fn read_backup<R: Files<File = File> + AllocGlobal + Clone + Drop>(
+    files: R,
+    backup: &str,
+) -> Result<(State, u64), Fault> {
+    let alloc = files.alloc();
+    let mut shelf = DirShelf::existing(files, backup)?;
+    Ok(look(alloc, &mut shelf)?)
+}
