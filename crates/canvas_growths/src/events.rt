@@ -1,7 +1,7 @@
 // The events of a script, in a world under any allocator.
 use canvas_script::Item;
 use canvas_world::{Answer, Event, EventVariant, World};
-use std::alloc::{AllocError, Allocator};
+use std::alloc::{AllocError, Allocator, Global};
 
 // The same event under another allocator.
 fn variant_in<A: Allocator + Copy>(
@@ -35,6 +35,21 @@ pub fn event_in<A: Allocator + Copy>(
         Item::Happens(event) => Ok(Some(Event::new(variant_in(alloc, event.variant())?))),
         Item::ShowsServer | Item::ShowsNode(_) => Ok(None),
     }
+}
+
+/// The events that the items of a script ask for.
+pub fn events_in<A: Allocator + Copy>(
+    global: Global,
+    alloc: A,
+    items: &[Item],
+) -> Result<Vec<Event<A>>, AllocError> {
+    let mut events = Vec::new(global);
+    for item in items {
+        if let Some(event) = event_in(alloc, item)? {
+            events.push(event)?;
+        }
+    }
+    Ok(events)
 }
 
 /// Plays what an item asks for. The answer is that of its event, if it asks for one.

@@ -5,6 +5,7 @@
 //! as it goes where nothing is refused. What is written of a call is its answer and how many of its growths were refused so.
 #![tactic(auto)]
 
+mod advances;
 mod clients;
 mod events;
 mod reads;

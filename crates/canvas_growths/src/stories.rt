@@ -1,4 +1,5 @@
 // Scripts of a world, with each growth of each event refused in turn.
+use crate::advances::write_advance;
 use crate::events::{event_in, play_item, play_items};
 use crate::reads::{write_server, write_view};
 use crate::same::same_world;
@@ -190,7 +191,7 @@ fn write_items(alloc: Global, story: Story<'_>, out: &mut Vec<u8>) -> Result<(),
 }
 
 /// Adds what comes of each item of a script: of an event its answer and how many of its growths are refused, of a `show` how many
-/// growths of the calls are that read what would be shown.
+/// growths of the calls are that read what would be shown; and in the end, of the call that plays all events, how many are refused.
 pub fn write_story(alloc: Global, items: &[Item], out: &mut Vec<u8>) -> Result<(), AllocError> {
     let mut end = World::new(alloc)?;
     let mut answers = Vec::new(alloc);
@@ -200,5 +201,6 @@ pub fn write_story(alloc: Global, items: &[Item], out: &mut Vec<u8>) -> Result<(
         answers: &answers,
         end: &end,
     };
-    write_items(alloc, story, out)
+    write_items(alloc, story, out)?;
+    write_advance(alloc, items, &end, out)
 }

@@ -13,7 +13,7 @@
 //!
 //! - `open`: what looking at the shelf finds and what opening it finds, the calls that opening makes, and each segment then.
 //! - `cuts`: the same with the last segment cut to each length. `bytes HEX`: what looking and opening find with each byte of the last
-//!   segment replaced by this one.
+//!   segment replaced by this one; a line says so where opening fails and yet changes a segment.
 //! - `first`: the text of the first record of the last segment, and the bytes behind it.
 //! - `play`: what opening and each call of the script answer, how many calls the shelf counts and how many failed, and what each crash
 //!   leaves to be found; where opening fails, also what opening the same shelf again finds. `fuses` and `faults`: the same for each

@@ -4,9 +4,10 @@ ghost use Rattle.canvas_shelf.specs.Disk.{top_is_listed};
 ghost use Rattle.canvas_shelf.specs.Shelved.{disk_of};
 
 use crate::bench::Segment;
-use crate::opening::{write_found, write_opening, write_version};
+use crate::opening::{write_found, write_opening};
 use crate::runs::Runs;
-use crate::shelves::shelf_with;
+use crate::shelves::{shelf_with, write_left};
+use canvas_journal::open;
 use canvas_shelf::MemShelf;
 use std::alloc::{AllocError, Global};
 
@@ -59,6 +60,39 @@ fn spoiled_shelf(
     shelf_with(alloc, rest, last.number, &bytes)
 }
 
+// Adds what opening a shelf finds, in a line. Where it isn't opened, its segments must still be written so.
+fn write_opened(
+    alloc: Global,
+    shelf: MemShelf,
+    segments: &str,
+    text: &mut String,
+) -> Result<(), AllocError>
+    requires { top_is_listed (disk_of shelf) ≡ true }
+{
+    match open(alloc, shelf) {
+        Ok((_, _, version)) => write!(text, "open: version {version}\n"),
+        Err((shelf, error)) => {
+            write!(text, "open: {error}\n")?;
+            write_change(alloc, shelf, segments, text)
+        }
+    }
+}
+
+// Adds a line where the segments of a shelf aren't written so.
+fn write_change(
+    alloc: Global,
+    mut shelf: MemShelf,
+    segments: &str,
+    text: &mut String,
+) -> Result<(), AllocError> {
+    let mut then = String::new(alloc);
+    write_left(alloc, &mut shelf, &mut then)?;
+    if then.as_str() != segments {
+        text.push_str("the segments have changed\n")?;
+    }
+    Ok(())
+}
+
 // Notes what looking at a shelf finds whose bytes are all synced, and what opening it finds.
 fn note_found(
     alloc: Global,
@@ -70,14 +104,17 @@ fn note_found(
     requires { top_is_listed (disk_of shelf) ≡ true }
 {
     let mut answer = String::from_str(alloc, "look: ")?;
-    write_found(alloc, &mut shelf.crash(&[])?, &mut answer)?;
-    answer.push_str("\nopen: ")?;
-    write_version(alloc, shelf, &mut answer)?;
+    let mut segments = String::new(alloc);
+    let mut same = shelf.crash(&[])?;
+    write_found(alloc, &mut same, &mut answer)?;
+    write_left(alloc, &mut same, &mut segments)?;
     answer.push('\n')?;
+    write_opened(alloc, shelf, &segments, &mut answer)?;
     runs.note(at as u64, &answer, text)
 }
 
-/// Adds what looking and opening find where each byte of the last segment is replaced by this one.
+/// Adds what looking and opening find where each byte of the last segment is replaced by this one; a line says so where opening fails
+/// and yet changes a segment.
 pub fn write_spoiled(
     alloc: Global,
     segments: &[Segment],

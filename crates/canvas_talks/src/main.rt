@@ -4,12 +4,15 @@
 //!
 //! - `fuse N` lets so many calls of the room's shelf pass, and makes all others fail; it stands at the beginning.
 //! - `edits A B` is one edit of client 1 for each number from A to B, which sets a property of the object 1:1 to that number.
+//! - `beginnings TEXT` is a message of each proper beginning of this text, the empty one first.
+//! - `bytes HEX` is a message of the bytes that these digits spell. `text TEXT` is a WebSocket's message of text, and not of bytes as all others.
 //! - `segments` asks for the numbers of the segments that were made so far on the room's shelf.
 //!
 //! What is answered more than once in a row is written once, behind how often. Each talk is also held over a WebSocket in memory; where that
 //! is sent something else, a line says so.
 #![tactic(auto)]
 
+mod frames;
 mod repeats;
 mod rooms;
 mod talks;

@@ -1,15 +1,16 @@
 // Rooms over a journal in memory, and what their seats answer.
 ghost use Rattle.std.specs.Prelude.{◌≡◌};
 
+use crate::frames::{Frame, Kind, sent};
 use canvas_board::{Opening, RoomName};
 use canvas_front::{CHECKPOINT_AT, SeatAnswerer, answer};
 use canvas_journal::{Journal, open};
-use canvas_judge::Message;
+use canvas_judge::{Message, NoReason};
 use canvas_nodes::{asked, serve_one};
 use canvas_room::{BlankRoom, Lock, Room, Seat, blank_room};
 use canvas_shelf::{Call, MemShelf};
 use canvas_wire::encode;
-use memory_sockets::{heard, sent, socket};
+use memory_sockets::{heard, socket};
 use std::alloc::{AllocError, Global};
 use std::marker::Brand;
 use std::sync::Wait;
@@ -76,31 +77,32 @@ fn tell<N: RoomName, R: Wait + Drop, W: Wait>(
     add_all(alloc, &messages, texts)
 }
 
-// Adds what a seat answers a line.
-fn tell_line<N: RoomName, R: Wait + Drop, W: Wait>(
+// Adds what a seat answers these bytes.
+fn tell_bytes<N: RoomName, R: Wait + Drop, W: Wait>(
     alloc: Global,
     rt: &W,
     seat: &mut MemSeat<N, R>,
-    line: &[u8],
+    bytes: &[u8],
     texts: &mut Vec<u8>,
 ) -> Result<(), AllocError> {
-    match asked(alloc, line) {
+    match asked(alloc, bytes) {
         Ok(message) => tell(alloc, rt, seat, &message, texts),
         Err(reason) => add(alloc, &Message::No(reason), texts),
     }
 }
 
-// Adds what a seat answers these lines.
-fn tell_lines<N: RoomName, R: Wait + Drop, W: Wait>(
+// Adds what is answered each of these messages. A text never comes to the seat: it is refused as what isn't read.
+fn tell_frames<N: RoomName, R: Wait + Drop, W: Wait>(
     alloc: Global,
     rt: &W,
     seat: &mut MemSeat<N, R>,
-    lines: &[u8],
+    frames: &[Frame],
     texts: &mut Vec<u8>,
 ) -> Result<(), AllocError> {
-    for line in lines.split(|byte| *byte == b'\n') {
-        if !line.is_empty() {
-            tell_line(alloc, rt, seat, line, texts)?;
+    for frame in frames {
+        match frame.kind {
+            Kind::Binary => tell_bytes(alloc, rt, seat, &frame.bytes, texts)?,
+            Kind::Text => add(alloc, &Message::No(NoReason::NotRead), texts)?,
         }
     }
     Ok(())
@@ -121,47 +123,47 @@ fn note_segments<N: RoomName, R: Wait + Drop, W: Wait>(
     Ok(())
 }
 
-// Adds what the first seat of a room answers these lines, and the segments then.
+// Adds what the first seat of a room answers these messages, and the segments then.
 fn tell_room<N: RoomName, R: Wait + Drop, W: Wait>(
     alloc: Global,
     rt: &W,
     room: &Room<MemJournal, N, R>,
     seats: &mut [MemSeat<N, R>],
-    lines: &[u8],
+    frames: &[Frame],
     answers: &mut Answers,
 ) -> Result<(), AllocError> {
     if let Some(seat) = seats.first_mut() {
-        tell_lines(alloc, rt, seat, lines, &mut answers.texts)?;
+        tell_frames(alloc, rt, seat, frames, &mut answers.texts)?;
     }
     note_segments(rt, room, &mut answers.segments)
 }
 
-// Opens a room, and adds what its seat answers these lines.
+// Opens a room, and adds what its seat answers these messages.
 fn answer_in<N: RoomName, R: Wait + Copy + Drop>(
     alloc: Global,
     rt: R,
     blank: BlankRoom<MemJournal>,
-    lines: &[u8],
+    frames: &[Frame],
     answers: &mut Answers,
 ) -> Result<(), AllocError>
     requires book { blank.book ≡ N.book }
     requires opening { blank.opening ≡ N.opening }
 {
     match blank.open::<N, R>(rt) {
-        Ok((room, mut seats)) => tell_room(alloc, &rt, &room, &mut seats, lines, answers),
+        Ok((room, mut seats)) => tell_room(alloc, &rt, &room, &mut seats, frames, answers),
         Err(_) => Err(AllocError),
     }
 }
 
-/// Adds what a seat of a new room answers these lines, where all calls of its shelf after so many fail.
-pub fn answer_lines<R: Wait + Copy + Drop>(
+/// Adds what a seat of a new room answers these messages, where all calls of its shelf after so many fail.
+pub fn answer_frames<R: Wait + Copy + Drop>(
     alloc: Global,
     rt: R,
     calls: u64,
-    lines: &[u8],
+    frames: &[Frame],
     answers: &mut Answers,
 ) -> Result<(), AllocError> {
-    answer_in::<Brand, R>(alloc, rt, blank(alloc, calls)?, lines, answers)
+    answer_in::<Brand, R>(alloc, rt, blank(alloc, calls)?, frames, answers)
 }
 
 // Adds what a connection to a seat is sent, where it sends these bytes.
@@ -210,15 +212,15 @@ fn serve_bytes<R: Wait + Copy + Drop>(
     serve_in::<Brand, R>(alloc, rt, blank(alloc, calls)?, bytes, texts)
 }
 
-/// Adds what a connection to a new room is sent, where it sends these lines, and all calls of the room's shelf after so many fail.
-pub fn serve_lines<R: Wait + Copy + Drop>(
+/// Adds what a connection to a new room is sent, where it sends these messages, and all calls of the room's shelf after so many fail.
+pub fn serve_frames<R: Wait + Copy + Drop>(
     alloc: Global,
     rt: R,
     calls: u64,
-    lines: &str,
+    frames: &[Frame],
     texts: &mut Vec<u8>,
 ) -> Result<(), AllocError> {
-    match sent(alloc, lines, Role::Client) {
+    match sent(alloc, frames) {
         Ok(bytes) => serve_bytes(alloc, rt, calls, &bytes, texts),
         Err(_) => Err(AllocError),
     }

@@ -1,15 +1,16 @@
 // Talks, line by line.
+use crate::frames::{Frame, Kind, add_beginnings, add_frame};
 use crate::repeats::add_lines;
-use crate::rooms::{Answers, answer_lines, serve_lines};
+use crate::rooms::{Answers, answer_frames, serve_frames};
 use canvas_cases::Answerer;
 use std::alloc::{AllocError, Global};
 use std::sync::Wait;
 
-/// A talk so far: its lines, how many calls of the shelf pass, how much was answered before, and whether the segments are asked for.
+/// A talk so far: its messages, how many calls of the shelf pass, how much was answered before, and whether the segments are asked for.
 pub struct Talks<R: Wait + Copy + Drop> {
     rt: R,
     calls: u64,
-    lines: Vec<u8>,
+    frames: Vec<Frame>,
     told: usize,
     asks_segments: bool,
 }
@@ -19,7 +20,7 @@ impl<R: Wait + Copy + Drop> Drop for Talks<R> {
         let Talks {
             rt: _,
             calls: _,
-            lines: _,
+            frames: _,
             told: _,
             asks_segments: _,
         } = self;
@@ -37,13 +38,24 @@ fn bounds(text: &[u8]) -> Option<(u64, u64)> {
     Some((first.parse::<u64>().ok()?, last.parse::<u64>().ok()?))
 }
 
-// Adds the lines of client 1's edits with these numbers.
-fn add_edits(alloc: Global, first: u64, last: u64, lines: &mut Vec<u8>) -> Result<(), AllocError> {
+// Adds the messages of client 1's edits with these numbers.
+fn add_edits(
+    alloc: Global,
+    first: u64,
+    last: u64,
+    frames: &mut Vec<Frame>,
+) -> Result<(), AllocError> {
     for seq in first..last.saturating_add(1) {
-        let line = format!(in alloc; "[\"edit\",1,{seq},[\"set\",[1,1],\"n\",{seq}]]\n")?;
-        lines.extend_from_slice(line.as_bytes())?;
+        let text = format!(in alloc; "[\"edit\",1,{seq},[\"set\",[1,1],\"n\",{seq}]]")?;
+        add_frame(alloc, Kind::Binary, text.as_bytes(), frames)?;
     }
     Ok(())
+}
+
+// Adds a message of the bytes that these hex digits spell; where they spell none, an empty one.
+fn add_hex(alloc: Global, digits: &[u8], frames: &mut Vec<Frame>) -> Result<(), AllocError> {
+    let bytes = hex::decode(alloc, digits).unwrap_or(Vec::new(alloc));
+    add_frame(alloc, Kind::Binary, &bytes, frames)
 }
 
 // Adds the segments that were made, in a line.
@@ -62,28 +74,37 @@ impl<R: Wait + Copy + Drop> Talks<R> {
         Talks {
             rt,
             calls: u64::MAX,
-            lines: Vec::new(alloc),
+            frames: Vec::new(alloc),
             told: 0,
             asks_segments: false,
         }
     }
 
-    // Takes a line.
-    fn take(&mut self, alloc: Global, line: &[u8]) -> Result<(), AllocError> {
+    // Takes a line that says something of the talk, and tells whether it was one.
+    fn take_word(&mut self, alloc: Global, line: &[u8]) -> Result<bool, AllocError> {
         if let Some(calls) = line.strip_prefix(b"fuse ") {
             self.calls = number(calls).unwrap_or(u64::MAX);
-            return Ok(());
-        }
-        if let Some((first, last)) = line.strip_prefix(b"edits ").and_then(bounds) {
-            return add_edits(alloc, first, last, &mut self.lines);
-        }
-        if line == b"segments".as_slice() {
+        } else if let Some((first, last)) = line.strip_prefix(b"edits ").and_then(bounds) {
+            add_edits(alloc, first, last, &mut self.frames)?;
+        } else if line == b"segments".as_slice() {
             self.asks_segments = true;
-            return Ok(());
+        } else {
+            return Ok(false);
         }
-        self.lines.extend_from_slice(line)?;
-        self.lines.push(b'\n')?;
-        Ok(())
+        Ok(true)
+    }
+
+    // Takes a line that stands for messages.
+    fn take_messages(&mut self, alloc: Global, line: &[u8]) -> Result<(), AllocError> {
+        if let Some(message) = line.strip_prefix(b"beginnings ") {
+            add_beginnings(alloc, message, &mut self.frames)
+        } else if let Some(text) = line.strip_prefix(b"text ") {
+            add_frame(alloc, Kind::Text, text, &mut self.frames)
+        } else if let Some(digits) = line.strip_prefix(b"bytes ") {
+            add_hex(alloc, digits, &mut self.frames)
+        } else {
+            add_frame(alloc, Kind::Binary, line, &mut self.frames)
+        }
     }
 
     // Adds what is new of the answers to the talk so far.
@@ -105,11 +126,8 @@ impl<R: Wait + Copy + Drop> Talks<R> {
 
     // Adds a line where a connection is sent other texts.
     fn compare(&self, alloc: Global, texts: &[u8], out: &mut Vec<u8>) -> Result<(), AllocError> {
-        let Ok(lines) = str::from_utf8(&self.lines) else {
-            return out.extend_from_slice(b"(not sent over a connection)\n");
-        };
         let mut sent = Vec::new(alloc);
-        serve_lines(alloc, self.rt, self.calls, lines, &mut sent)?;
+        serve_frames(alloc, self.rt, self.calls, &self.frames, &mut sent)?;
         if sent.as_slice() != texts {
             out.extend_from_slice(b"(a connection is sent something else)\n")?;
         }
@@ -120,7 +138,7 @@ impl<R: Wait + Copy + Drop> Talks<R> {
 impl<R: Wait + Copy + Drop> Answerer for Talks<R> {
     fn begin(&mut self, _alloc: Global) -> Result<(), AllocError> {
         self.calls = u64::MAX;
-        self.lines.clear();
+        self.frames.clear();
         self.told = 0;
         self.asks_segments = false;
         Ok(())
@@ -132,13 +150,15 @@ impl<R: Wait + Copy + Drop> Answerer for Talks<R> {
             .unwrap_or(asked)
             .split(|byte| *byte == b'\n')
         {
-            self.take(alloc, line)?;
+            if !self.take_word(alloc, line)? {
+                self.take_messages(alloc, line)?;
+            }
         }
         let mut answers = Answers {
             texts: Vec::new(alloc),
             segments: Vec::new(alloc),
         };
-        answer_lines(alloc, self.rt, self.calls, &self.lines, &mut answers)?;
+        answer_frames(alloc, self.rt, self.calls, &self.frames, &mut answers)?;
         self.tell(alloc, &answers, out)
     }
 }

@@ -1,4 +1,4 @@
-use Rattle.canvas_talks.proofs.rooms.answer_lines.Given as goal
+use Rattle.canvas_talks.proofs.rooms.answer_frames.Given as goal
 
 -- the room that was just made
 abbrev pub ghosts-answer_in : goal.ghosts-answer_in
