@@ -67,13 +67,13 @@ below-middle : (lo hi : Option (List ℕ)) (p : List ℕ) → LiesBetween lo hi 
 below-middle lo None p l = tt
 below-middle lo (Some t) p l = less-smaller p t l.before
 
+-- a position whose own number lies between the ends is strictly between them
+pub inside-lies : (lo hi : Option (List ℕ)) (p : List ℕ) → IsPosition p → LiesBetween lo hi (length p) (num p (length p)) → IsInside lo hi p
+inside-lies lo hi p h l = record { position = h; after = above-middle lo hi p l; before = below-middle lo hi p l }
+
 -- the middle is a position strictly between the ends
 pub middle-inside : (lo hi : Option (List ℕ)) (p : List ℕ) → IsEnd lo → IsEnd hi → IsMiddle lo hi p → IsInside lo hi p
-middle-inside lo hi p e f h = record {
-  position = middle-position lo hi p e f h;
-  after = above-middle lo hi p (lies-middle lo hi p h);
-  before = below-middle lo hi p (lies-middle lo hi p h);
-}
+middle-inside lo hi p e f h = inside-lies lo hi p (middle-position lo hi p e f h) (lies-middle lo hi p h)
 
 -- a position strictly between the ends lies there as a fraction
 above-inside : (lo : Option (List ℕ)) (p : List ℕ) → IsPosition p → AreInOrder lo (Some p) → IsLess (lower lo) (fraction p)

@@ -68,6 +68,15 @@ ordered (x ∷ xs) (y ∷ ys) (suc n) a b h k =
 trimmed : (s : List ℕ) → IsPosition s → IsTrimmed s
 trimmed s h = record { digits = h.digits; last = λ _. h.last }
 
+-- positions of at most n digits with one number there are the same
+pub same-digits : (n : ℕ) (s t : List ℕ) → IsPosition s → IsPosition t → length s ≤ n → length t ≤ n → num s n ≡ num t n → s ≡ t
+same-digits n s t p q h k e =
+    elim (slice_cmp nat_cmp s t) as (λ r. MatchOrdering r (num s n < num t n) (s ≡ t) (num t n < num s n) → s ≡ t) [
+      | Less ↦ λ l. absurd (omega arith)
+      | Equal ↦ λ same. same
+      | Greater ↦ λ l. absurd (omega arith)
+    ] (ordered s t n (trimmed s p) (trimmed t q) h k)
+
 -- positions compare as their fractions do
 pub order-positions : (s t : List ℕ) → IsPosition s → IsPosition t → MatchOrdering (slice_cmp nat_cmp s t) (IsSmaller s t) (s ≡ t) (IsSmaller t s)
 order-positions s t p q =

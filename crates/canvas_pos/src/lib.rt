@@ -8,7 +8,7 @@
 //! most 128 bytes.
 #![tactic(auto)]
 
-ghost use Rattle.std.specs.Prelude.{◌≡◌, ◌↔◌, ℕ, ◌+◌, ◌*◌, ◌<◌, ◌≤◌, length, nat_eq, refl, All};
+ghost use Rattle.std.specs.Prelude.{◌≡◌, ◌↔◌, ℕ, ◌+◌, ◌*◌, ◌^◌, ◌<◌, ◌≤◌, length, nat_eq, refl, All};
 ghost use Rattle.std.specs.Prelude.{IfOk, IfErr, IfSome, IfNone, IsTrue, Some};
 ghost use Rattle.std.specs.Option.{option_copied};
 ghost use Rattle.std.specs.Ordering.{nat_cmp};
@@ -31,11 +31,14 @@ ghost use Rattle.canvas_pos.specs.Laws.{FitsIffInside, SmallerIsTransitive, Each
 ghost use Rattle.canvas_pos.specs.Laws.{EachMiddleIsInside, EachMiddleIsOnly, EachMiddleIsShort};
 ghost use Rattle.canvas_pos.specs.Laws.{ShutEndsHoldNone, MiddleOfAll};
 
+mod step;
+
 use std::alloc::{AllocError, Allocator, Global};
 use std::cmp::Ordering;
 use std::hash::{Hash, Hasher};
 use std::marker::Model;
 use std::{fmt, str};
+pub use step::{every_step_beside, step_after, step_before};
 use thiserror::Error;
 
 /// The most bytes that a position has.
@@ -168,12 +171,7 @@ impl<A: Allocator> Pos<A> {
     pub fn first_digits(&self) -> u64
         ensures { result ≡ first_digits self.now }
     {
-        let bytes = self.bytes();
-        let mut number = 0;
-        for i in 0..9 {
-            number = 95 * number + u64::from(digit(bytes, i));
-        }
-        number
+        digits_number(self.bytes(), 9)
     }
 }
 
@@ -401,11 +399,26 @@ fn digit(bytes: &[u8], i: usize) -> u8
     }
 }
 
+// The number that so many first digits are, nine at most.
+fn digits_number(bytes: &[u8], count: usize) -> u64
+    requires position { IsPosition bytes.now }
+    requires few { count ≤ 9 }
+    ensures value { result ≡ num bytes.now count }
+    ensures range { result < 95 ^ count }
+{
+    let mut number = 0;
+    for i in 0..count {
+        number = 95 * number + u64::from(digit(bytes, i));
+    }
+    number
+}
+
 // The lower end's first digits, and then the gap's.
 fn half_way<A: Allocator>(alloc: A, lo: Option<&[u8]>, gap: Gap) -> Result<Pos<A>, AllocError>
     requires { IsEnd (option_copied lo) }
     ensures len { IfOk result (λ p. length p ≡ gap.before + 1) }
     ensures digits { IfOk result (All IsDigitByte) }
+    ensures position { IfOk result IsPosition }
     ensures value { IfOk result (λ p. num p (gap.before + 1)
         ≡ 95 * greatest_before (option_copied lo.entry) gap.before + gap.last) }
 {

@@ -1,7 +1,7 @@
 use Rattle.std.proofs.Common.{◌≡◌}
 use Rattle.canvas_model.specs.Position.{num}
-use Rattle.canvas_pos.proofs.Pos.first_digits.Given as goal
+use Rattle.canvas_pos.proofs.digits_number.Given as goal
 
 -- the digits before this one are in the number
 abbrev pub invariant-loop-i : goal.invariant-loop-i
-invariant-loop-i g l = l.number ≡ num l.bytes l.i
+invariant-loop-i l = l.number ≡ num l.bytes l.i
