@@ -7,3 +7,4 @@ pub mod Upright
 pub mod Landing
 pub mod Drafted
 pub mod Edited
+pub mod Owning

@@ -5,3 +5,4 @@ pub mod Receives
 pub mod Asked
 pub mod Rise
 pub mod Counted
+pub mod Parts

@@ -1,6 +1,6 @@
 // A client.
-ghost use Rattle.std.specs.Prelude.{◌≡◌, ◌↔◌, ℕ, ◌≤◌, ◌<◌, ◌+◌, ◌-◌, true, false, Some, cond, IsTrue, IfOk, OnOk, OnErr, length};
-ghost use Rattle.std.specs.Option.{option_map};
+ghost use Rattle.std.specs.Prelude.{◌≡◌, ◌↔◌, ℕ, ◌≤◌, ◌<◌, ◌+◌, ◌-◌, true, false, Some, cond, IsTrue, IfOk, OnOk, OnErr, length, slice_get};
+ghost use Rattle.std.specs.Option.{option_copied, option_map};
 ghost use Rattle.canvas_model.specs.Client.{last_number, new_client};
 ghost use Rattle.canvas_model.specs.Messages.{Welcome};
 ghost use Rattle.canvas_model.specs.Messages as messages;
@@ -13,7 +13,7 @@ ghost use Rattle.canvas_client.specs.Seen.{seen_received};
 
 use crate::laws::every_told_entry;
 use crate::{Merged, Received};
-use canvas_doc::Doc;
+use canvas_doc::{Change, Doc};
 use canvas_judge::{DocCopy, Entry, Message, What};
 use canvas_model::every_view;
 use std::alloc::{AllocError, Allocator, Global};
@@ -80,11 +80,25 @@ impl<A: Allocator> Client<A> {
         self.acknowledged
     }
 
+    /// The counter of its last creation, 0 at first.
+    pub fn counter(&self) -> u32
+        ensures { result ≡ self.now.counter }
+    {
+        self.counter
+    }
+
     /// How many of its edits wait to be judged.
     pub fn unacknowledged(&self) -> u64
         ensures { result ≡ length self.now.waiting }
     {
         self.merged.waiting.len() as u64
+    }
+
+    /// The edit at this index of those that wait, the oldest first, or none from the end on.
+    pub fn waiting_edit(&self, index: usize) -> Option<&Change<A>>
+        ensures { option_copied result ≡ slice_get self.now.waiting index }
+    {
+        self.merged.waiting.get(index)
     }
 
     /// What it shows: the document as far as it knows it, with the waiting edits laid over it.

@@ -75,6 +75,22 @@ impl<A: Allocator + Copy> Merged<A> {
         })
     }
 
+    // These edits, and this view, under which they are laid already.
+    pub(crate) fn of(waiting: Pending<A>, doc: Doc<A>) -> Self
+        ensures waiting { result.waiting ≡ waiting }
+        ensures view { result.shown.doc ≡ doc }
+    {
+        Merged {
+            waiting,
+            counted: Changes::new(),
+            shown: Shown {
+                doc,
+                changes: Changes::new(),
+            },
+            last: 0,
+        }
+    }
+
     /// Brings the view up to an entry; `own` says that it is of the first edit that waits, which is then taken out. It makes at most
     /// four changes more than the entry removes ids, and `last_changes` answers how many. Fails only where memory is refused, or
     /// where the entry removes `usize::MAX` ids, which no memory holds; then nothing has changed.
