@@ -1,1 +1,4 @@
 pub mod Stacks
+pub mod Touched
+pub mod Saved
+pub mod IdTexts

@@ -1,6 +1,10 @@
+pub mod Changed
 pub mod Edits
 pub mod Faults
+pub mod Ids
 pub mod Kinds
 pub mod Messages
+pub mod Objects
 pub mod Trees
 pub mod Values
+pub mod Saves

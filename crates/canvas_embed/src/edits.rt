@@ -1,8 +1,9 @@
 // Edits from numbers and bytes.
-ghost use Rattle.std.specs.Prelude.{◌≡◌, ◌+◌, IfErr, IfOk, OnErr, OnOk};
+ghost use Rattle.std.specs.Prelude.{◌≡◌, ◌+◌, ◌∷◌, [], IfErr, IfOk, OnErr, OnOk};
 ghost use Rattle.canvas_model.specs.Client.{last_number};
 ghost use Rattle.canvas_model.specs.Local.{Delete, Move};
 ghost use Rattle.canvas_client.specs.Asked.{HasMade, IsRefusal, StandsStill, refusal};
+ghost use Rattle.canvas_embed.specs.Changed.{ChangesOnly};
 ghost use Rattle.canvas_embed.specs.Edits.{HasCleared, HasCreatedKind, HasSet};
 ghost use Rattle.canvas_embed.specs.Faults.{IsClearError, IsCreateError, IsSetError};
 ghost use Rattle.canvas_embed.specs.Kinds.{kind_of};
@@ -35,6 +36,7 @@ pub fn create(
     after: Option<ObjId>,
 ) -> Result<(u64, ObjId), CreateError>
     ensures ok { IfOk result (λ made. HasCreatedKind client.old kind (record { parent = parent; after = after }) made.1 client.new) }
+    ensures changed { IfOk result (λ made. ChangesOnly (made.1 ∷ []) client.old.view client.new.view) }
     ensures number { IfOk result (λ made. made.0 ≡ last_number client.old + 1) }
     ensures stands { OnOk result (StandsStill client.old client.new) }
     ensures fault { IfErr result (IsCreateError client.old kind (record { parent = parent; after = after })) }
@@ -59,6 +61,7 @@ pub fn set(
     json: &[u8],
 ) -> Result<u64, SetError>
     ensures ok { OnOk result (HasSet client.old id name.now json.now client.new) }
+    ensures changed { OnOk result (ChangesOnly (id ∷ []) client.old.view client.new.view) }
     ensures number { IfOk result (λ n. n ≡ last_number client.old + 1) }
     ensures stands { OnOk result (StandsStill client.old client.new) }
     ensures fault { IfErr result (IsSetError client.old id name.now json.now) }
@@ -81,6 +84,7 @@ pub fn set(
 /// Takes a property of an object away. Answers the edit's number. After an error nothing has changed.
 pub fn clear(alloc: Global, client: &mut Client, id: ObjId, name: &[u8]) -> Result<u64, ClearError>
     ensures ok { OnOk result (HasCleared client.old id name.now client.new) }
+    ensures changed { OnOk result (ChangesOnly (id ∷ []) client.old.view client.new.view) }
     ensures number { IfOk result (λ n. n ≡ last_number client.old + 1) }
     ensures stands { OnOk result (StandsStill client.old client.new) }
     ensures fault { IfErr result (IsClearError client.old id name.now) }
@@ -105,6 +109,7 @@ pub fn move_to(
     after: Option<ObjId>,
 ) -> Result<u64, EditError>
     ensures ok { OnOk result (HasMade client.old (Move id (record { parent = parent; after = after })) client.new) }
+    ensures changed { OnOk result (ChangesOnly (id ∷ []) client.old.view client.new.view) }
     ensures number { IfOk result (λ n. n ≡ last_number client.old + 1) }
     ensures stands { OnOk result (StandsStill client.old client.new) }
     ensures fault { IfErr result (λ error. IsRefusal client.old (Move id (record { parent = parent; after = after })) (refusal error)) }
@@ -116,6 +121,7 @@ pub fn move_to(
 /// Removes an object; what lies below it is shown no more. Answers the edit's number. After an error nothing has changed.
 pub fn delete(client: &mut Client, id: ObjId) -> Result<u64, EditError>
     ensures ok { OnOk result (HasMade client.old (Delete id) client.new) }
+    ensures changed { OnOk result (ChangesOnly (id ∷ []) client.old.view client.new.view) }
     ensures number { IfOk result (λ n. n ≡ last_number client.old + 1) }
     ensures stands { OnOk result (StandsStill client.old client.new) }
     ensures fault { IfErr result (λ error. IsRefusal client.old (Delete id) (refusal error)) }

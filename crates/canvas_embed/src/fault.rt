@@ -59,3 +59,28 @@ pub enum ClearError {
     #[error("{0}")]
     Edit(EditError),
 }
+
+/// Why bytes are no client: the first that holds, in this order, each looked for over the whole text before the next. But memory can be
+/// refused before.
+#[derive(Clone, Copy, Debug, PartialEq, Eq, Error)]
+pub enum LoadError {
+    /// The bytes aren't JSON: not UTF-8, cut short, or nested more than 127 deep.
+    #[error("the bytes aren't JSON")]
+    NotJson,
+    /// The JSON tree isn't that of a saved client, whatever its whole numbers, or its rows don't stand in order.
+    #[error("the JSON isn't that of a client")]
+    NotAClient,
+    /// It is that of a client but for a number out of its range.
+    #[error("a number is out of range")]
+    OutOfRange,
+    /// All else fits, and a value has lists more than 16 deep.
+    #[error("a value has lists more than 16 deep")]
+    TooDeep,
+    /// All fits, but an edit that waits creates the root, an object that isn't the client's own, one above its counter, or one
+    /// twice; or edits wait without an id; or the last edit's number is above 2^62.
+    #[error("no client waits with these edits")]
+    Inconsistent,
+    /// Memory was refused.
+    #[error("out of memory")]
+    Memory,
+}

@@ -4,16 +4,22 @@
 //! the client is unchanged.
 #![tactic(auto)]
 
+mod changed;
 mod edits;
 mod fault;
 mod heard;
+mod ids;
 mod messages;
+mod objects;
+mod saves;
 mod trees;
 mod values;
 
 pub use edits::{clear, create, delete, kind_of, move_to, set};
-pub use fault::{ClearError, CreateError, SetError, ValueError};
+pub use fault::{ClearError, CreateError, LoadError, SetError, ValueError};
 pub use heard::Heard;
-pub use messages::{ask_text, edit_text, join_text, receive};
+pub use messages::{ask_text, edit_text, join_text, receive, receive_and_tell};
+pub use objects::{children_text, is_in_tree, object_text};
+pub use saves::{load, save};
 pub use trees::tree_text;
 pub use values::read_value;

@@ -40,7 +40,7 @@ fn judge(alloc: Global, json: &Json) -> Result<Value, ValueError>
 }
 
 // The JSON tree of which the bytes are JSON.
-fn parse(alloc: Global, bytes: &[u8]) -> Result<Json, ValueError>
+pub(crate) fn parse(alloc: Global, bytes: &[u8]) -> Result<Json, ValueError>
     ensures ok { IfOk result (λ json. IsJson bytes.now (view json)) }
     ensures err { IfErr result (IsUnparsed bytes.now) }
 {
