@@ -1,12 +1,16 @@
 -- What a connection went through, one step more.
-use Rattle.std.proofs.Common.{◌≡◌, ℕ, suc, ◌+◌, ◌<◌, true, List, [], ◌∷◌, ◌++◌, length, get_or, map, take, Option, refl, ap, sym, ◌∙◌, subst}
+use Rattle.std.proofs.Common.{◌≡◌, ℕ, suc, ◌+◌, ◌<◌, true, List, [], ◌∷◌, ◌++◌, length, get_or, map, take, drop, Option, refl, ap, sym, ◌∙◌, subst}
 use Rattle.std.specs.Prelude.{◌⊎◌}
-use Rattle.std.proofs.lemmas.List.{map-append, take_more}
+use mathlib.Core.Logic.{inr}
+use Rattle.std.proofs.lemmas.List.{append_assoc, map-append, take-append-drop, take_more}
 use Rattle.tungstenite.specs.Connection.{write_step}
 use Rattle.tungstenite.specs.Content.{Content, binary}
+use Rattle.tungstenite.specs.Failure.{IsIo}
 use Rattle.tungstenite.specs.Socket.{Socket, Writes, Flushed}
+use Rattle.tungstenite.specs.declared.error.Error.{Error}
+use Rattle.tungstenite.specs.declared.error.Error.TheVariants.{OutOfMemory, WriteBufferFull}
 use Rattle.canvas_model.specs.Messages.{Message}
-use Rattle.canvas_nodes.specs.Served.{WritesEach, SendsAnswer, Handles, Turns, GoesThrough}
+use Rattle.canvas_nodes.specs.Served.{WritesEach, SendsAnswer, Handles, Turns, GoesThrough, RefusesText, StopsAnswer, StopsHandling, StopsWriting}
 use Rattle.canvas_judge.specs.declared.message.NoReason.TheVariants.{Memory}
 use Rattle.canvas_nodes.specs.Answers.{AreTexts, Replies, refused}
 
@@ -32,6 +36,34 @@ module _ {S : Type 0} (contents : S → Option (List ℕ)) where
   sends_answer {V = V} text_of old mid new made lent answer same are wrote flushed empty =
       (map text_of lent, subst (λ (vs : List V). AreTexts (map text_of vs) answer ⊎ AreTexts (map text_of vs) (refused Memory)) (sym same) are, (mid, wrote, (flushed, empty)))
 
+  -- a text for which there was no memory
+  pub no_memory : (s : Socket S) (t : List ℕ) → RefusesText contents s t OutOfMemory s
+  no_memory s t = record { full = λ is. refl; memory = λ is. refl; failed = λ no. absurd no }
+
+  -- a message that the socket refused
+  pub refused_text : (old new : Socket S) (t : List ℕ) (content : Content) (e : Error) → content ≡ binary t → (e ≡ WriteBufferFull → new ≡ old) → (e ≡ OutOfMemory → new ≡ old)
+      → (IsIo e → Writes contents old new (write_step old.conn content)) → RefusesText contents old t e new
+  refused_text old new t content e is full memory failed =
+      record { full = full; memory = memory; failed = λ io. subst (λ (c : Content). Writes contents old new (write_step old.conn c)) is (failed io) }
+
+  -- the text at a place of texts that are kept in vectors didn't leave
+  pub stopped_at : {V : Type 0} (text_of : V → List ℕ) (old mid new : Socket S) (whole : List V) (i : ℕ) (v : V) (e : Error) → i < length whole → v ≡ get_or whole i v
+      → WritesEach contents old (map text_of (take i whole)) mid → RefusesText contents mid (text_of v) e new → StopsWriting contents old (map text_of whole) e new
+  stopped_at {V = V} text_of old mid new whole i v e within at wrote refuses =
+      record { done = map text_of (take i whole); next = text_of v; rest = map text_of (drop (i + 1) whole); mid = mid; are = sym (ap (map text_of) parts) ∙ map-append text_of (take i whole) (v ∷ drop (i + 1) whole); wrote = wrote; refuses = refuses }
+    where
+      more : take (i + 1) whole ≡ take i whole ++ v ∷ []
+      more = take_more whole i v within ∙ ap (λ (x : V). take i whole ++ x ∷ []) (sym at)
+
+      parts : take i whole ++ v ∷ drop (i + 1) whole ≡ whole
+      parts = sym (append_assoc (take i whole) (v ∷ []) (drop (i + 1) whole)) ∙ ap (λ (l : List V). l ++ drop (i + 1) whole) (sym more) ∙ take-append-drop (i + 1) whole
+
+  -- an answer whose texts, kept in vectors, didn't all leave
+  pub stops_answer : {V : Type 0} (text_of : V → List ℕ) (old new : Socket S) (made lent : List V) (answer : List Message) (e : Error) → lent ≡ made → AreTexts (map text_of made) answer ⊎ AreTexts (map text_of made) (refused Memory)
+      → StopsWriting contents old (map text_of lent) e new ⊎ ((mid : Socket S) × WritesEach contents old (map text_of lent) mid × Flushed contents mid new × IsIo e) → StopsAnswer contents old answer e new
+  stops_answer {V = V} text_of old new made lent answer e same are stops =
+      inr (map text_of lent, subst (λ (vs : List V). AreTexts (map text_of vs) answer ⊎ AreTexts (map text_of vs) (refused Memory)) (sym same) are, stops)
+
 module _ {A S : Type 0} (Gives : A → Message → List Message → A → Type 0) (remaining contents : S → Option (List ℕ)) where
   pub one_turn : (n m : ℕ) (old : A) (before : Socket S) (a : A) (s : Socket S) (new : A) (after : Socket S) → m ≡ suc n → GoesThrough Gives remaining contents n old before a s → Turns Gives remaining contents true a s new after → GoesThrough Gives remaining contents m old before new after
   one_turn n m old before a s new after is through turn = subst (λ (k : ℕ). GoesThrough Gives remaining contents k old before new after) (sym is) (a, s, through, turn)
@@ -41,3 +73,10 @@ module _ {A S : Type 0} (Gives : A → Message → List Message → A → Type 0
   handles_binary content bytes lent old before new after is same h =
       subst (λ (c : Content). Handles Gives remaining contents c true old before new after) (sym is)
       (refl, (h.0, subst (λ (bs : List ℕ). Replies Gives old bs h.0 new) same h.1, h.2))
+
+  -- a message whose answer didn't leave whole
+  pub stops_binary : (content : Content) (bytes lent : List ℕ) (e : Error) (old : A) (before : Socket S) (new : A) (after : Socket S) → content ≡ binary bytes → lent ≡ bytes
+      → ((e ≡ OutOfMemory) × (after ≡ before)) ⊎ ((answer : List Message) × Replies Gives old lent answer new × StopsAnswer contents before answer e after) → StopsHandling Gives remaining contents content e old before new after
+  stops_binary content bytes lent e old before new after is same h =
+      subst (λ (c : Content). StopsHandling Gives remaining contents c e old before new after) (sym is)
+      (subst (λ (bs : List ℕ). ((e ≡ OutOfMemory) × (after ≡ before)) ⊎ ((answer : List Message) × Replies Gives old bs answer new × StopsAnswer contents before answer e after)) same h)

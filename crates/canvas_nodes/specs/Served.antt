@@ -1,8 +1,11 @@
 -- What a server does on a connection.
-use Rattle.std.specs.Prelude.{◌≡◌, ◌⊎◌, ℕ, zero, suc, ◌<◌, Bool, true, false, List, [], ◌∷◌, Option, Ok}
+use Rattle.std.specs.Prelude.{◌≡◌, ◌⊎◌, ℕ, zero, suc, ◌<◌, Bool, true, false, List, [], ◌∷◌, ◌++◌, Option, Ok, Err}
 use Rattle.tungstenite.specs.Connection.{write_step}
 use Rattle.tungstenite.specs.Content.{Content, text, binary, ping, pong, close}
+use Rattle.tungstenite.specs.Failure.{IsIo}
 use Rattle.tungstenite.specs.Socket.{Socket, Writes, Flushed, Reads, content_of}
+use Rattle.tungstenite.specs.declared.error.Error.{Error}
+use Rattle.tungstenite.specs.declared.error.Error.TheVariants.{OutOfMemory, WriteBufferFull}
 use Rattle.tungstenite.specs.declared.message.Message.{Message as Frame}
 use Rattle.canvas_model.specs.Messages.{Message}
 use Rattle.canvas_judge.specs.declared.message.NoReason.TheVariants.{Memory, NotRead}
@@ -25,6 +28,33 @@ module _ {S : Type 0} (contents : S → Option (List ℕ)) where
   -- the texts of these messages have left, or, where there was no memory for them, that of a No for Memory
   abbrev pub SendsAnswer : Socket S → List Message → Socket S → Type 0
   SendsAnswer old answer new = (ts : List (List ℕ)) × (AreTexts ts answer ⊎ AreTexts ts (refused Memory)) × SendsEach old ts new
+
+  -- a text didn't leave as a binary message: nothing has changed where the output was full or memory was refused; where the stream failed, the
+  -- message joined the output, and some of that may have left
+  pub record RefusesText (old : Socket S) (t : List ℕ) (e : Error) (new : Socket S) : Type 0 where
+    pub full : e ≡ WriteBufferFull → new ≡ old
+    pub memory : e ≡ OutOfMemory → new ≡ old
+    pub failed : IsIo e → Writes contents old new (write_step old.conn (binary t))
+
+  -- some of these texts joined the output as binary messages, one after the other, and the next one didn't leave
+  pub record StopsWriting (old : Socket S) (ts : List (List ℕ)) (e : Error) (new : Socket S) : Type 0 where
+    pub done : List (List ℕ)
+    pub next : List ℕ
+    pub rest : List (List ℕ)
+    pub mid : Socket S
+    pub are : ts ≡ done ++ next ∷ rest
+    pub wrote : WritesEach old done mid
+    pub refuses : RefusesText mid next e new
+
+  -- one of these texts didn't leave, or all joined the output, and the stream failed while they left
+  abbrev pub StopsSending : Socket S → List (List ℕ) → Error → Socket S → Type 0
+  StopsSending old ts e new = StopsWriting old ts e new ⊎ ((mid : Socket S) × WritesEach old ts mid × Flushed contents mid new × IsIo e)
+
+  -- the texts of these messages, or that of a No for Memory, didn't all leave; or memory was refused for them, and nothing has changed
+  abbrev pub StopsAnswer : Socket S → List Message → Error → Socket S → Type 0
+  StopsAnswer old answer e new =
+      ((e ≡ OutOfMemory) × (new ≡ old))
+      ⊎ ((ts : List (List ℕ)) × (AreTexts ts answer ⊎ AreTexts ts (refused Memory)) × StopsSending old ts e new)
 
 module _ {A S : Type 0} (Gives : A → Message → List Message → A → Type 0) (remaining contents : S → Option (List ℕ)) where
   -- what a frame makes of the answerer and the socket, and whether the connection goes on: a binary message has its reply, a text is refused as
@@ -50,3 +80,25 @@ module _ {A S : Type 0} (Gives : A → Message → List Message → A → Type 0
   Serves most old before new after =
       (n : ℕ) × (a : A) × (s : Socket S) × GoesThrough n old before a s
       × (((n ≡ most) × (new ≡ a) × (after ≡ s)) ⊎ ((n < most) × Turns false a s new after))
+
+  -- a frame wasn't handled to its end: the answer to a message didn't leave whole, or there was no memory for one; or what waited didn't leave
+  -- before a closing frame
+  abbrev pub StopsHandling : Content → Error → A → Socket S → A → Socket S → Type 0
+  StopsHandling (binary bytes) e old before new after =
+      ((e ≡ OutOfMemory) × (after ≡ before))
+      ⊎ ((answer : List Message) × Replies Gives old bytes answer new × StopsAnswer contents before answer e after)
+  StopsHandling (text bytes) e old before new after = (new ≡ old) × StopsAnswer contents before (refused NotRead) e after
+  StopsHandling (ping bytes) e old before new after = ⊥
+  StopsHandling (pong bytes) e old before new after = ⊥
+  StopsHandling (close frame) e old before new after = (new ≡ old) × Flushed contents before after × IsIo e
+
+  -- a frame wasn't read, or it was, and wasn't handled to its end
+  abbrev pub StopsTurn : Error → A → Socket S → A → Socket S → Type 0
+  StopsTurn e old before new after =
+      ((new ≡ old) × Reads remaining before after (Err e))
+      ⊎ ((mid : Socket S) × (frame : Frame) × Reads remaining before mid (Ok frame) × StopsHandling (content_of frame) e old mid new after)
+
+  -- frames were read and handled, one after the other and fewer than so many, and the next one wasn't: so what left is a beginning of the answers
+  abbrev pub StopsServing : ℕ → Error → A → Socket S → A → Socket S → Type 0
+  StopsServing most e old before new after =
+      (n : ℕ) × (a : A) × (s : Socket S) × (n < most) × GoesThrough n old before a s × StopsTurn e a s new after

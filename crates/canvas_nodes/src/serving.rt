@@ -1,10 +1,11 @@
 // A server's side of a connection.
-ghost use Rattle.std.specs.Prelude.{List, IfOk, OnOk, map};
+ghost use Rattle.std.specs.Prelude.{◌≡◌, ◌⊎◌, List, IfErr, IfOk, OnOk, map};
 ghost use Rattle.tungstenite.specs.Socket.{content_of};
 ghost use Rattle.canvas_model.specs.Messages as messages;
 ghost use Rattle.canvas_judge.specs.Seen.{seen_message};
 ghost use Rattle.canvas_nodes.specs.Answers.{Replies, refused};
-ghost use Rattle.canvas_nodes.specs.Served.{Handles, SendsAnswer, Serves, Turns, WritesEach};
+ghost use Rattle.canvas_nodes.specs.Served.{Handles, SendsAnswer, Serves, StopsAnswer, StopsHandling, StopsServing, StopsTurn, StopsWriting, Turns, WritesEach};
+ghost use Rattle.tungstenite.specs.declared.error.Error.TheVariants.{OutOfMemory};
 
 use crate::Answerer;
 use crate::answering::{refusal, reply, written};
@@ -22,13 +23,14 @@ use tungstenite::{Error, Message as Frame, NoMask, WebSocket};
 /// Once the answer to a binary message has left, the answerer is told.
 ///
 /// It ends with a closing frame, or the 4294967296th message, which isn't read. Otherwise it tells what ended it: a fault of the
-/// socket, or that memory was refused, for a No too.
+/// socket, or that memory was refused, for a No too. All answers but the last have left then, and of the last a beginning.
 pub fn serve_one<A: Answerer, S: Read + Write + Drop>(
     alloc: Global,
     answerer: &mut A,
     socket: &mut WebSocket<S, NoMask>,
 ) -> Result<(), Error>
-    ensures { OnOk result (Serves A.gives S.remaining S.contents 4294967295 answerer.old socket.old answerer.new socket.new) }
+    ensures serves { OnOk result (Serves A.gives S.remaining S.contents 4294967295 answerer.old socket.old answerer.new socket.new) }
+    ensures stops { IfErr result (λ e. StopsServing A.gives S.remaining S.contents 4294967295 e answerer.old socket.old answerer.new socket.new) }
 {
     for _turn in 0..u32::MAX {
         if !serve_next(alloc, answerer, socket)? {
@@ -44,7 +46,8 @@ fn serve_next<A: Answerer, S: Read + Write + Drop>(
     answerer: &mut A,
     socket: &mut WebSocket<S, NoMask>,
 ) -> Result<bool, Error>
-    ensures { IfOk result (λ on. Turns A.gives S.remaining S.contents on answerer.old socket.old answerer.new socket.new) }
+    ensures turns { IfOk result (λ on. Turns A.gives S.remaining S.contents on answerer.old socket.old answerer.new socket.new) }
+    ensures stops { IfErr result (λ e. StopsTurn A.gives S.remaining S.contents e answerer.old socket.old answerer.new socket.new) }
 {
     let frame = socket.read()?;
     handle(alloc, answerer, socket, &frame)
@@ -57,7 +60,8 @@ fn handle<A: Answerer, S: Read + Write + Drop>(
     socket: &mut WebSocket<S, NoMask>,
     frame: &Frame,
 ) -> Result<bool, Error>
-    ensures { IfOk result (λ on. Handles A.gives S.remaining S.contents (content_of frame.now) on answerer.old socket.old answerer.new socket.new) }
+    ensures handles { IfOk result (λ on. Handles A.gives S.remaining S.contents (content_of frame.now) on answerer.old socket.old answerer.new socket.new) }
+    ensures stops { IfErr result (λ e. StopsHandling A.gives S.remaining S.contents (content_of frame.now) e answerer.old socket.old answerer.new socket.new) }
 {
     match frame {
         Frame::Binary(bytes) => {
@@ -85,7 +89,9 @@ fn answer_bytes<A: Answerer, S: Read + Write + Drop>(
     socket: &mut WebSocket<S, NoMask>,
     bytes: &[u8],
 ) -> Result<(), Error>
-    ensures { OnOk result ((answer : List messages.Message) × Replies A.gives answerer.old bytes.now answer answerer.new × SendsAnswer S.contents socket.old answer socket.new) }
+    ensures sends { OnOk result ((answer : List messages.Message) × Replies A.gives answerer.old bytes.now answer answerer.new × SendsAnswer S.contents socket.old answer socket.new) }
+    ensures stops { IfErr result (λ e. ((e ≡ OutOfMemory) × (socket.new ≡ socket.old))
+        ⊎ ((answer : List messages.Message) × Replies A.gives answerer.old bytes.now answer answerer.new × StopsAnswer S.contents socket.old answer e socket.new)) }
 {
     let answer = reply(alloc, answerer, bytes)?;
     send(alloc, socket, &answer)
@@ -97,7 +103,8 @@ fn refuse<S: Read + Write + Drop>(
     socket: &mut WebSocket<S, NoMask>,
     reason: NoReason,
 ) -> Result<(), Error>
-    ensures { OnOk result (SendsAnswer S.contents socket.old (refused reason) socket.new) }
+    ensures sends { OnOk result (SendsAnswer S.contents socket.old (refused reason) socket.new) }
+    ensures stops { IfErr result (λ e. StopsAnswer S.contents socket.old (refused reason) e socket.new) }
 {
     let answer = refusal(alloc, reason)?;
     send(alloc, socket, &answer)
@@ -109,7 +116,8 @@ fn send<S: Read + Write + Drop>(
     socket: &mut WebSocket<S, NoMask>,
     answer: &[Message],
 ) -> Result<(), Error>
-    ensures { OnOk result (SendsAnswer S.contents socket.old (map seen_message answer.now) socket.new) }
+    ensures sends { OnOk result (SendsAnswer S.contents socket.old (map seen_message answer.now) socket.new) }
+    ensures stops { IfErr result (λ e. StopsAnswer S.contents socket.old (map seen_message answer.now) e socket.new) }
 {
     let texts = written(alloc, answer)?;
     write_each(alloc, socket, &texts)?;
@@ -122,7 +130,8 @@ fn write_each<S: Read + Write + Drop>(
     socket: &mut WebSocket<S, NoMask>,
     texts: &[Vec<u8>],
 ) -> Result<(), Error>
-    ensures { OnOk result (WritesEach S.contents socket.old (map (λ text. text.items) texts.now) socket.new) }
+    ensures writes { OnOk result (WritesEach S.contents socket.old (map (λ text. text.items) texts.now) socket.new) }
+    ensures stops { IfErr result (λ e. StopsWriting S.contents socket.old (map (λ text. text.items) texts.now) e socket.new) }
 {
     for text in texts {
         let frame = Frame::binary(alloc, text)?;
