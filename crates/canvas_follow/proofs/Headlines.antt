@@ -13,7 +13,7 @@ use Rattle.canvas_model.specs.Receive.{IsEdit}
 use Rattle.canvas_model.proofs.Lists.{nth-take_inv}
 use Rattle.canvas_model.proofs.Log.{done_opening, find_number, fits-take, number_once}
 use Rattle.canvas_model.proofs.Tests.{one_less}
-use Rattle.canvas_follow.specs.Follows.{AreAllOf, Follows}
+use Rattle.canvas_follow.specs.Follows.{AreFirstOf, Follows}
 use Rattle.canvas_follow.specs.Exchanges.{HasHeadline, StandsOnce}
 
 module _ (log : List Entry) (legal : IsLegal opening log) (c : ℕ) (given : 0 < c) where
@@ -32,7 +32,7 @@ module _ (log : List Entry) (legal : IsLegal opening log) (c : ℕ) (given : 0 <
       by (no apart) = absurd (either (one_less u v apart))
 
   -- an edit that was acknowledged stands in the log once
-  stands_once : (edits : List Change) (all : AreAllOf c edits log) (client : Client) → Follows log c edits client → (i : ℕ) → 0 < i → i ≤ client.acknowledged → StandsOnce log c i client.version edits
+  stands_once : (edits : List Change) (all : AreFirstOf c edits log) (client : Client) → Follows log c edits client → (i : ℕ) → 0 < i → i ≤ client.acknowledged → StandsOnce log c i client.version edits
   stands_once edits all client f i some low =
       let none = done_opening c in
       let count = f.acknowledged in
@@ -45,11 +45,11 @@ module _ (log : List Entry) (legal : IsLegal opening log) (c : ℕ) (given : 0 <
         stands = here.1;
         author = r.mine;
         number = r.seq;
-        what = subst (λ (j : ℕ). IsEdit r.entry.what (nth edits j)) r.seq (all (suc r.place) r.entry here.1 r.mine);
+        what = subst (λ (j : ℕ). IsEdit r.entry.what (nth edits j)) r.seq (all (suc r.place) r.entry here.1 r.mine (omega (arith, r.seq, low, f.made)));
         once = λ u other there mine seq. one_version (suc r.place) u r.entry other here.1 there r.mine mine (r.seq ∙ sym seq);
       }
 
-pub headline : (log : List Entry) → IsLegal opening log → (c : ℕ) (edits : List Change) → AreAllOf c edits log → (client : Client) → Follows log c edits client → HasHeadline log c edits client
+pub headline : (log : List Entry) → IsLegal opening log → (c : ℕ) (edits : List Change) → AreFirstOf c edits log → (client : Client) → Follows log c edits client → HasHeadline log c edits client
 headline log legal c edits all client f = record { shows = f.stands.shown; stands = stands_once log legal c f.given edits all client f }
 
 -- two clients at one version of a log with nothing waiting show equal documents

@@ -19,14 +19,14 @@ use Rattle.canvas_client.specs.Follow.{CanFollow, EachVerdictLeavesRoot}
 use Rattle.canvas_nodes.specs.declared.link.LinkError.{LinkError}
 use Rattle.canvas_nodes.specs.Hears.{HearsEach, HearsOne, HearsSome}
 use Rattle.canvas_front.specs.News.{copies, news_of, tells, tells_or_copies}
-use Rattle.canvas_follow.specs.Follows.{AreAllOf, Follows, IsTrueFor}
+use Rattle.canvas_follow.specs.Follows.{AreAllOf, AreFirstOf, Follows, IsTrueFor}
 use Rattle.canvas_follow.specs.Histories.{AreTrueFor}
 use Rattle.canvas_follow.proofs.Takes.{granted}
 use Rattle.canvas_follow.proofs.Truth.{GoesFurther, as_before, by_message, copy_taken, next_taken}
 use Rattle.canvas_follow.proofs.Histories.{Records}
 use Rattle.canvas_follow.proofs.News.{copy_true, news_true, next_first, rest_after}
 
-module _ (sound : EachVersionIsSound) (stands_after : EachEntryStands) (leaves : EachVerdictLeavesRoot) (log : List Entry) (legal : IsLegal opening log) (c : ℕ) (edits : List Change) (all : AreAllOf c edits log) where
+module _ (sound : EachVersionIsSound) (stands_after : EachEntryStands) (leaves : EachVerdictLeavesRoot) (log : List Entry) (legal : IsLegal opening log) (c : ℕ) (edits : List Change) (all : AreFirstOf c edits log) where
   can_follow : (m : Message) → IsTrueFor log c m → CanFollow m
   can_follow (messages.Entry zero e) is = absurd (cc)
   can_follow (messages.Entry (suc i) e) is = leaves (at_version log i) e (sound log legal i) (granted (at_version log i) e (step_at opening log i e legal.fits is).0)
@@ -57,15 +57,15 @@ module _ (sound : EachVersionIsSound) (stands_after : EachEntryStands) (leaves :
   pub heard_some : (old : Client) → Follows log c edits old → (ms : List Message) → AreTrueFor log c ms → (e : LinkError) (new : Client) → HearsSome old ms e new → GoesFurther sound stands_after log legal c edits all old new
   heard_some old f ms are e new h = heard_each old f h.0 (beginning h.0 h.1 (subst (AreTrueFor log c) h.2 are)) new h.3
 
-  -- where the news of a board that records the log lead it no further, it has come to the end of the log
-  pub caught_up : (b : Served) → Records b log → (old : Client) → Follows log c edits old → (new : Client) → HearsEach old (news_of b c old.version ++ Idle ∷ []) new → new.version ≤ old.version → old.version ≡ length log
-  caught_up b r old f new h stays = by (dec_le (length log) old.version)
+  -- where the news of a board that records the log lead it no further, it has come to the end of the log, where nobody else made an edit under its id
+  pub caught_up : AreAllOf c edits log → (b : Served) → Records b log → (old : Client) → Follows log c edits old → (new : Client) → HearsEach old (news_of b c old.version ++ Idle ∷ []) new → new.version ≤ old.version → old.version ≡ length log
+  caught_up alone b r old f new h stays = by (dec_le (length log) old.version)
     where
       -- a copy of a later version is taken
       by_copy : old.version < length log → HearsEach old (copies b c ∷ Idle ∷ []) new → ⊥
       by_copy low h =
           let is = copy_true b log r c in
-          let at = copy_taken sound stands_after log legal c edits all old f b.version (done b.state c) b.state.doc is (omega (arith, low, r.version)) h.1.answer h.0 (h.1.follows tt) in
+          let at = copy_taken sound stands_after log legal c edits all alone old f b.version (done b.state c) b.state.doc is (omega (arith, low, r.version)) h.1.answer h.0 (h.1.follows tt) in
           let one = heard_one old f (copies b c) is h.0 h.1 in
           let rest = heard_each h.0 one.0 (Idle ∷ []) (tt, tt) new h.2 in
           omega (arith, at, rest.1, stays, low, r.version)
@@ -76,7 +76,7 @@ module _ (sound : EachVersionIsSound) (stands_after : EachEntryStands) (leaves :
       by_entries e (x ∷ es) first are h =
           let version : old.version + 1 ≡ suc old.version = omega arith in
           let receives = subst (λ (v : ℕ). Receives old (messages.Entry v x) h.1.answer h.0) version (h.1.follows (can_follow (messages.Entry (old.version + 1) x) are.0)) in
-          let at = next_taken sound stands_after log legal c edits all old f x (ap (nth log) (sym version) ∙ are.0) h.1.answer h.0 receives in
+          let at = next_taken sound stands_after log legal c edits all alone old f x (ap (nth log) (sym version) ∙ are.0) h.1.answer h.0 receives in
           let one = heard_one old f (messages.Entry (old.version + 1) x) are.0 h.0 h.1 in
           let rest = heard_each h.0 one.0 (tells (old.version + 1) es ++ Idle ∷ []) are.1 new h.2 in
           omega (arith, at, rest.1, stays)

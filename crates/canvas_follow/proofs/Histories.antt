@@ -15,7 +15,7 @@ use Rattle.canvas_model.proofs.Log.{fits-append, fold-append}
 use Rattle.canvas_server.specs.Served.{Served}
 use Rattle.canvas_board.specs.Marks.{Failed, Floor, IsLegal, LegalFrom, Logged, Mark, MayFollow, Opening, board, board_from, start, step}
 use Rattle.canvas_front.specs.Table.{SeesOn}
-use Rattle.canvas_follow.specs.Follows.{AreAllOf, Follows}
+use Rattle.canvas_follow.specs.Follows.{AreFirstOf, Follows}
 use Rattle.canvas_follow.specs.Histories.{OpensAfter, entries_of, log_of}
 
 -- A board that a legal log leads to, of which all is published and the entries after the floor are kept.
@@ -122,6 +122,6 @@ follows_longer log new c edits client longer f = subst (λ (l : List Entry). Fol
     same : at_version log client.version ≡ at_version (log ++ longer.more) client.version
     same = sym (same_at log longer.more client.version f.reached)
 
--- who used an id alone in a log did so in what the log was before
-pub all_before : (log new : List Entry) (c : ℕ) (edits : List Change) → Longer log new → AreAllOf c edits new → AreAllOf c edits log
-all_before log new c edits longer all v e here mine = all v e (ap (λ (l : List Entry). nth l v) longer.is ∙ nth-append log longer.more v e here) mine
+-- the first edits of an id in a log are so in what the log was before
+pub first_before : (log new : List Entry) (c : ℕ) (edits : List Change) → Longer log new → AreFirstOf c edits new → AreFirstOf c edits log
+first_before log new c edits longer all v e here mine = all v e (ap (λ (l : List Entry). nth l v) longer.is ∙ nth-append log longer.more v e here) mine

@@ -35,7 +35,7 @@ use Rattle.canvas_front.specs.Table.{AnswersAsk, AnswersRequest, IsJudged, IsSin
 use Rattle.canvas_front.specs.Links.{Grants, IsNo, RefusesRound}
 use Rattle.canvas_front.proofs.Ends.{says_ends}
 use Rattle.canvas_front.proofs.SeesOn.{refused_sees}
-use Rattle.canvas_follow.specs.Follows.{AreAllOf, IsTrueFor}
+use Rattle.canvas_follow.specs.Follows.{AreFirstOf, IsTrueFor}
 use Rattle.canvas_follow.specs.Histories.{AreTrueFor, FollowsAt, OpensAfter, entries_of, log_of}
 use Rattle.canvas_follow.proofs.Histories.{Longer, entries_append, follows_longer, log_append, records, same_at, seen_legal, seen_longer}
 use Rattle.canvas_follow.proofs.News.{news_true}
@@ -156,7 +156,7 @@ module _ (sound : EachVersionIsSound) (stands_after : EachEntryStands) (leaves :
   }
 
   -- after a round whose answer was heard
-  pub heard : (asked : Message) (old : Client) (before : List Mark) (new : Client) (after : List Mark) → IsAskedBy asked → FollowsAt o past c edits before old → AreAllOf c edits (log_of past after)
+  pub heard : (asked : Message) (old : Client) (before : List Mark) (new : Client) (after : List Mark) → IsAskedBy asked → FollowsAt o past c edits before old → AreFirstOf c edits (log_of past after)
       → Hears (Grants o) (RefusesRound o) asked old before new after → FollowsAt o past c edits after new × (old.version ≤ new.version)
   heard asked old before new after mine f all h =
       let on = follows_on before after old f h.1.0.0 in
@@ -164,7 +164,7 @@ module _ (sound : EachVersionIsSound) (stands_after : EachEntryStands) (leaves :
       (record { legal = on.legal; follows = g.0 }, g.1)
 
   -- after a round that broke off
-  pub broke : (asked : Message) (e : LinkError) (old : Client) (before : List Mark) (new : Client) (after : List Mark) → IsAskedBy asked → FollowsAt o past c edits before old → AreAllOf c edits (log_of past after)
+  pub broke : (asked : Message) (e : LinkError) (old : Client) (before : List Mark) (new : Client) (after : List Mark) → IsAskedBy asked → FollowsAt o past c edits before old → AreFirstOf c edits (log_of past after)
       → Breaks (Grants o) (RefusesRound o) asked e old before new after → FollowsAt o past c edits after new
   broke asked e old before new after mine f all (inl h) =
       subst (FollowsAt o past c edits after) (sym h.1) (follows_on before after old f (refused_sees o before asked e after h.0))
@@ -201,7 +201,7 @@ module _ (sound : EachVersionIsSound) (stands_after : EachEntryStands) (leaves :
     answered answer g = said g.0.1.0 g.0.1.2 (λ is_no. g.1 (subst IsNo (sym g.0.1.1) is_no))
 
   -- a waiting edit was sent, and the answer heard
-  pub heard_edit : (i number : ℕ) (old : Client) (before : List Mark) (new : Client) (after : List Mark) → number ≡ old.acknowledged + i → FollowsAt o past c edits before old → AreAllOf c edits (log_of past after)
+  pub heard_edit : (i number : ℕ) (old : Client) (before : List Mark) (new : Client) (after : List Mark) → number ≡ old.acknowledged + i → FollowsAt o past c edits before old → AreFirstOf c edits (log_of past after)
       → HearsOfEdit (Grants o) (RefusesRound o) i old before new after → FollowsAt o past c edits after new × (number ≤ done (fold opening (log_of past after)) c)
   heard_edit i number old before new after at f all (asked, w, h) =
       let both : Some w.0 ≡ Some c = sym w.2 ∙ f.follows.holds in

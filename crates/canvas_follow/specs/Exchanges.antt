@@ -6,8 +6,8 @@ use Rattle.canvas_model.specs.Numbered.{nth}
 use Rattle.canvas_model.specs.Client.{Client, new_client}
 use Rattle.canvas_model.specs.Overlay.{over}
 use Rattle.canvas_model.specs.Receive.{IsEdit}
-use Rattle.canvas_board.specs.Marks.{IsLegal, Mark, Opening, board}
-use Rattle.canvas_follow.specs.Follows.{AreAllOf}
+use Rattle.canvas_board.specs.Marks.{Mark, Opening, board}
+use Rattle.canvas_follow.specs.Follows.{AreAllOf, AreFirstOf}
 use Rattle.canvas_follow.specs.Histories.{FollowsAt, OpensAfter, log_of}
 
 -- It shows the document that the seat has seen, and nothing waits.
@@ -38,20 +38,22 @@ FollowsAnew o past seen client = (c : ℕ) × FollowsAt o past c [] seen client
 
 -- a new client that joined follows what the seat has seen then, after whatever past the room opened
 abbrev pub JoinsAt : Opening → List Mark → Client → List Mark → Type 0
-JoinsAt o before new after = (past : List Entry) → OpensAfter o past → IsLegal o before → FollowsAnew o past after new
+JoinsAt o before new after = (past : List Entry) → OpensAfter o past → FollowsAnew o past after new
 
 -- where its join broke off, it is still new, or follows
 abbrev pub MayJoinAt : Opening → List Mark → Client → List Mark → Type 0
-MayJoinAt o before new after = (past : List Entry) → OpensAfter o past → IsLegal o before → (new ≡ new_client) ⊎ FollowsAnew o past after new
+MayJoinAt o before new after = (past : List Entry) → OpensAfter o past → (new ≡ new_client) ⊎ FollowsAnew o past after new
 
--- This holds of a client that followed what the seat had seen, and whose id is its alone by what the seat has seen now.
-abbrev pub WhereItFollowed : Opening → Client → List Mark → List Mark → (List Entry → ℕ → List Change → Type 0) → Type 0
-WhereItFollowed o old before after P = (past : List Entry) → OpensAfter o past → (c : ℕ) (edits : List Change) → FollowsAt o past c edits before old → AreAllOf c edits (log_of past after) → P past c edits
+-- this holds of a client that followed what the seat had seen, whose id is its alone in this sense
+abbrev pub WhereItFollowed : Opening → Client → List Mark → (List Entry → ℕ → List Change → Type 0) → (List Entry → ℕ → List Change → Type 0) → Type 0
+WhereItFollowed o old before Alone P = (past : List Entry) → OpensAfter o past → (c : ℕ) (edits : List Change) → FollowsAt o past c edits before old → Alone past c edits → P past c edits
 
--- then it follows what the seat has seen now: it shows the document at its version, with what waits laid over it, and each acknowledged edit stands there once
+-- Where no other edit took a number of its edits, it follows what the seat has seen now: it shows the document at its version, with what
+-- waits laid over it, and each acknowledged edit stands there once.
 abbrev pub KeepsFollowing : Opening → Client → List Mark → Client → List Mark → Type 0
-KeepsFollowing o old before new after = WhereItFollowed o old before after (λ past c edits. FollowsAt o past c edits after new × HasHeadline (log_of past after) c edits new)
+KeepsFollowing o old before new after =
+    WhereItFollowed o old before (λ past c edits. AreFirstOf c edits (log_of past after)) (λ past c edits. FollowsAt o past c edits after new × HasHeadline (log_of past after) c edits new)
 
--- and it is up to date
+-- and where nobody else made an edit under its id, it is up to date
 abbrev pub CatchesUpAt : Opening → Client → List Mark → Client → List Mark → Type 0
-CatchesUpAt o old before new after = WhereItFollowed o old before after (λ past c edits. IsUpToDate o after new)
+CatchesUpAt o old before new after = WhereItFollowed o old before (λ past c edits. AreAllOf c edits (log_of past after)) (λ past c edits. IsUpToDate o after new)

@@ -14,13 +14,13 @@ use Rattle.canvas_board.specs.Marks.{Mark, Opening, Sees, board}
 use Rattle.canvas_desk.specs.Crashes.{IsAtRest, Run}
 use Rattle.canvas_desk.specs.Desks.{DeskValue, at}
 use Rattle.canvas_nodes.specs.Hears.{HearsOne}
-use Rattle.canvas_follow.specs.Follows.{AreAllOf, Follows, IsTrueFor}
+use Rattle.canvas_follow.specs.Follows.{AreFirstOf, Follows, IsTrueFor}
 use Rattle.canvas_follow.specs.Histories.{FollowsAt, OpensAfter, log_of, newly_opened, reopened}
 use Rattle.canvas_follow.specs.Exchanges.{HasHeadline}
 
--- a client whose id is its alone goes on to follow the log by each message that is true of it
+-- a client whose numbers no other edit took under its id goes on to follow the log by each message that is true of it
 abbrev pub EachTruthIsFollowed : Type 0
-EachTruthIsFollowed = (log : List Entry) → IsLegal opening log → (c : ℕ) (edits : List Change) → AreAllOf c edits log → (old : Client) → Follows log c edits old
+EachTruthIsFollowed = (log : List Entry) → IsLegal opening log → (c : ℕ) (edits : List Change) → AreFirstOf c edits log → (old : Client) → Follows log c edits old
     → (m : Message) → IsTrueFor log c m → (new : Client) → HearsOne old m new → Follows log c edits new × (old.version ≤ new.version)
 
 -- and by each edit of its own
@@ -30,7 +30,7 @@ EachEditIsFollowed = (log : List Entry) → IsLegal opening log → (c : ℕ) (e
 
 -- it shows the document at its version with what waits laid over it, and its acknowledged edits stand in the log once
 abbrev pub EachFollowerShows : Type 0
-EachFollowerShows = (log : List Entry) → IsLegal opening log → (c : ℕ) (edits : List Change) → AreAllOf c edits log → (client : Client) → Follows log c edits client → HasHeadline log c edits client
+EachFollowerShows = (log : List Entry) → IsLegal opening log → (c : ℕ) (edits : List Change) → AreFirstOf c edits log → (client : Client) → Follows log c edits client → HasHeadline log c edits client
 
 -- two clients at one version of a log with nothing waiting show equal documents
 abbrev pub FollowersAgree : Type 0
@@ -56,5 +56,5 @@ module _ {K : Type 0} (o : Opening) (honest : K → Bool) (moment : K → ℕ) (
   abbrev pub EachAcknowledgedIsFound : Type 0
   EachAcknowledgedIsFound = (start d : DeskValue K) (calls : List (List Asked)) (seen : List Mark) (left : Content) → IsAtRest o honest moment left_since finds keeps start → Run o honest moment left_since finds start calls d
       → IsPrefix seen start.due → left_since d.keeper (moment start.keeper) left
-      → (past : List Entry) → OpensAfter o past → (c : ℕ) (edits : List Change) (client : Client) → FollowsAt o past c edits seen client → AreAllOf c edits (log_of past seen)
+      → (past : List Entry) → OpensAfter o past → (c : ℕ) (edits : List Change) (client : Client) → FollowsAt o past c edits seen client → AreFirstOf c edits (log_of past seen)
       → FindsAcknowledged o finds past c edits seen client left

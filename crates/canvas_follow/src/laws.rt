@@ -7,10 +7,10 @@ use canvas_desk::found_after_every_crash;
 use canvas_journal::Keeper;
 use canvas_model::{every_log, every_view};
 
-/// A client that follows a log and whose id is its alone goes on to follow it, by each true message and each edit of its own; it shows
-/// the document at its version with what waits laid over it, and its acknowledged edits stand in the log once; two that are at one
-/// version with nothing waiting show equal documents. A room that begins with nothing opens after no entries. It does nothing when it
-/// runs: call it where a proof needs the law.
+/// A client that follows a log in which no other edit took a number of its edits goes on to follow it, by each true message and each edit
+/// of its own; it shows the document at its version with what waits laid over it, and its acknowledged edits stand in the log once; two
+/// that are at one version with nothing waiting show equal documents. A room that begins with nothing opens after no entries. It does
+/// nothing when it runs: call it where a proof needs the law.
 pub fn every_follower()
     ensures truths { EachTruthIsFollowed }
     ensures edits { EachEditIsFollowed }

@@ -2,6 +2,7 @@
 ghost use Rattle.std.specs.Prelude.{◌≡◌, IfErr, IsNone, IsSome, OnOk};
 ghost use Rattle.canvas_model.specs.Client.{new_client};
 ghost use Rattle.canvas_nodes.specs.GoesOn.{GoesOn};
+ghost use Rattle.canvas_board.specs.Marks.{IsLegal};
 ghost use Rattle.canvas_front.specs.Table.{SeesOn};
 ghost use Rattle.canvas_follow.specs.Exchanges.{CatchesUpAt, JoinsAt, KeepsFollowing, MayJoinAt};
 
@@ -26,6 +27,7 @@ pub fn join_at<K: Keeper + Drop, N: RoomName, R: Wait + Drop, W: Wait + Drop>(
     requires { client.old ≡ new_client }
     ensures joins { OnOk result (JoinsAt N.opening link.old client.new link.new) }
     ensures breaks { IfErr result (λ _. MayJoinAt N.opening link.old client.new link.new) }
+    ensures legal { OnOk result (IsLegal N.opening link.new) }
     ensures goes_on { GoesOn client.old client.new }
     ensures id { OnOk result (IsSome client.new.id) }
 {
@@ -34,10 +36,11 @@ pub fn join_at<K: Keeper + Drop, N: RoomName, R: Wait + Drop, W: Wait + Drop>(
 
 /// An exchange at a seat: all edits that wait are sent, in their order, and then the client asks until it has all that the seat has seen.
 ///
-/// Where the client followed what the seat had seen, and its id is its alone by what the seat has seen since, it follows that: it shows
-/// the document at its version with what waits laid over it, and each edit that it knows to be judged stands there once. This holds of
-/// an exchange that breaks off too. After one that doesn't, nothing waits, and the client shows the document of all that the seat has
-/// seen; so clients whose seats have seen equal histories show equal documents.
+/// Where the client followed what the seat had seen, and no other edit took a number of one of its edits, it follows what the seat has
+/// seen since: it shows the document at its version with what waits laid over it, and each edit that it knows to be judged stands there
+/// once. This holds of an exchange that breaks off too. After one that doesn't, where nobody else made an edit under its id, nothing
+/// waits, and the client shows the document of all that the seat has seen; so clients whose seats have seen equal histories show equal
+/// documents.
 ///
 /// The errors are those of `canvas_nodes::exchange`: Refused where the room refuses an edit or the client, and Memory where memory was
 /// refused.
