@@ -1,3 +1,3 @@
-pub mod Working
+pub mod Following
 pub mod Lists
 pub mod Sends

@@ -1,7 +1,8 @@
 -- Lists that stand beside each other.
-use Rattle.std.proofs.Common.{◌≡◌, ℕ, suc, ◌<◌, List, [], ◌∷◌, ◌++◌, length, Result, Ok, Err, refl, ap, sym, ◌∙◌, subst, arith, append_assoc, append-nil}
-use Rattle.std.specs.Prelude.{IfOk, map, slice_index_or}
+use Rattle.std.proofs.Common.{◌≡◌, ℕ, suc, ◌<◌, List, [], ◌∷◌, ◌++◌, length, Result, Ok, Err, ap, sym, ◌∙◌, subst, arith, append_assoc, append-nil}
+use Rattle.std.specs.Prelude.{All, IfOk, map, slice_index_or}
 use Rattle.std.proofs.lemmas.List.{length-map}
+use Rattle.std.proofs.lemmas.List.Elements.{All-cons, All-nil}
 use Rattle.canvas_threads.specs.Worked.{Beside}
 
 module _ {A B : Type 0} (P : A → B → Type 0) where
@@ -54,19 +55,34 @@ beside_through P Q R (x ∷ xs) [] zs p q h = absurd p
 beside_through P Q R (x ∷ xs) (y ∷ ys) [] p q h = absurd q
 beside_through P Q R (x ∷ xs) (y ∷ ys) (z ∷ zs) p q h = (h x y z p.0 q.0, beside_through P Q R xs ys zs p.1 q.1 h)
 
-map_twice : {A B C : Type 0} (g : B → C) (f : A → B) (xs : List A) → map g (map f xs) ≡ map (λ x. g (f x)) xs
-map_twice g f [] = refl
-map_twice g f (x ∷ xs) = ap (λ zs. g (f x) ∷ zs) (map_twice g f xs)
-
 -- the same of what a call answers
-pub worked_ok : {A B D M V E F : Type 0} (R : M → B → Type 0) (edits : A → D) (size : D → M) (xs : List A) (ds : List D) (rs : List (Result B E)) (items_of : V → List B) (r : Result V F) → map edits xs ≡ ds → length rs ≡ length xs
-    → ((i : ℕ) (d : A) (e : Result B E) → i < length xs → IfOk (slice_index_or rs i e) (λ y. R (size (edits (slice_index_or xs i d))) y)) → IfOk r (λ v. map Ok (items_of v) ≡ rs) → IfOk r (λ v. Beside R (map size ds) (items_of v))
-worked_ok {B = B} {M = M} R edits size xs ds rs items_of (Ok v) made len each is =
-    subst (λ (ms : List M). Beside R ms (items_of v)) (sym (map_twice size edits xs) ∙ ap (map size) made)
-    (beside_made R (λ x. size (edits x)) xs (items_of v) (beside_each (λ x y. R (size (edits x)) y) xs rs (items_of v) len each is))
-worked_ok R edits size xs ds rs items_of (Err e) made len each is = tt
+pub worked_ok : {A B D V E F : Type 0} (R : D → B → Type 0) (plan : A → D) (xs : List A) (ds : List D) (rs : List (Result B E)) (items_of : V → List B) (r : Result V F) → map plan xs ≡ ds → length rs ≡ length xs
+    → ((i : ℕ) (d : A) (e : Result B E) → i < length xs → IfOk (slice_index_or rs i e) (λ y. R (plan (slice_index_or xs i d)) y)) → IfOk r (λ v. map Ok (items_of v) ≡ rs) → IfOk r (λ v. Beside R ds (items_of v))
+worked_ok {B = B} {D = D} R plan xs ds rs items_of (Ok v) made len each is =
+    subst (λ (zs : List D). Beside R zs (items_of v)) made
+    (beside_made R plan xs (items_of v) (beside_each (λ x y. R (plan x) y) xs rs (items_of v) len each is))
+worked_ok R plan xs ds rs items_of (Err e) made len each is = tt
 
 pub through_ok : {A B C V E : Type 0} (P : A → B → Type 0) (Q : B → C → Type 0) (R : A → C → Type 0) (xs : List A) (ys : List B) (items_of : V → List C) (r : Result V E)
     → Beside P xs ys → IfOk r (λ v. Beside Q ys (items_of v)) → ((x : A) (y : B) (z : C) → P x y → Q y z → R x z) → IfOk r (λ v. Beside R xs (items_of v))
 through_ok P Q R xs ys items_of (Ok v) p q h = beside_through P Q R xs ys (items_of v) p q h
 through_ok P Q R xs ys items_of (Err e) p q h = tt
+
+-- what holds of each second element
+pub all_beside : {A B : Type 0} (P : A → B → Type 0) (Q : B → Type 0) (xs : List A) (ys : List B) → ((x : A) (y : B) → P x y → Q y) → Beside P xs ys → All Q ys
+all_beside P Q [] [] each p = All-nil Q
+all_beside P Q [] (y ∷ ys) each p = absurd p
+all_beside P Q (x ∷ xs) [] each p = absurd p
+all_beside P Q (x ∷ xs) (y ∷ ys) each p = All-cons Q y ys (each x y p.0) (all_beside P Q xs ys each p.1)
+
+-- what follows for each pair, by what is made of each first element
+beside_weaker : {A B C : Type 0} (P : A → B → Type 0) (Q : C → B → Type 0) (f : A → C) (xs : List A) (ys : List B) → ((x : A) (y : B) → P x y → Q (f x) y) → Beside P xs ys → Beside Q (map f xs) ys
+beside_weaker P Q f [] [] each p = tt
+beside_weaker P Q f [] (y ∷ ys) each p = absurd p
+beside_weaker P Q f (x ∷ xs) [] each p = absurd p
+beside_weaker P Q f (x ∷ xs) (y ∷ ys) each p = (each x y p.0, beside_weaker P Q f xs ys each p.1)
+
+pub weaker_ok : {A B C V E : Type 0} (P : A → B → Type 0) (Q : C → B → Type 0) (f : A → C) (xs : List A) (items_of : V → List B) (r : Result V E)
+    → ((x : A) (y : B) → P x y → Q (f x) y) → IfOk r (λ v. Beside P xs (items_of v)) → IfOk r (λ v. Beside Q (map f xs) (items_of v))
+weaker_ok P Q f xs items_of (Ok v) each p = beside_weaker P Q f xs (items_of v) each p
+weaker_ok P Q f xs items_of (Err e) each p = tt

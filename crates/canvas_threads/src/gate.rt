@@ -1,11 +1,11 @@
-// What stands round each submit of a node.
+// What stands round each exchange of a node.
 
-/// Is called round each submit of an edit by a node of `run_nodes`. Nodes and the submits of each count from 1.
+/// Is called round each exchange by which a node of `run_nodes` sends an edit. Nodes and the edits that each sends count from 1.
 pub trait Gate {
-    /// Is called right before a node submits an edit.
+    /// Is called right before a node sends an edit that it made.
     fn before(&self, node: u64, call: u64);
 
-    /// Is called right after that submit was answered, however it was.
+    /// Is called right after that exchange, however it ended.
     fn after(&self, node: u64, call: u64);
 }
 

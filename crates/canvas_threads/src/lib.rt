@@ -2,10 +2,13 @@
 #![tactic(auto)]
 
 mod client_node;
+mod error;
 mod gate;
 mod node;
 mod nodes;
+mod plan;
 
 pub use client_node::{ClientNode, Command};
 pub use gate::{Gate, NoGate};
-pub use nodes::run_nodes;
+pub use nodes::{run_nodes, run_plans};
+pub use plan::Plan;

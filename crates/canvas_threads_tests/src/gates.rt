@@ -6,7 +6,7 @@ use std::thread::yield_now;
 // What one of two nodes tells the other.
 #[derive(Drop)]
 struct Side {
-    // It has come to its first submit.
+    // It has come to send its first edit.
     came: AtomicBool,
     // It went on since the other came.
     met: AtomicBool,
@@ -33,7 +33,7 @@ impl Side {
     }
 }
 
-/// A gate at which the first submits of nodes 1 and 2 wait for each other.
+/// A gate at which nodes 1 and 2 wait for each other before the first edit that each sends.
 #[derive(Drop)]
 pub struct Meeting {
     one: Side,
@@ -83,7 +83,7 @@ impl Counting {
         }
     }
 
-    /// How often it was called before a submit, how often after one, and the sum of the calls' numbers before.
+    /// How often it was called before an exchange, how often after one, and the sum of the calls' numbers before.
     pub fn counts(&self) -> (u64, u64, u64) {
         (
             self.before.load(Ordering::SeqCst),

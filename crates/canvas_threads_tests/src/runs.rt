@@ -92,7 +92,7 @@ fn ended_by<
     K: Keeper + Drop + Send,
     N: RoomName + Send + Sync,
     Q: Wait + Drop + Send,
-    R: Threads + Wait + AllocGlobal + Sync,
+    R: Threads + Wait + AllocGlobal + Clone + Sync + Drop,
     G: Gate + Sync,
 >(
     rt: &R,
@@ -104,7 +104,7 @@ fn ended_by<
     if seats.len() < lists.len() {
         return Err(Fail::from("too few seats"));
     }
-    match run_nodes(rt, room, seats, lists, gate) {
+    match run_nodes(rt, seats, lists, gate) {
         Ok(clients) => Ok(Ok(Ran {
             clients,
             version: room.desk(rt).version(),
@@ -118,7 +118,7 @@ fn ended_at<
     K: Keeper + Drop + Send,
     N: RoomName + Send + Sync,
     Q: Wait + Drop + Send,
-    R: Threads + Wait + AllocGlobal + Sync,
+    R: Threads + Wait + AllocGlobal + Clone + Sync + Drop,
     G: Gate + Sync,
 >(
     rt: &R,
