@@ -1,2 +1,7 @@
 pub mod Left
 pub mod Reading
+pub mod Ends
+pub mod Openings
+pub mod Lines
+pub mod OneLine
+pub mod RowLines

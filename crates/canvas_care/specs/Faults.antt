@@ -15,7 +15,7 @@ use Rattle.canvas_journal.specs.declared.fault.OpenError.TheVariants as opening
 use Rattle.canvas_lines.specs.declared.fault.Fault as lines
 use Rattle.canvas_lines.specs.declared.fault.Fault.TheVariants as line
 use Rattle.canvas_care.specs.declared.fault.Fault.{Fault}
-use Rattle.canvas_care.specs.declared.fault.Fault.TheVariants.{Stream, Device, InUse, Taken, BadLine, NoDocument, Damaged, TooLarge, Memory}
+use Rattle.canvas_care.specs.declared.fault.Fault.TheVariants.{Stream, Device, InUse, Taken, NoSegment, BadLine, NoDocument, Damaged, TooLarge, Memory}
 
 -- 2 for an input that makes no document, 3 for want of memory, 4 for a stream or a folder that can't be had, 5 for damage, 6 for a journal
 -- without room
@@ -24,6 +24,7 @@ status_of Stream = 4
 status_of Device = 4
 status_of InUse = 4
 status_of Taken = 4
+status_of NoSegment = 4
 status_of (BadLine n) = 2
 status_of NoDocument = 2
 status_of (Damaged segment offset) = 5
@@ -36,6 +37,7 @@ sentence Stream dir = codes "the input can't be read, or the output written"
 sentence Device dir = codes "the folder " ++ dir ++ codes " can't be read and written: look at its rights and at the disk"
 sentence InUse dir = codes "a server has the folder " ++ dir
 sentence Taken dir = codes "the folder " ++ dir ++ codes " holds a document, or what is left of one: name a new folder"
+sentence NoSegment dir = codes "the folder " ++ dir ++ codes " holds no document"
 sentence (BadLine n) dir = codes "line " ++ decimal n ++ codes ": no row, or not the next one, or it stands where none may"
 sentence NoDocument dir = codes "the rows make no document"
 sentence (Damaged segment offset) dir = codes "the document in " ++ dir ++ codes " is damaged in segment " ++ decimal segment ++ codes " at offset " ++ decimal offset ++ codes ": put a backup in its place"
@@ -45,6 +47,10 @@ sentence Memory dir = codes "out of memory"
 -- the fault's status, where it was told by its sentence in a line of its own, or 4
 abbrev pub IsEnd : Fault → List ℕ → ℕ → Option (List ℕ) → Option (List ℕ) → Type 0
 IsEnd fault dir status faults told = ((status ≡ status_of fault) × Appends faults told (sentence fault dir ++ 10 ∷ [])) ⊎ (status ≡ 4)
+
+-- the command did this, and its status is 0; or a fault ended it, which was told
+abbrev pub Ends : Type 0 → List ℕ → ℕ → Option (List ℕ) → Option (List ℕ) → Type 0
+Ends did dir status faults told = ((status ≡ 0) × did) ⊎ ((fault : Fault) × IsEnd fault dir status faults told)
 
 -- the fault that a text without a record is
 abbrev pub fault_of_record : RecordError → Fault

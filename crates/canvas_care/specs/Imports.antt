@@ -1,5 +1,10 @@
 -- Which parts of an input are rows.
-use Rattle.std.specs.Prelude.{ℕ, ◌==◌, ◌&&◌, ◌||◌, ◌-◌, Bool, true, false, List, [], ◌∷◌, length, take, slice_get, nat_lt, Option, Some, None, if◌then◌else◌}
+use Rattle.std.specs.Prelude.{◌≡◌, ℕ, ◌==◌, ◌&&◌, ◌||◌, ◌-◌, Bool, true, false, List, [], ◌∷◌, length, take, slice_get, nat_lt, Option, Some, None, if◌then◌else◌}
+use Rattle.std.specs.FinMap as map
+use Rattle.std.specs.Io.KnownBytes.{Consumes}
+use Rattle.canvas_journal.specs.Found.{AreRowTexts}
+use Rattle.canvas_journal.specs.Meaning.{Versioned}
+use Rattle.canvas_lines.specs.Lines.{lines_of}
 
 -- the byte is a bracket, or there is none
 abbrev pub is_bracket_or_none : Option ℕ → Bool
@@ -36,3 +41,8 @@ before (Some text) ts = text ∷ ts
 abbrev pub row_texts : List (List ℕ) → List (List ℕ)
 row_texts [] = []
 row_texts (line ∷ lines) = before (row_part line) (row_texts lines)
+
+-- a text was read whose lines are the rows of this document, one by one, and its version is 1
+abbrev pub IsImported : Option (List ℕ) → Option (List ℕ) → Versioned → Type 0
+IsImported before after s =
+    (text : List ℕ) × Consumes before after text × AreRowTexts (row_texts (lines_of text)) (map.entries s.0.doc) × (s.1 ≡ 1)

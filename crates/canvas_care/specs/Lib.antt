@@ -3,3 +3,8 @@ pub mod Checkpoints
 pub mod Texts
 pub mod Shown
 pub mod Imports
+pub mod Begun
+pub mod Back
+pub mod Taken
+pub mod Checks
+pub mod Logs

@@ -1,5 +1,5 @@
 // What ends a command: its sentence, and the status that the program ends with.
-ghost use Rattle.std.specs.Prelude.{◌≡◌};
+ghost use Rattle.std.specs.Prelude.{◌≡◌, MatchResult};
 ghost use Rattle.canvas_care.specs.Faults.{IsEnd, status_of};
 
 use canvas_folder::FolderError;
@@ -21,6 +21,8 @@ pub enum Fault {
     InUse,
     /// The folder holds a document, or what is left of one.
     Taken,
+    /// The folder holds no segment.
+    NoSegment,
     /// The first line of the input, counted from 1, that is no row, or whose row doesn't come next, or doesn't stand in the document.
     BadLine(u64),
     /// The rows of the input make no document.
@@ -46,7 +48,7 @@ impl Fault {
         match self {
             Fault::BadLine(_) | Fault::NoDocument => 2,
             Fault::Memory => 3,
-            Fault::Stream | Fault::Device | Fault::InUse | Fault::Taken => 4,
+            Fault::Stream | Fault::Device | Fault::InUse | Fault::Taken | Fault::NoSegment => 4,
             Fault::Damaged { .. } => 5,
             Fault::TooLarge => 6,
         }
@@ -81,6 +83,7 @@ impl fmt::Display for Told<'_> {
                 f,
                 "the folder {dir} holds a document, or what is left of one: name a new folder"
             ),
+            Fault::NoSegment => write!(f, "the folder {dir} holds no document"),
             Fault::BadLine(line) => write!(
                 f,
                 "line {line}: no row, or not the next one, or it stands where none may"
@@ -104,6 +107,16 @@ pub fn end<F: Write>(told: &Told<'_>, faults: &mut F) -> u8
         return 4;
     }
     told.fault.status()
+}
+
+/// The program's status for what a command answered: 0, or that of the fault, which is told as `end` does.
+pub fn finish<F: Write>(done: Result<(), Fault>, dir: &str, faults: &mut F) -> u8
+    ensures { MatchResult done (λ _. result ≡ 0) (λ fault. IsEnd fault dir.now result (F.contents faults.old) (F.contents faults.new)) }
+{
+    match done {
+        Ok(()) => 0,
+        Err(fault) => end(&Told { fault, dir }, faults),
+    }
 }
 
 impl From<AllocError> for Fault {

@@ -1,18 +1,27 @@
-//! The care of a folder while no server runs: its document as rows of JSON, and shelves that
-//! are given a document of rows or of a backup.
+//! The care of a folder while no server runs: its document as rows of JSON, its entries as messages, what stands in its segments, and
+//! new folders for the document of rows or of a backup.
 #![tactic(auto)]
 
+mod checking;
 mod checkpoints;
 mod fault;
+mod folders;
 mod importing;
+mod laws;
+mod logging;
 mod planting;
 mod restoring;
 mod rows;
 mod showing;
+mod taking;
 
-pub use fault::{Fault, Told, end};
+pub use checking::{check, check_shelf};
+pub use fault::{Fault, Told, end, finish};
+pub use folders::begin_folder;
 pub use importing::{Rows, document_of, read_rows};
+pub use laws::every_rows_text;
+pub use logging::{log, log_shelf};
 pub use planting::plant;
-pub use restoring::{import, read_backup};
+pub use restoring::{import, import_folder, read_backup};
 pub use rows::{Layout, rows_text};
 pub use showing::{show_rows, show_rows_of};

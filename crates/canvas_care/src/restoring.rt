@@ -1,19 +1,20 @@
 // What a new folder is made of: the rows of an input, or a backup.
-ghost use Rattle.std.specs.Prelude.{◌≡◌, IfOk};
+ghost use Rattle.std.specs.Prelude.{IfOk, OnOk};
 ghost use Rattle.std.specs.FinMap as map;
 ghost use Rattle.canvas_journal.specs.Found.{AreRowTexts};
 ghost use Rattle.canvas_lines.specs.Lines.{lines_of};
-ghost use Rattle.canvas_care.specs.Imports.{row_texts};
+ghost use Rattle.canvas_care.specs.Begun.{WritesImported};
+ghost use Rattle.canvas_care.specs.Imports.{IsImported, row_texts};
 
 use crate::fault::Fault;
+use crate::folders::{begin_folder, existing};
 use crate::importing::{document_of, read_rows};
-use canvas_folder::DirShelf;
 use canvas_journal::look;
 use canvas_judge::State;
 use canvas_lines::read_input;
 use std::alloc::Global;
 use std::fs::File;
-use std::io::Read;
+use std::io::{Read, Write};
 use std::rt::Files;
 
 /// The version of a document that was imported. At version 0 every client would take the document to be empty; below this one each asks for
@@ -25,10 +26,25 @@ const IMPORTED: u64 = 1;
 /// The errors: `Stream`, where the input can't be read or has more than 2^30 bytes; `BadLine` and `NoDocument`, where its lines aren't
 /// the rows of a document; `Memory`.
 pub fn import<I: Read>(alloc: Global, input: &mut I) -> Result<(State, u64), Fault>
-    ensures { IfOk result (λ imported. imported.1 ≡ 1) }
+    ensures { IfOk result (IsImported (I.remaining input.old) (I.remaining input.new)) }
 {
     let text = read_input(alloc, input)?;
     Ok((document_in(alloc, &text)?, IMPORTED))
+}
+
+/// Makes a new folder of the rows of an input, and then writes the version and how many objects there are.
+///
+/// The errors: those of `import`, and then no folder was made; and those of `begin_folder`.
+pub fn import_folder<R: Files<File = File> + AllocGlobal + Clone + Drop, I: Read, W: Write>(
+    files: R,
+    dir: &str,
+    input: &mut I,
+    output: &mut W,
+) -> Result<(), Fault>
+    ensures { OnOk result (WritesImported (I.remaining input.old) (I.remaining input.new) (W.contents output.old) (W.contents output.new)) }
+{
+    let (state, version) = import(files.alloc(), input)?;
+    begin_folder(files, dir, &state, version, output)
 }
 
 // The state of the document whose rows the lines of a text are.
@@ -41,12 +57,13 @@ fn document_in(alloc: Global, text: &[u8]) -> Result<State, Fault>
 
 /// The state that a backup holds, and its version. Writes nothing to it.
 ///
-/// The errors: `Device`, where the backup is missing or can't be read; `Damaged`, where it isn't whole; `Memory`.
+/// The errors: `NoSegment`, where the backup holds no segment; `Device`, where it is missing or can't be read; `Damaged`, where it isn't
+/// whole; `Memory`.
 pub fn read_backup<R: Files<File = File> + AllocGlobal + Clone + Drop>(
     files: R,
     backup: &str,
 ) -> Result<(State, u64), Fault> {
     let alloc = files.alloc();
-    let mut shelf = DirShelf::existing(files, backup)?;
+    let mut shelf = existing(files, backup)?;
     Ok(look(alloc, &mut shelf)?)
 }

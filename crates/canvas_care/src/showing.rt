@@ -5,8 +5,8 @@ ghost use Rattle.canvas_shelf.specs.Disk.{seen};
 ghost use Rattle.canvas_care.specs.Shown.{WritesRows, WritesRowsOf};
 
 use crate::fault::Fault;
+use crate::folders::existing;
 use crate::rows::{Layout, rows_text};
-use canvas_folder::DirShelf;
 use canvas_journal::look;
 use canvas_lines::write_out;
 use canvas_shelf::Shelf;
@@ -40,7 +40,7 @@ pub fn show_rows_of<S: Shelf, W: Write>(
 
 /// Writes the rows of the document in a folder. Writes nothing to the folder, which a server may have meanwhile.
 ///
-/// The errors are those of `show_rows_of`; `Device` too where the folder is missing or can't be read.
+/// The errors are those of `show_rows_of`; `NoSegment` and `Device` too where the folder holds no document, is missing or can't be read.
 pub fn show_rows<R: Files<File = File> + AllocGlobal + Clone + Drop, W: Write>(
     files: R,
     dir: &str,
@@ -51,6 +51,6 @@ pub fn show_rows<R: Files<File = File> + AllocGlobal + Clone + Drop, W: Write>(
     ensures unwritten { IfErr result (λ fault. (fault ≡ Fault.Stream → ⊥) → W.contents output.new ≡ W.contents output.old) }
 {
     let alloc = files.alloc();
-    let mut shelf = DirShelf::existing(files, dir)?;
+    let mut shelf = existing(files, dir)?;
     show_rows_of(alloc, &mut shelf, layout, output)
 }

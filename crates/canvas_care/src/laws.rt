@@ -1,0 +1,10 @@
+// Laws of the definitions.
+ghost use Rattle.canvas_care.specs.Back.{EachRowHasALine, RowsComeBack};
+
+/// Laws of rows as JSON, in either layout: each row that is written has a line, of which its text is the part that is read; so what is
+/// read of what was written of rows is these rows, where the text of each is read as it. By `every_row` of `canvas_wire` it is, of each
+/// row whose values aren't too deep and that is the root's or has a place.
+pub fn every_rows_text()
+    ensures lines { EachRowHasALine }
+    ensures back { RowsComeBack }
+{}
