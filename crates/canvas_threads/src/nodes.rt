@@ -11,12 +11,12 @@ use canvas_client::{Client, EditRequest};
 use canvas_desk::SubmitError;
 use canvas_front::SeatLink;
 use canvas_journal::Keeper;
-use canvas_room::{Lock, Seat};
+use canvas_room::{Lock, Room, Seat};
 use std::alloc::{AllocError, Global};
 use std::sync::Wait;
 use std::thread::{Threads, map_vec};
 
-/// Runs a node for each of these lists of edits, on a thread and a seat of its own: it joins, makes its edits, and exchanges after each
+/// Runs a node for each of these lists of edits, on a thread of its own at a seat of the room: it joins, makes its edits, and exchanges after each
 /// between two calls of the gate. Once all have ended, each exchanges once more, so that its client reads up to the room's last version.
 /// Answers the clients, in the order of the lists.
 ///
@@ -32,6 +32,7 @@ use std::thread::{Threads, map_vec};
 /// `NotKept(Memory)` where memory is refused besides. What was submitted stays.
 pub fn run_nodes<K, N, Q, R, G>(
     rt: &R,
+    _room: &Room<K, N, Q>,
     seats: Vec<Seat<N, Lock<K, N, Q>>>,
     work: Vec<Vec<EditRequest>>,
     gate: &G,

@@ -104,7 +104,7 @@ fn ended_by<
     if seats.len() < lists.len() {
         return Err(Fail::from("too few seats"));
     }
-    match run_nodes(rt, seats, lists, gate) {
+    match run_nodes(rt, room, seats, lists, gate) {
         Ok(clients) => Ok(Ok(Ran {
             clients,
             version: room.desk(rt).version(),
