@@ -1,12 +1,16 @@
-//! Tests of `canvas_embed`: bytes that are values or none, messages that are heard, edits of each kind with the text that they leave, and
-//! a tree that is as deep as it may be.
+//! Tests of `canvas_embed`: bytes that are values or none, messages that are heard, edits of each kind with the text that they leave, a
+//! tree that is as deep as it may be, clients that are saved and loaded, and what a message changed.
 #![tactic(auto)]
 
+#[cfg(test)]
+mod changes;
 #[cfg(test)]
 mod clients;
 #[cfg(test)]
 mod edits;
 #[cfg(test)]
 mod messages;
+#[cfg(test)]
+mod saves;
 #[cfg(test)]
 mod values;
