@@ -16,9 +16,9 @@ use std::alloc::{AllocError, Global};
 use std::sync::Wait;
 use std::thread::{Threads, map_vec};
 
-/// Runs a node for each of these lists of edits, on a thread of its own at a seat of the room: it joins, makes its edits, and exchanges after each
-/// between two calls of the gate. Once all have ended, each exchanges once more, so that its client reads up to the room's last version.
-/// Answers the clients, in the order of the lists.
+/// Runs a node for each of these lists of edits, on a thread of its own at a seat of the room: it joins, makes its edits, and exchanges
+/// after each between two calls of the gate. Once all have ended, each exchanges once more, so that its client reads up to the room's
+/// last version. Answers the clients, in the order of the lists.
 ///
 /// Each client has made all edits of its list that it didn't refuse. Where nobody else made an edit under its id, nothing waits at it, its
 /// edits stand in the room's history, each once, and it shows the room's document as its seat has seen it.
