@@ -8,3 +8,4 @@ pub mod Landing
 pub mod Drafted
 pub mod Edited
 pub mod Owning
+pub mod AtPlaces

@@ -6,3 +6,4 @@ pub mod Asked
 pub mod Rise
 pub mod Counted
 pub mod Parts
+pub mod Placed

@@ -1,7 +1,10 @@
 // Why a client refuses an edit of its own.
 ghost use Rattle.std.specs.Prelude.{◌≡◌};
+ghost use Rattle.std.specs.Option.{option_map};
 ghost use Rattle.canvas_client.specs.Asked.{number_of, refusal};
+ghost use Rattle.canvas_client.specs.Placed.{as_edit_error, place_number_of, place_refusal};
 ghost use Rattle.canvas_client.specs.declared.error.EditError.TheVariants.{Memory};
+ghost use Rattle.canvas_client.specs.declared.error.PlaceError.TheVariants as place;
 
 use std::alloc::AllocError;
 use thiserror::Error;
@@ -59,5 +62,81 @@ impl From<AllocError> for EditError {
 
     fn from(_: AllocError) -> EditError {
         EditError::Memory
+    }
+}
+
+/// Why a client refuses an edit at a place that the caller names: the first that holds, in this order. But memory can be refused before
+/// any of them is found. All but `Taken` are those of `EditError`, with their numbers.
+#[derive(Clone, Copy, Debug, PartialEq, Eq, Error)]
+pub enum PlaceError {
+    /// The client has no id yet.
+    #[error("the client has no id yet")]
+    NotOpen = 1,
+    /// The root can't be moved.
+    #[error("the root stays where it is")]
+    IsRoot = 7,
+    /// The object isn't in the tree that the client shows.
+    #[error("the object isn't shown")]
+    NotShown = 2,
+    /// The parent isn't in the tree that the client shows.
+    #[error("the parent isn't shown")]
+    ParentNotShown = 3,
+    /// The kind may not stand under that of the parent.
+    #[error("the object may not stand under this parent")]
+    BadParent = 4,
+    /// The new parent is the object or lies below it.
+    #[error("the parent is the object or lies below it")]
+    OwnDescendant = 5,
+    /// The new object, or the moved one or one below it, would stand deeper than 100, where the root is at 0. A move under the
+    /// parent that the object has is never refused so.
+    #[error("the object would stand too deep there")]
+    TooDeep = 11,
+    /// Another child of the parent has the position, in what the client shows.
+    #[error("another object has the position")]
+    Taken = 12,
+    /// The client has used all its counters, of which 4294967295 is the last.
+    #[error("the client can create no more objects")]
+    IdsSpent = 8,
+    /// The number of the client's last edit is 2^62, which is the last one.
+    #[error("the client can make no more edits")]
+    Full = 9,
+    /// Memory was refused.
+    #[error("out of memory")]
+    Memory = 10,
+}
+
+impl PlaceError {
+    /// The number by which the error is known.
+    pub fn number(self) -> u8
+        ensures { result ≡ place_number_of (place_refusal self) }
+    {
+        self as u8
+    }
+
+    // The refusal of the same rank: in the place of `Crowded` there is `Taken`.
+    pub(crate) fn of_edit(error: EditError) -> Self
+        ensures { option_map as_edit_error (place_refusal result) ≡ refusal error }
+    {
+        match error {
+            EditError::NotOpen => PlaceError::NotOpen,
+            EditError::IsRoot => PlaceError::IsRoot,
+            EditError::NotShown => PlaceError::NotShown,
+            EditError::ParentNotShown => PlaceError::ParentNotShown,
+            EditError::BadParent => PlaceError::BadParent,
+            EditError::OwnDescendant => PlaceError::OwnDescendant,
+            EditError::TooDeep => PlaceError::TooDeep,
+            EditError::Crowded => PlaceError::Taken,
+            EditError::IdsSpent => PlaceError::IdsSpent,
+            EditError::Full => PlaceError::Full,
+            EditError::Memory => PlaceError::Memory,
+        }
+    }
+}
+
+impl From<AllocError> for PlaceError {
+    ghost from_gives = { λ _ e. e ≡ place.Memory };
+
+    fn from(_: AllocError) -> PlaceError {
+        PlaceError::Memory
     }
 }

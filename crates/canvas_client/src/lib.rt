@@ -11,14 +11,15 @@ mod local;
 mod merged;
 mod overlay;
 mod parts;
+mod placed;
 mod received;
 mod request;
 mod shown;
 
 pub use changes::Changes;
 pub use client::Client;
-pub use error::EditError;
-pub use laws::every_told_entry;
+pub use error::{EditError, PlaceError};
+pub use laws::{every_placed_edit, every_told_entry};
 pub use merged::Merged;
 pub use parts::ClientParts;
 pub use received::Received;

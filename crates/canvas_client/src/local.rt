@@ -1,12 +1,13 @@
 // A client's edits of its own.
-ghost use Rattle.std.specs.Prelude.{◌≡◌, ◌≢◌, ◌↔◌, ℕ, ◌+◌, ◌^◌, IsTrue, IfOk, IfErr, IfSome, IfNone, OnOk, OnErr, Some, None, IsSomeAnd};
+ghost use Rattle.std.specs.Prelude.{◌≡◌, ◌≢◌, ◌↔◌, ℕ, ◌+◌, ◌^◌, ◌<◌, IsTrue, IfOk, IfErr, IfSome, IfNone, OnOk, OnErr, Some, None, IsSomeAnd};
 ghost use Rattle.canvas_model.specs.Change.{object_of};
 ghost use Rattle.canvas_model.specs.Client.{last_number};
 ghost use Rattle.canvas_model.specs.Local.{Clear, Create, Delete, EditRequest as Asked, Makes, Move, Refuses, Set};
-ghost use Rattle.canvas_model.specs.Local.{counter_after, edited};
+ghost use Rattle.canvas_model.specs.Local.{counter_after, edited, rank};
 ghost use Rattle.canvas_model.specs.Value.{IsShallow};
 ghost use Rattle.canvas_client.specs.Asked.{HasCreated, HasMade, IsRefusal, NoneBefore, StandsStill};
 ghost use Rattle.canvas_client.specs.Asked.{refusal, seen_target};
+ghost use Rattle.canvas_client.specs.Placed.{MayAdd};
 
 use crate::drafting::{
     comes_after_none, goes_below_itself, goes_too_deep, has_bad_parent, has_hidden_parent,
@@ -15,7 +16,7 @@ use crate::drafting::{
 use crate::request::Target;
 use crate::{Client, EditError, EditRequest, EditRequestVariant};
 use canvas_doc::{Change, ChangeVariant, Kind, Name, ObjId, Place, Value};
-use canvas_model::{LAST_VERSION, every_view};
+use canvas_model::LAST_VERSION;
 use std::alloc::{AllocError, Allocator};
 
 impl<A: Allocator> Client<A> {
@@ -44,9 +45,10 @@ impl<A: Allocator> Client<A> {
     }
 
     // The first refusal that the view gives, apart from depth and want of room.
-    fn refusal_shown<C: Allocator>(&self, request: &EditRequest<C>) -> Option<EditError>
+    pub(crate) fn refusal_shown<C: Allocator>(&self, request: &EditRequest<C>) -> Option<EditError>
         requires { self.now.id ≡ None → ⊥ }
         ensures some { IfSome result (λ error. IsSomeAnd (refusal error) (Refuses self.now request.now)) }
+        ensures early { IfSome result (λ error. IsSomeAnd (refusal error) (λ e. rank e < 6)) }
         ensures none { IfNone result (NoneBefore self.now request.now 6) }
     {
         if moves_root(request) {
@@ -214,7 +216,7 @@ impl<A: Allocator> Client<A> {
     }
 
     // The counter of the next object that it creates, unless all are used.
-    fn next_counter(&self) -> Option<u32>
+    pub(crate) fn next_counter(&self) -> Option<u32>
         ensures some { IfSome result (λ counter. (self.now.counter ≢ 4294967295) × (counter ≡ self.now.counter + 1)) }
         ensures none { IfNone result (self.now.counter ≡ 4294967295) }
     {
@@ -222,7 +224,7 @@ impl<A: Allocator> Client<A> {
     }
 
     // Whether the last number of an edit is given.
-    fn is_full(&self) -> bool
+    pub(crate) fn is_full(&self) -> bool
         ensures { IsTrue result ↔ (last_number self.now ≡ 2 ^ 62) }
     {
         self.acknowledged + self.merged.waiting.len() as u64 == LAST_VERSION
@@ -239,7 +241,17 @@ impl<A: Allocator + Copy> Client<A> {
         ensures stands { OnOk result (StandsStill self.old self.new) }
         ensures err { OnErr result (self.new ≡ self.old) }
     {
-        every_view();
+        self.add_edit(change)
+    }
+
+    // Makes the change its next edit.
+    pub(crate) fn add_edit(&mut self, change: Change<A>) -> Result<u64, AllocError>
+        requires { MayAdd self.old change }
+        ensures ok { OnOk result (self.new ≡ edited self.old change) }
+        ensures number { IfOk result (λ n. n ≡ last_number self.old + 1) }
+        ensures stands { OnOk result (StandsStill self.old self.new) }
+        ensures err { OnErr result (self.new ≡ self.old) }
+    {
         let counter = counter_after(self.counter, &change);
         self.merged.add(change)?;
         self.counter = counter;
@@ -342,7 +354,7 @@ impl<A: Allocator + Copy> Client<A> {
     }
 
     // The allocator under which it stands.
-    fn allocator(&self) -> A {
+    pub(crate) fn allocator(&self) -> A {
         self.merged.waiting.allocator()
     }
 }

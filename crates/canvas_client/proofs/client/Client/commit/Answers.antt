@@ -1,28 +1,5 @@
-use Rattle.std.proofs.Common.{sym, ap, subst, ◌∙◌}
-use Rattle.canvas_model.specs.Client.{Client}
-use Rattle.canvas_model.specs.Local.{Makes, edited}
-use Rattle.canvas_client.specs.Asked.{StandsStill}
-use Rattle.canvas_client.specs.Kept.{IsKept}
-use Rattle.canvas_client.proofs.Edited.{kept_edited, stands_edited, parts_edited}
+use Rattle.canvas_client.proofs.Edited.{may_add}
 use Rattle.canvas_client.proofs.client.Client.commit.Goals as goal
 
-pub invariant_of-self-2 : goal.invariant_of-self-2
-invariant_of-self-2 g c =
-    let inner : Client = record { id = c.self.inside.id; counter = c.self.inside.counter; version = c.self.inside.version; acknowledged = c.self.inside.acknowledged; waiting = c.self.inside.merged.waiting; view = c.self.inside.merged.shown.doc } in
-    let makes : Makes inner c.requires.0 c.args.change = subst (λ x. Makes x c.requires.0 c.args.change) (sym c.self.view_is) c.requires.1 in
-    let same = parts_edited inner c.args.change c.counter_after-counter.result c.add.new.self.waiting c.add.new.self.shown.doc c.counter_after-counter.ensures c.in_ok-add.ensures.waiting c.in_ok-add.ensures.view in
-    subst IsKept (sym same) (kept_edited inner c.requires.0 c.args.change makes c.self.invariant)
-
-pub returns-clause-ok : goal.returns-clause-ok
-returns-clause-ok g c =
-    let inner : Client = record { id = c.self.inside.id; counter = c.self.inside.counter; version = c.self.inside.version; acknowledged = c.self.inside.acknowledged; waiting = c.self.inside.merged.waiting; view = c.self.inside.merged.shown.doc } in
-    parts_edited inner c.args.change c.counter_after-counter.result c.add.new.self.waiting c.add.new.self.shown.doc c.counter_after-counter.ensures c.in_ok-add.ensures.waiting c.in_ok-add.ensures.view
-    ∙ ap (λ x. edited x c.args.change) c.self.view_is
-
-pub returns-clause-stands : goal.returns-clause-stands
-returns-clause-stands g c =
-    let inner : Client = record { id = c.self.inside.id; counter = c.self.inside.counter; version = c.self.inside.version; acknowledged = c.self.inside.acknowledged; waiting = c.self.inside.merged.waiting; view = c.self.inside.merged.shown.doc } in
-    let same = parts_edited inner c.args.change c.counter_after-counter.result c.add.new.self.waiting c.add.new.self.shown.doc c.counter_after-counter.ensures c.in_ok-add.ensures.waiting c.in_ok-add.ensures.view
-    ∙ ap (λ x. edited x c.args.change) c.self.view_is
-    in
-    subst (StandsStill c.args.self.now) (sym same) (stands_edited c.args.self.now c.requires.0 c.args.change c.requires.1 c.every_view.ensures.edited (subst IsKept c.self.view_is c.self.invariant))
+pub add_edit-requires : goal.add_edit-requires
+add_edit-requires g c = may_add c.args.self.now c.requires.0 c.args.change c.requires.1
