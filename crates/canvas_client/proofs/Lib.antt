@@ -9,3 +9,4 @@ pub mod Drafted
 pub mod Edited
 pub mod Owning
 pub mod AtPlaces
+pub mod Lasts

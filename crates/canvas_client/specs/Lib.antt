@@ -7,3 +7,4 @@ pub mod Rise
 pub mod Counted
 pub mod Parts
 pub mod Placed
+pub mod Ends

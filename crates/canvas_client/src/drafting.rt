@@ -131,7 +131,7 @@ pub(crate) fn goes_too_deep<A: Allocator, B: Allocator + Copy, C: Allocator>(
 }
 
 // The position of `q`, where it is a child of `parent` other than `except`.
-fn sibling_position<A: Allocator>(
+pub(crate) fn sibling_position<A: Allocator>(
     view: &Doc<A>,
     parent: ObjId,
     except: ObjId,

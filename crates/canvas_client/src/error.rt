@@ -2,9 +2,11 @@
 ghost use Rattle.std.specs.Prelude.{◌≡◌};
 ghost use Rattle.std.specs.Option.{option_map};
 ghost use Rattle.canvas_client.specs.Asked.{number_of, refusal};
+ghost use Rattle.canvas_client.specs.Ends.{end_error_number};
 ghost use Rattle.canvas_client.specs.Placed.{as_edit_error, place_number_of, place_refusal};
 ghost use Rattle.canvas_client.specs.declared.error.EditError.TheVariants.{Memory};
 ghost use Rattle.canvas_client.specs.declared.error.PlaceError.TheVariants as place;
+ghost use Rattle.canvas_client.specs.declared.error.EndError.TheVariants as end;
 
 use std::alloc::AllocError;
 use thiserror::Error;
@@ -138,5 +140,36 @@ impl From<AllocError> for PlaceError {
 
     fn from(_: AllocError) -> PlaceError {
         PlaceError::Memory
+    }
+}
+
+/// Why a client makes no edit at an end of a parent's children: the first that holds, in this order. But memory can be refused before.
+#[derive(Clone, Copy, Debug, PartialEq, Eq, Error)]
+pub enum EndError {
+    /// No position of at most 128 bytes lies at that end.
+    #[error("there is no room there")]
+    Crowded,
+    /// A position lies there, and the client refuses the edit at it.
+    #[error("{0}")]
+    Edit(PlaceError),
+}
+
+impl EndError {
+    /// The number by which the error is known: 6, or that of the client's refusal.
+    pub fn number(self) -> u8
+        ensures { result ≡ end_error_number self }
+    {
+        match self {
+            EndError::Crowded => 6,
+            EndError::Edit(error) => error.number(),
+        }
+    }
+}
+
+impl From<AllocError> for EndError {
+    ghost from_gives = { λ _ e. e ≡ end.Edit place.Memory };
+
+    fn from(_: AllocError) -> EndError {
+        EndError::Edit(PlaceError::Memory)
     }
 }

@@ -4,6 +4,7 @@
 mod changes;
 mod client;
 mod drafting;
+mod ends;
 mod error;
 mod fields;
 mod laws;
@@ -18,7 +19,7 @@ mod shown;
 
 pub use changes::Changes;
 pub use client::Client;
-pub use error::{EditError, PlaceError};
+pub use error::{EditError, EndError, PlaceError};
 pub use laws::{every_placed_edit, every_told_entry};
 pub use merged::Merged;
 pub use parts::ClientParts;
