@@ -13,6 +13,10 @@
 - disk: on a disk that is full an edit is answered No 5 (or No 6, after a checkpoint that failed), the server ends with status 4 and its sentence, and every edit that was
   answered is there afterwards. (It mounts a small tmpfs, and passes where it may not.)
 - sentences: each fault that can be had has its sentence and its status.
+- rows: what `show --json` and `show --lines` write is imported to the same document; a folder that holds anything of a document isn't imported
+  to; of rows that make no document the line is told.
+- restored: a backup's folder is restored with another identity, with which clients of the old document aren't served.
+- checked: `check` tells segments, whole records, torn rests and damage, and `log` the entries past the checkpoint; neither writes anything.
 - coming: six clients come, edit and go again for SECONDS (30), and the server's memory stays flat.
 
 Prints a line for each group, and exits with 1 where one went wrong. Needs no package."""
@@ -453,6 +457,161 @@ def sentences(room):
     return "each fault has its sentence and its status"
 
 
+def call(*words, text=b"", status=0, told=""):
+    """What the program writes, once it has ended with this status and told this."""
+    done = subprocess.run([PROGRAM, *words], input=text, capture_output=True, timeout=120)
+    require(done.returncode == status and told in done.stderr.decode(), words, "end with", done.returncode, done.stderr)
+    return done.stdout
+
+
+def files_of(folder):
+    return {name: open(os.path.join(folder, name), "rb").read() for name in sorted(os.listdir(folder))}
+
+
+def drawn(room, edits):
+    """The folder of a document that a client has edited so often, with its identity; nobody serves it any more."""
+    server = Server(room, "--quiet")
+    client = Client(server.port)
+    name, number = client.join(), 0
+    for number in range(1, edits + 1):
+        change = page(name, number)
+        if number % 3 == 2:
+            change = ["set", [name, number - 1], "text", f"line {number}\nand \"another\"\t\u00e9"]
+        if number % 3 == 0:
+            change = ["set", [name, number - 2], "fill", ["list", 1, True, ["rgba", 255], -number]]
+        require(client.ask("edit", name, number, change) == [["idle"]], "an edit isn't judged")
+    client.drop()
+    known = server.get("/document")[2].decode().strip()
+    server.kill()
+    return known
+
+
+def rows(room):
+    above = os.path.dirname(room)
+    drawn(room, 300)
+    array, lines = call("show", room, "--json"), call("show", room, "--lines")
+    objects = json.loads(array)
+    require(len(objects) == 101 and [json.loads(line) for line in lines.splitlines()] == objects, "the rows are", array[:200])
+    for number, text in enumerate((array, lines, b"\n" + lines.rstrip(b"\n"))):
+        new = os.path.join(above, f"new{number}")
+        require(call("import", new, text=text) == b"version 1, objects 101\n", "an import isn't told")
+        require(os.listdir(new) == ["segment-0000000001"], "an import makes", os.listdir(new))
+        require(call("show", new, "--json") == array and call("show", new, "--lines") == lines, "another document is imported")
+        require(call("show", new).split(b"\n", 1)[1] == call("show", room).split(b"\n", 1)[1], "another tree is imported")
+        call("import", new, text=text, status=4, told="holds a document, or what is left of one: name a new folder")
+    server = Server(os.path.join(above, "new0"), "--quiet")
+    client = Client(server.port)
+    name = client.join()
+    require(client.ask("ask", name, 0)[0][0] == "copy", "a client of an imported document gets no copy")
+    require(client.ask("edit", name, 1, page(name, 1)) == [["idle"]], "an imported document isn't edited")
+    call("import", os.path.join(above, "new0"), text=array, status=4, told="a server has the folder")
+    server.kill()
+    left = os.path.join(above, "left")
+    os.mkdir(left)
+    with open(os.path.join(left, "identity"), "w") as known:
+        known.write("0" * 32 + "\n")
+    call("import", left, text=array, status=4, told="holds a document, or what is left of one")
+    require(os.listdir(left) == ["identity"], "an import writes beside an identity")
+    root, first = b'[[0,0],"document",null,[]]\n', b'[[1,1],"page",[[0,0],"O"],[]]\n'
+    wrong = {b"": "the rows make no document", first: "line 1: ", root + b"{}\n": "line 2: ", root + first + first: "line 3: ", root + root: "line 2: ",
+             root + b'[[1,1],"page",[[0,0],"O"]]\n': "line 2: ", root + b'[[1,1],"page",[[3,3],"O"],[]]\n': "line 2: ",
+             root + b'[[1,1],"shape",[[0,0],"O"],[]]\n': "line 2: ", root + first + b'\n[[1,2],"page",[[0,0],"O"],[]]\n': "line 2: ",
+             b"[" + root + b"]\n": "line 1: ", root + b"\xff\n": "line 2: "}
+    for text, sentence in wrong.items():
+        call("import", os.path.join(above, "wrong"), text=text, status=2, told=sentence)
+        require(not os.path.exists(os.path.join(above, "wrong")), text, "makes a folder")
+    with open("/dev/full", "wb") as full:
+        done = subprocess.run([PROGRAM, "show", room, "--json"], stdout=full, stderr=subprocess.PIPE)
+    require(done.returncode == 4 and b"the output written" in done.stderr, "a full disk for the rows:", done)
+    call("show", room, "--json", "--lines", status=2, told="cannot be used with")
+    call("show", os.path.join(above, "none"), "--json", status=4, told="can't be read")
+    return f"101 objects there and back in three layouts, {len(wrong)} wrong inputs"
+
+
+def restored(room):
+    above = os.path.dirname(room)
+    known = drawn(room, 290)
+    backup, new = os.path.join(above, "backup"), os.path.join(above, "new")
+    shutil.copytree(room, backup)
+    before = files_of(backup)
+    version = int(call("show", backup).split()[1])
+    require(call("restore", backup, new) == f"version {version}, objects 98\n".encode(), "a restore isn't told")
+    require(os.listdir(new) == ["segment-0000000001"], "a restore makes", os.listdir(new))
+    require(call("show", new) == call("show", backup) and files_of(backup) == before, "another document is restored, or the backup is written")
+    server = Server(new, "--quiet")
+    fresh = server.get("/document")[2].decode().strip()
+    require(re.fullmatch("[0-9a-f]{32}", fresh) and fresh != known, "the identity of a restored folder is", fresh)
+    require(Client(server.port, f"/document/{known}").status == 404, "a client of the old document goes on over the restored one")
+    require(Client(server.port, f"/document/{fresh}").status == 101, "the new identity isn't served")
+    server.kill()
+    call("restore", backup, new, status=4, told=f"the folder {new} holds a document")
+    call("restore", backup, backup, status=4, told=f"the folder {backup} holds a document")
+    require(files_of(backup) == before, "a restore writes to its backup")
+    call("restore", os.path.join(above, "none"), os.path.join(above, "other"), status=4, told="none can't be read")
+    os.mkdir(os.path.join(above, "empty"))
+    call("restore", os.path.join(above, "empty"), os.path.join(above, "other"), status=4, told="empty holds no document")
+    hurt(backup, 4)
+    call("restore", backup, os.path.join(above, "other"), status=5, told=f"the document in {backup} is damaged in segment ")
+    require(not os.path.exists(os.path.join(above, "other")), "a restore that fails makes a folder")
+    return "the same document and version, another identity, and the backup as it was"
+
+
+def hurt(folder, at):
+    """Turns a bit of the byte at this offset of the highest segment."""
+    segment = os.path.join(folder, max(name for name in os.listdir(folder) if name.startswith("segment")))
+    with open(segment, "r+b") as damaged:
+        damaged.seek(at)
+        byte = damaged.read(1)
+        damaged.seek(at)
+        damaged.write(bytes([byte[0] ^ 1]))
+
+
+def checked(room):
+    above = os.path.dirname(room)
+    drawn(room, 290)
+    before = files_of(room)
+    segment, content = max((name, held) for name, held in before.items() if name.startswith("segment"))
+    number, version = int(segment[8:]), int(call("show", room).split()[1])
+    texts, at = [], 0
+    while at < len(content):
+        size = int.from_bytes(content[at:at + 4], "big")
+        texts.append((at, json.loads(content[at + 4:at + 4 + size])))
+        at += 4 + size
+    past = [text for _, text in texts[1 + texts[0][1][4]:]]
+    require(0 < len(past) < version, "the entries past the checkpoint are", len(past))
+    taken = f"recovery takes segment {number}: version {version}, entries past its checkpoint {len(past)}\n"
+    segments = f"segment {number}: bytes {len(content)}, whole records {len(texts)}, torn rest 0\n"
+    require(call("check", room).decode() == segments + taken, "a folder is checked:", call("check", room))
+    wanted = [["entry", version - len(past) + at + 1, entry] for at, entry in enumerate(past)]
+    require([json.loads(line) for line in call("log", room).splitlines()] == wanted, "the log is", call("log", room)[:200])
+    require(files_of(room) == before, "check or log writes to the folder")
+    with open(os.path.join(room, segment), "ab") as torn:
+        torn.write(b"\0\0\0")
+    with open(os.path.join(room, f"segment-{number + 1:010}"), "wb") as cut:
+        cut.write(content[:50])
+    segments = f"segment {number + 1}: bytes 50, whole records 1, torn rest {50 - texts[1][0]}\n" + segments.replace("rest 0", "rest 3").replace(
+        f"bytes {len(content)}", f"bytes {len(content) + 3}")
+    require(call("check", room).decode() == segments + taken, "a torn folder is checked:", call("check", room))
+    require([json.loads(line) for line in call("log", room).splitlines()] == wanted, "the log of a torn folder is another")
+    for offset, _ in texts[1:]:
+        other = os.path.join(above, "other")
+        shutil.copytree(room, other)
+        os.remove(os.path.join(other, f"segment-{number + 1:010}"))
+        hurt(other, offset + 4)
+        held = files_of(other)
+        text = call("check", other, status=5, told=f"the document in {other} is damaged in segment {number} at offset {offset}: ")
+        require(text.decode() == segments.split("\n", 1)[1], "a damaged folder is checked:", text)
+        call("log", other, status=5, told=f"in segment {number} at offset {offset}: ")
+        require(files_of(other) == held, "check writes to a damaged folder")
+        shutil.rmtree(other)
+    empty = os.path.join(above, "empty")
+    os.mkdir(empty)
+    call("check", empty, status=4, told=f"the folder {empty} holds no document")
+    call("log", empty, status=4, told=f"the folder {empty} holds no document")
+    call("check", os.path.join(above, "none"), status=4, told="can't be read")
+    return f"{len(past)} entries past a checkpoint, a torn rest, a cut segment, and {len(texts) - 1} damaged records"
+
+
 def coming(room):
     server = Server(room, "--clients", "8", "--quiet")
     stop, refused, served = threading.Event(), [0], [0]
@@ -491,7 +650,7 @@ def coming(room):
 
 def main():
     wrong = 0
-    for group in (reuse, full, quiet, pages, origins, identity, kills, sizes, disk, sentences, coming):
+    for group in (reuse, full, quiet, pages, origins, identity, kills, sizes, disk, sentences, rows, restored, checked, coming):
         above = tempfile.mkdtemp()
         try:
             print(f"{group.__name__}: {group(os.path.join(above, 'room'))}", flush=True)

@@ -1,3 +1,4 @@
 pub mod Faults
 pub mod Figures
 pub mod Answers
+pub mod Shown

@@ -2,6 +2,7 @@
 #![tactic(auto)]
 
 mod answers;
+mod caring;
 mod connections;
 mod doors;
 mod fault;

@@ -2,13 +2,13 @@
 ghost use Rattle.std.specs.Prelude.{string_bytes};
 ghost use Rattle.canvas_host.specs.Faults.{IsEnd, IsServed};
 
+use crate::caring::{run_check, run_import, run_log, run_restore, run_rows, run_tree};
 use crate::fault::{Fault, Told};
 use crate::hosting::serve;
 use crate::options::Options;
 use crate::words::{Asked, read_words};
-use canvas_daemon::{end, show};
 use std::alloc::AllocError;
-use std::io::{Eprint, Print, Write};
+use std::io::{Eprint, Print, Read, Write};
 use std::net::{Net, TcpListener, TcpStream};
 use std::random::RandomSource;
 use std::sync::Wait;
@@ -17,10 +17,11 @@ use std::time::Clock;
 
 /// Does what the words ask for, of which the first is the program's name, and answers the program's status: 0, or that of the fault
 /// that ended it, which is told on `faults`.
-pub fn run<R, W, F>(
+pub fn run<R, I, W, F>(
     rt: &R,
     files: HostRuntime,
     words: &[String],
+    input: &mut I,
     output: &mut W,
     faults: &mut F,
 ) -> u8
@@ -37,19 +38,27 @@ where
         + Sync
         + Drop
         + 'static,
+    I: Read,
     W: Write,
     F: Write,
 {
-    match read_words(rt.alloc(), words) {
-        Ok(Asked::Serve(options)) => run_server(rt, files, options, faults),
-        Ok(Asked::Show { dir }) => match show(files, dir.as_str(), output) {
-            Ok(()) => 0,
-            Err(fault) => end(&fault, faults),
-        },
-        Err(error) => match error.print(rt) {
+    let asked = match read_words(rt.alloc(), words) {
+        Ok(asked) => asked,
+        Err(error) => return match error.print(rt) {
             Ok(()) => error.exit_code() as u8,
             Err(_) => 4,
         },
+    };
+    match asked {
+        Asked::Serve(options) => run_server(rt, files, options, faults),
+        Asked::Show { dir, layout } => match layout {
+            Some(layout) => run_rows(files, &dir, layout, output, faults),
+            None => run_tree(files, &dir, output, faults),
+        },
+        Asked::Import { dir } => run_import(files, &dir, input, output, faults),
+        Asked::Restore { backup, dir } => run_restore(files, &backup, &dir, output, faults),
+        Asked::Check { dir } => run_check(files, &dir, output, faults),
+        Asked::Log { dir } => run_log(files, &dir, output, faults),
     }
 }
 

@@ -1,9 +1,9 @@
-//! `lugcurrant` serves a document to clients over WebSockets for as long as it is left running.
+//! `lugcurrant` serves a document to clients over WebSockets for as long as it is left running, and cares for folders that are not served.
 #![tactic(auto)]
 
 use canvas_host::run;
 use std::env;
-use std::io::{self, ErrorKind};
+use std::io::{self, ErrorKind, Input};
 use std::process::ExitCode;
 
 // The program's words, of which the first is its name.
@@ -14,7 +14,14 @@ fn words(rt: &HostRuntime) -> io::Result<Vec<String>> {
 
 fn main(rt: HostRuntime) -> ExitCode {
     let status = match words(&rt) {
-        Ok(words) => run(&rt, rt, &words, &mut rt.stdout(), &mut rt.stderr()),
+        Ok(words) => run(
+            &rt,
+            rt,
+            &words,
+            &mut rt.reader(),
+            &mut rt.stdout(),
+            &mut rt.stderr(),
+        ),
         Err(error) => if error.kind() == ErrorKind::OutOfMemory {
             3
         } else {

@@ -1,0 +1,99 @@
+// The commands that care for a folder, each to its end: they answer the program's status, once a fault is told.
+ghost use Rattle.std.specs.Prelude.{◌⊎◌};
+ghost use Rattle.canvas_care.specs.Begun.{WritesBegun, WritesImported};
+ghost use Rattle.canvas_care.specs.Checks.{WritesCheck};
+ghost use Rattle.canvas_care.specs.Faults.{Ends};
+ghost use Rattle.canvas_care.specs.Logs.{WritesLog};
+ghost use Rattle.canvas_care.specs.Shown.{WritesRows};
+ghost use Rattle.canvas_host.specs.Shown.{IsShown};
+
+use canvas_care::{
+    Layout, begin_folder, check, finish, import_folder, log, read_backup, show_rows,
+};
+use canvas_daemon::{end, show};
+use std::io::{Read, Write};
+
+/// Writes the tree of a folder's document.
+pub(crate) fn run_tree<W: Write, F: Write>(
+    files: HostRuntime,
+    dir: &str,
+    output: &mut W,
+    faults: &mut F,
+) -> u8
+    ensures { IsShown result (W.contents output.old) (W.contents output.new) (F.contents faults.old) (F.contents faults.new) }
+{
+    match show(files, dir, output) {
+        Ok(()) => 0,
+        Err(fault) => end(&fault, faults),
+    }
+}
+
+/// Writes the rows of a folder's document.
+pub(crate) fn run_rows<W: Write, F: Write>(
+    files: HostRuntime,
+    dir: &str,
+    layout: Layout,
+    output: &mut W,
+    faults: &mut F,
+) -> u8
+    ensures { Ends (WritesRows layout (W.contents output.old) (W.contents output.new)) dir.now result (F.contents faults.old) (F.contents faults.new) }
+{
+    finish(show_rows(files, dir, layout, output), dir, faults)
+}
+
+/// Makes a new folder of the rows of the input.
+pub(crate) fn run_import<I: Read, W: Write, F: Write>(
+    files: HostRuntime,
+    dir: &str,
+    input: &mut I,
+    output: &mut W,
+    faults: &mut F,
+) -> u8
+    ensures { Ends (WritesImported (I.remaining input.old) (I.remaining input.new) (W.contents output.old) (W.contents output.new)) dir.now result (F.contents faults.old) (F.contents faults.new) }
+{
+    finish(import_folder(files, dir, input, output), dir, faults)
+}
+
+/// Makes a new folder of a backup. A fault of the backup is told with the backup's name.
+pub(crate) fn run_restore<W: Write, F: Write>(
+    files: HostRuntime,
+    backup: &str,
+    dir: &str,
+    output: &mut W,
+    faults: &mut F,
+) -> u8
+    ensures { Ends (WritesBegun (W.contents output.old) (W.contents output.new)) dir.now result (F.contents faults.old) (F.contents faults.new)
+        ⊎ Ends ⊥ backup.now result (F.contents faults.old) (F.contents faults.new) }
+{
+    match read_backup(files, backup) {
+        Ok((state, version)) => {
+            let done = begin_folder(files, dir, &state, version, output);
+            finish(done, dir, faults)
+        }
+        Err(fault) => finish(Err(fault), backup, faults),
+    }
+}
+
+/// Tells what stands in a folder's segments.
+pub(crate) fn run_check<W: Write, F: Write>(
+    files: HostRuntime,
+    dir: &str,
+    output: &mut W,
+    faults: &mut F,
+) -> u8
+    ensures { Ends (WritesCheck (W.contents output.old) (W.contents output.new)) dir.now result (F.contents faults.old) (F.contents faults.new) }
+{
+    finish(check(files, dir, output), dir, faults)
+}
+
+/// Writes the entries past a folder's checkpoint.
+pub(crate) fn run_log<W: Write, F: Write>(
+    files: HostRuntime,
+    dir: &str,
+    output: &mut W,
+    faults: &mut F,
+) -> u8
+    ensures { Ends (WritesLog (W.contents output.old) (W.contents output.new)) dir.now result (F.contents faults.old) (F.contents faults.new) }
+{
+    finish(log(files, dir, output), dir, faults)
+}
