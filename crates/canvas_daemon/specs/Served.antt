@@ -18,9 +18,17 @@ served_line count version = codes "served " ++ decimal count ++ codes " version 
 abbrev pub WritesServing : ℕ → Option (List ℕ) → Option (List ℕ) → Type 0
 WritesServing port before after = (version : ℕ) × Appends before after (serving_line port version)
 
+-- the first line was written, of this version, and the last, of some version
+abbrev pub WritesServedAt : ℕ → ℕ → ℕ → Option (List ℕ) → Option (List ℕ) → Type 0
+WritesServedAt version port count before after = (last : ℕ) × Appends before after (serving_line port version ++ served_line count last)
+
 -- the first line and the last were written, each of some version
 abbrev pub WritesServed : ℕ → ℕ → Option (List ℕ) → Option (List ℕ) → Type 0
-WritesServed port count before after = (first last : ℕ) × Appends before after (serving_line port first ++ served_line count last)
+WritesServed port count before after = (version : ℕ) × WritesServedAt version port count before after
+
+-- nothing was written, or the first line alone, of this version
+abbrev pub BeginsServingAt : ℕ → ℕ → Option (List ℕ) → Option (List ℕ) → Type 0
+BeginsServingAt version port before after = (after ≡ before) ⊎ Appends before after (serving_line port version)
 
 -- nothing was written, or the first line alone
 abbrev pub BeginsServing : ℕ → Option (List ℕ) → Option (List ℕ) → Type 0

@@ -2,7 +2,7 @@
 ghost use Rattle.std.specs.Prelude.{◌≡◌, IfErr, IfOk, OnOk, false, length, string_bytes, true};
 ghost use Rattle.std.specs.Io.KnownBytes.{Appends};
 ghost use Rattle.canvas_daemon.specs.Faults.{IsMemoryOrDevice};
-ghost use Rattle.canvas_daemon.specs.Served.{BeginsServing, IsServeFault, WritesServed, served_line, serving_line};
+ghost use Rattle.canvas_daemon.specs.Served.{BeginsServing, BeginsServingAt, IsServeFault, WritesServed, WritesServedAt, served_line, serving_line};
 
 use crate::closing::Closing;
 use crate::fault::Fault;
@@ -21,8 +21,8 @@ use std::sync::Wait;
 use std::thread::{Threads, map_vec};
 
 /// Listens at a port of the own machine, opens the document of a folder, which is made where it is missing, and serves so many
-/// connections, each in a thread of its own. Writes `serving PORT version V` before it accepts the first, and `served N version W`
-/// after the last has ended. A connection whose handshake fails has ended.
+/// connections, each in a thread of its own. Writes `serving PORT version V` before it accepts the first, where V is the version that was
+/// found, and `served N version W` after the last has ended. A connection whose handshake fails has ended.
 ///
 /// The errors: `Device`, where the port, the folder or the output failed, and after the second line where the journal has failed
 /// meanwhile; `Damaged`, for the first record of the journal that isn't what it has to be; `TooLarge`, where the journal has no room
@@ -54,22 +54,28 @@ where
     ensures faults { IfErr result (IsServeFault connections) }
 {
     let listener = listen(rt, port)?;
-    let (room, removed) = open_room(files, dir, connections)?;
+    let (room, version, removed) = open_room(files, dir, connections)?;
     let door = Door {
         listener: &listener,
         removed: &removed,
     };
-    serve_room::<Brand, _, _, _>(rt, room, door, port, output)
+    serve_room::<Brand, _, _, _>(rt, room, version, door, port, output)
 }
 
-// The room of a folder's document, without a name yet, and the files that the folder removes.
-type Blank = (BlankRoom<Journal<DirShelf<OsFolder<HostRuntime>>>>, Removed);
+/// The room of a folder's document, without a name yet; the version at which it opens; and the files that the folder removes.
+pub type FolderRoom = (
+    BlankRoom<Journal<DirShelf<OsFolder<HostRuntime>>>>,
+    u64,
+    Removed,
+);
 
-/// The room of a folder's document, without a name yet, with so many seats; and the files that the folder removes.
+/// The room of a folder's document, without a name yet, with so many seats; the version at which it opens; and the files that the folder
+/// removes. The folder is made where it is missing.
 ///
 /// The errors are those of `serve`.
-pub(crate) fn open_room(files: HostRuntime, dir: &str, seats: u32) -> Result<Blank, Fault>
+pub fn open_room(files: HostRuntime, dir: &str, seats: u32) -> Result<FolderRoom, Fault>
     ensures seats { IfOk result (λ opened. opened.0.seats ≡ seats) }
+    ensures version { IfOk result (λ opened. opened.1 ≡ opened.0.opening.version) }
     ensures faults { IfErr result (IsServeFault seats) }
 {
     let alloc = files.alloc();
@@ -81,7 +87,7 @@ pub(crate) fn open_room(files: HostRuntime, dir: &str, seats: u32) -> Result<Bla
     };
     let opening = Opening { state, version };
     match blank_room(alloc, journal, opening, seats as usize) {
-        Ok(room) => Ok((room, removed)),
+        Ok(room) => Ok((room, version, removed)),
         Err((_journal, error)) => Err(Fault::from(error)),
     }
 }
@@ -101,11 +107,11 @@ pub(crate) struct Door<'a> {
     pub(crate) removed: &'a Removed,
 }
 
-// A room with its seats.
-type Opened<K, N, R> = (Room<K, N, R>, Vec<Seat<N, Lock<K, N, R>>>);
+/// A room with its seats.
+pub type Opened<K, N, R> = (Room<K, N, R>, Vec<Seat<N, Lock<K, N, R>>>);
 
-/// The room with its seats. A room isn't opened only where memory is refused.
-pub(crate) fn opened<N, K, R>(rt: &R, room: BlankRoom<K>) -> Result<Opened<K, N, R>, Fault>
+/// The room with its seats, under a name. A room isn't opened only where memory is refused.
+pub fn opened<N, K, R>(rt: &R, room: BlankRoom<K>) -> Result<Opened<K, N, R>, Fault>
 where
     N: RoomName,
     K: Keeper + Drop,
@@ -121,10 +127,11 @@ where
     }
 }
 
-// Serves one connection for each seat of a room, and tells of it.
+// Serves one connection for each seat of a room that opens at this version, and tells of it.
 fn serve_room<N, K, R, W>(
     rt: &R,
     room: BlankRoom<K>,
+    version: u64,
     door: Door<'_>,
     port: u16,
     output: &mut W,
@@ -136,22 +143,22 @@ where
     W: Write,
     requires book { room.book ≡ N.book }
     requires opening { room.opening ≡ N.opening }
+    requires version { version ≡ room.opening.version }
     ensures told { OnOk result
-        (WritesServed port room.seats (W.contents output.old) (W.contents output.new)) }
+        (WritesServedAt room.opening.version port room.seats (W.contents output.old) (W.contents output.new)) }
     ensures begun { IfErr result (λ fault. (fault ≡ Fault.Device → ⊥) →
-        BeginsServing port (W.contents output.old) (W.contents output.new)) }
+        BeginsServingAt room.opening.version port (W.contents output.old) (W.contents output.new)) }
     ensures faults { IfErr result IsMemoryOrDevice }
 {
     let (room, seats) = opened::<N, K, R>(rt, room)?;
     let count = seats.len();
-    let version = room.desk(rt).version();
     write_line(output, serving_line(rt.alloc(), port, version)?)?;
     serve_seats(rt, door, seats)?;
     let desk = room.desk(rt);
-    let version = desk.version();
+    let last = desk.version();
     let ended = check_journal(&desk);
     drop(desk);
-    write_line(output, served_line(rt.alloc(), count, version)?)?;
+    write_line(output, served_line(rt.alloc(), count, last)?)?;
     ended
 }
 

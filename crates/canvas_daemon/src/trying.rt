@@ -51,7 +51,7 @@ where
     ensures faults { IfErr result (IsServeFault 2) }
 {
     let listener = listen(rt, 0)?;
-    let (room, removed) = open_room(files, dir, 2)?;
+    let (room, _version, removed) = open_room(files, dir, 2)?;
     let door = Door {
         listener: &listener,
         removed: &removed,

@@ -118,8 +118,8 @@ fn read_port(word: &[u8]) -> Option<u16>
     }
 }
 
-// The number of connections that is spelled so.
-fn read_connections(word: &[u8]) -> Option<u32>
+/// The number of connections that is spelled so, from 1 to 64, which is as many as a room has seats.
+pub fn read_connections(word: &[u8]) -> Option<u32>
     ensures some { IfSome result (SpellsConnections word.now) }
     ensures none { IfNone result ((count : ℕ) → SpellsConnections word.now count → ⊥) }
 {
