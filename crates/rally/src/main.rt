@@ -1,0 +1,29 @@
+//! `rally` has clients edit the document of a folder at once, in one process and without sockets, and tells whether they agree.
+#![tactic(auto)]
+
+use canvas_daemon::Fault;
+use canvas_rally::{end, run};
+use std::env;
+use std::io::{self, ErrorKind};
+use std::process::ExitCode;
+
+// The words that follow the program's name.
+fn words(rt: &HostRuntime) -> io::Result<Vec<String>> {
+    let words: Vec<String> = env::args(rt)?.skip(1).collect(rt.alloc())?;
+    Ok(words)
+}
+
+fn main(rt: HostRuntime) -> ExitCode {
+    let mut faults = rt.stderr();
+    let status = match words(&rt) {
+        Ok(words) => run(&rt, rt, &words, &mut rt.stdout(), &mut faults),
+        Err(error) => {
+            if error.kind() == ErrorKind::OutOfMemory {
+                end(&Fault::Memory, &mut faults)
+            } else {
+                end(&Fault::Usage, &mut faults)
+            }
+        }
+    };
+    ExitCode::from(status)
+}
