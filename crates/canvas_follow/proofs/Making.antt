@@ -14,17 +14,28 @@ use Rattle.canvas_model.specs.Client.{Client}
 use Rattle.canvas_model.specs.Numbered.{nth}
 use Rattle.canvas_model.specs.Local.{Becomes, EditRequest, Makes, edited}
 use Rattle.canvas_model.specs.Local as local
+use Rattle.canvas_model.specs.Standing.{OwnsWaiting, Stands}
 use Rattle.canvas_model.specs.Good.{IsCreation, IsKnown}
 use Rattle.canvas_model.specs.Laws.{EachEditStands, EachVersionIsSound}
 use Rattle.canvas_model.proofs.Lists.{drop-append, nth-append, nth-append_inv, nth-drop, nth-last, nth-within}
 use Rattle.canvas_model.proofs.Ids.{id_itself, same_id_true}
 use Rattle.canvas_model.proofs.Overlay.{CreatedBy, live_over}
 use Rattle.canvas_model.proofs.Trees.{below_live}
+use Rattle.canvas_client.specs.Placed.{BecomesAt, EachPlacedEditStands, MakesAt, NotShown, PlaceRequest, unplaced}
+use Rattle.canvas_client.specs.Placed as placed
 use Rattle.canvas_follow.specs.Follows.{Follows}
 
 -- the object of the change is live in the view, or the change creates it
 abbrev IsShownOrNew : Doc → Change → Type 0
 IsShownOrNew view change = (live view (object_of change) ≡ true) ⊎ IsCreation (Some change) (object_of change)
+
+-- what the change creates has this id
+abbrev CreatesAs : ℕ → Change → Type 0
+CreatesAs c change = (id : ObjId) (kind : Kind) (place : Place) → change ≡ Create id kind place → id.client ≡ c
+
+-- after the change what waits is the client's own, and it stands on the document
+abbrev StandsBy : Client → Change → Doc → Type 0
+StandsBy client change d = OwnsWaiting (edited client change) × Stands (edited client change) d
 
 shown_live : (d : Doc) (q : ObjId) → ((InTree d q → ⊥) → ⊥) → live d q ≡ true
 shown_live d q shown = by (live d q) refl
@@ -41,6 +52,11 @@ made_about client c (local.Clear id name) change b shown = inl (subst (λ (x : C
 made_about client c (local.Move id target) change b shown = inl (subst (λ (x : Change). live client.view (object_of x) ≡ true) (sym b.2) (shown_live client.view id shown))
 made_about client c (local.Delete id) change b shown = inl (subst (λ (x : Change). live client.view (object_of x) ≡ true) (sym b) (shown_live client.view id shown))
 
+-- the same of a request at a place
+placed_about : (client : Client) (c : ℕ) (request : PlaceRequest) (change : Change) → BecomesAt client c request change → (local.IsHidden client.view (unplaced request) → ⊥) → IsShownOrNew client.view change
+placed_about client c (placed.Create kind place) change b shown = inr (subst (λ (x : Change). IsCreation (Some x) (object_of x)) (sym b) (kind, place, refl))
+placed_about client c (placed.Move id place) change b shown = inl (subst (λ (x : Change). live client.view (object_of x) ≡ true) (sym b) (shown_live client.view id shown))
+
 -- what it creates has the client's id
 made_own : (client : Client) (c : ℕ) (request : EditRequest) (id : ObjId) (kind : Kind) (place : Place) → Becomes client c request (Create id kind place) → id.client ≡ c
 made_own client c (local.Create kind target) id k p b = let same : id ≡ record { client = c; counter = client.counter + 1 } = cc (b.2) in ap (λ (i : ObjId). i.client) same
@@ -48,6 +64,10 @@ made_own client c (local.Set i name value) id k p b = absurd (cc b)
 made_own client c (local.Clear i name) id k p b = absurd (cc b)
 made_own client c (local.Move i target) id k p b = absurd (cc (b.2))
 made_own client c (local.Delete i) id k p b = absurd (cc b)
+
+placed_own : (client : Client) (c : ℕ) (request : PlaceRequest) (id : ObjId) (kind : Kind) (place : Place) → BecomesAt client c request (Create id kind place) → id.client ≡ c
+placed_own client c (placed.Create kind at) id k p b = let same : id ≡ record { client = c; counter = client.counter + 1 } = cc b in ap (λ (i : ObjId). i.client) same
+placed_own client c (placed.Move i at) id k p b = absurd (cc b)
 
 known_further : (s : State) (edits : List Change) (change : Change) (i : ℕ) (id : ObjId) → IsKnown s edits i id → IsKnown s (edits ++ change ∷ []) i id
 known_further s edits change i id (inl h) = inl h
@@ -62,13 +82,12 @@ live_known s sound edits i q alive = by (same_id q root) refl
     by true is = inl (same_id_true q root is)
     by false is = inr (inl (sound.counters q alive (λ p. let same : same_id q root ≡ true = ap (λ (x : ObjId). same_id x root) p ∙ id_itself root in cc)))
 
-module _ (sound : EachVersionIsSound) (stands_edited : EachEditStands) (log : List Entry) (legal : IsLegal opening log) (c : ℕ) (edits : List Change) (client : Client) (f : Follows log c edits client) (request : EditRequest) (change : Change) (makes : Makes client request change) where
-  id_is : makes.1 ≡ c
-  id_is = let both : Some makes.1 ≡ Some c = sym makes.2 ∙ f.holds in cc
-
+-- the client follows the log after one more change, which is about an object that is shown or new, creates nothing but its own, and leaves it standing
+module _ (sound : EachVersionIsSound) (log : List Entry) (legal : IsLegal opening log) (c : ℕ) (edits : List Change) (client : Client) (f : Follows log c edits client) (change : Change)
+    (about : IsShownOrNew client.view change) (creates : CreatesAs c change) (stood : StandsBy client change (at_version log client.version).doc) where
   own : (i : ℕ) (id : ObjId) (kind : Kind) (place : Place) → (nth edits i ≡ Some (Create id kind place)) ⊎ ((i ≡ suc (length edits)) × (change ≡ Create id kind place)) → id.client ≡ c
   own i id kind place (inl h) = f.own i id (kind, place, h)
-  own i id kind place (inr h) = made_own client makes.1 request id kind place (subst (Becomes client makes.1 request) h.1 makes.3) ∙ id_is
+  own i id kind place (inr h) = creates id kind place h.1
 
   shown_known : (q : ObjId) → (live (at_version log client.version).doc q ≡ true) ⊎ CreatedBy client.waiting q → IsKnown (at_version log client.version) (edits ++ change ∷ []) (suc (length edits)) q
   shown_known q (inl alive) = live_known (at_version log client.version) (sound log legal client.version) (edits ++ change ∷ []) (suc (length edits)) q alive
@@ -85,12 +104,10 @@ module _ (sound : EachVersionIsSound) (stands_edited : EachEditStands) (log : Li
 
   known : (i : ℕ) (other : Change) → client.acknowledged < i → (nth edits i ≡ Some other) ⊎ ((i ≡ suc (length edits)) × (change ≡ other)) → IsKnown (at_version log client.version) (edits ++ change ∷ []) i (object_of other)
   known i other more (inl h) = known_further (at_version log client.version) edits change i (object_of other) (f.known i other more h)
-  known i other more (inr h) = subst (λ (x : ℕ × Change). IsKnown (at_version log client.version) (edits ++ change ∷ []) x.0 (object_of x.1)) (λ j. (sym h.0 j, h.1 j))
-      (new_known (made_about client makes.1 request change makes.3 (λ hidden. makes.0 local.NotShown (inl hidden))))
+  known i other more (inr h) = subst (λ (x : ℕ × Change). IsKnown (at_version log client.version) (edits ++ change ∷ []) x.0 (object_of x.1)) (λ j. (sym h.0 j, h.1 j)) (new_known about)
 
-  pub follows_edited : Follows log c (edits ++ change ∷ []) (edited client change)
-  follows_edited =
-      let stood = stands_edited (at_version log client.version).doc client request change f.owns f.stands makes in
+  follows_changed : Follows log c (edits ++ change ∷ []) (edited client change)
+  follows_changed =
       record {
         holds = f.holds;
         given = f.given;
@@ -103,3 +120,22 @@ module _ (sound : EachVersionIsSound) (stands_edited : EachEditStands) (log : Li
         own = λ i id created. own i id created.0 created.1 (nth-append_inv edits change i (Create id created.0 created.1) created.2);
         known = λ i other more here. known i other more (nth-append_inv edits change i other here);
       }
+
+module _ (sound : EachVersionIsSound) (log : List Entry) (legal : IsLegal opening log) (c : ℕ) (edits : List Change) (client : Client) (f : Follows log c edits client) (change : Change) where
+  -- the client's id is the one under which it follows
+  id_is : (has : ℕ) → client.id ≡ Some has → has ≡ c
+  id_is has is = let both : Some has ≡ Some c = sym is ∙ f.holds in cc
+
+  pub follows_edited : EachEditStands → (request : EditRequest) → Makes client request change → Follows log c (edits ++ change ∷ []) (edited client change)
+  follows_edited stands_edited request makes =
+      follows_changed sound log legal c edits client f change
+      (made_about client makes.1 request change makes.3 (λ hidden. makes.0 local.NotShown (inl hidden)))
+      (λ id kind place is. made_own client makes.1 request id kind place (subst (Becomes client makes.1 request) is makes.3) ∙ id_is makes.1 makes.2)
+      (stands_edited (at_version log client.version).doc client request change f.owns f.stands makes)
+
+  pub follows_placed : EachPlacedEditStands → (request : PlaceRequest) → MakesAt client request change → Follows log c (edits ++ change ∷ []) (edited client change)
+  follows_placed stands_placed request makes =
+      follows_changed sound log legal c edits client f change
+      (placed_about client makes.1 request change makes.3 (λ hidden. makes.0 NotShown (inl hidden)))
+      (λ id kind place is. placed_own client makes.1 request id kind place (subst (BecomesAt client makes.1 request) is makes.3) ∙ id_is makes.1 makes.2)
+      (stands_placed (at_version log client.version).doc client request change f.owns f.stands makes)

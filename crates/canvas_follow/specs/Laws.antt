@@ -7,6 +7,7 @@ use Rattle.canvas_model.specs.Log.{Entry, IsLegal}
 use Rattle.canvas_model.specs.Client.{Client}
 use Rattle.canvas_model.specs.Messages.{Message}
 use Rattle.canvas_model.specs.Local.{EditRequest, Makes, edited}
+use Rattle.canvas_client.specs.Placed.{MakesAt, PlaceRequest}
 use Rattle.canvas_shelf.specs.Disk.{Content}
 use Rattle.canvas_journal.specs.Meaning.{Versioned}
 use Rattle.canvas_server.specs.Asked.{Asked}
@@ -27,6 +28,11 @@ EachTruthIsFollowed = (log : List Entry) → IsLegal opening log → (c : ℕ) (
 abbrev pub EachEditIsFollowed : Type 0
 EachEditIsFollowed = (log : List Entry) → IsLegal opening log → (c : ℕ) (edits : List Change) (old : Client) → Follows log c edits old
     → (request : EditRequest) (change : Change) → Makes old request change → Follows log c (edits ++ change ∷ []) (edited old change)
+
+-- and by each edit of its own at a place that the caller names
+abbrev pub EachPlacedEditIsFollowed : Type 0
+EachPlacedEditIsFollowed = (log : List Entry) → IsLegal opening log → (c : ℕ) (edits : List Change) (old : Client) → Follows log c edits old
+    → (request : PlaceRequest) (change : Change) → MakesAt old request change → Follows log c (edits ++ change ∷ []) (edited old change)
 
 -- it shows the document at its version with what waits laid over it, and its acknowledged edits stand in the log once
 abbrev pub EachFollowerShows : Type 0

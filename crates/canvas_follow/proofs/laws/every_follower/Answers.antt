@@ -1,5 +1,5 @@
 use Rattle.canvas_follow.proofs.Heard.{heard_one}
-use Rattle.canvas_follow.proofs.Making.{follows_edited}
+use Rattle.canvas_follow.proofs.Making.{follows_edited, follows_placed}
 use Rattle.canvas_follow.proofs.Crashes.{new_room_opens}
 use Rattle.canvas_follow.proofs.Headlines.{agree, headline}
 use Rattle.canvas_follow.proofs.laws.every_follower.Goals as goal
@@ -8,7 +8,10 @@ pub returns-clause-truths : goal.returns-clause-truths
 returns-clause-truths c = λ log legal id edits all old f m is new h. heard_one c.every_log.ensures.sound c.every_view.ensures.taken c.every_told_entry.ensures log legal id edits all old f m is new h
 
 pub returns-clause-edits : goal.returns-clause-edits
-returns-clause-edits c = λ log legal id edits old f request change makes. follows_edited c.every_log.ensures.sound c.every_view.ensures.edited log legal id edits old f request change makes
+returns-clause-edits c = λ log legal id edits old f request change makes. follows_edited c.every_log.ensures.sound log legal id edits old f change c.every_view.ensures.edited request makes
+
+pub returns-clause-placed : goal.returns-clause-placed
+returns-clause-placed c = λ log legal id edits old f request change makes. follows_placed c.every_log.ensures.sound log legal id edits old f change c.every_placed_edit.ensures request makes
 
 pub returns-clause-shows : goal.returns-clause-shows
 returns-clause-shows c = headline
