@@ -5,7 +5,8 @@ use Rattle.std.specs.List.{Contains, list_any}
 use Rattle.std.proofs.lemmas.Map.Views.{Contains-from_any}
 use Rattle.canvas_model.specs.declared.ObjId.{ObjId}
 use Rattle.canvas_model.specs.Ids.{same_id}
-use Rattle.canvas_model.specs.Document.{Doc, Object, revise, without}
+use Rattle.canvas_model.specs.declared.Kind.{Kind}
+use Rattle.canvas_model.specs.Document.{Doc, Object, Place, Pos, revise, without}
 use Rattle.canvas_model.specs.Change.{Change, Create, Set, Move, Delete, object_of}
 use Rattle.canvas_model.specs.Overlay.{is_idle, laid, lay}
 use Rattle.canvas_model.specs.Client.{Client, Yields}
@@ -22,6 +23,8 @@ use Rattle.canvas_judge.specs.declared.message.Message.{Message as Stored}
 use Rattle.canvas_judge.specs.declared.message.Message.TheVariants as stored
 use Rattle.canvas_judge.specs.Seen.{seen_message}
 use Rattle.canvas_client.specs.Asked.{HasMade, HasCreated}
+use Rattle.canvas_client.specs.Placed.{HasCreatedAt, HasMovedAt}
+use Rattle.canvas_client.specs.Ends.{HasCreatedThere, HasMovedThere}
 use Rattle.canvas_client.specs.Follow.{CanFollow, LeavesRoot}
 use Rattle.canvas_embed.specs.Changed.{ChangesOnly, touched}
 
@@ -160,3 +163,17 @@ made_only old new r id names (change, makes, is) = edited_only old new change id
 
 pub created_only : (old new : Client) (r : EditRequest) (id : ObjId) → HasCreated old r id new → ChangesOnly (id ∷ []) old.view new.view
 created_only old new r id (kind, place, makes, is) = edited_only old new (Create id kind place) id refl is
+
+-- ---- edits at places
+
+pub created_at_only : (old new : Client) (kind : Kind) (place : Place) (id : ObjId) → HasCreatedAt old kind place id new → ChangesOnly (id ∷ []) old.view new.view
+created_at_only old new kind place id (makes, is) = edited_only old new (Create id kind place) id refl is
+
+pub moved_at_only : (old new : Client) (id : ObjId) (place : Place) → HasMovedAt old id place new → ChangesOnly (id ∷ []) old.view new.view
+moved_at_only old new id place (makes, is) = edited_only old new (Move id place) id refl is
+
+pub created_there_only : (Lies : Doc → ObjId → ObjId → Option Pos → Type 0) (old new : Client) (kind : Kind) (parent id : ObjId) → HasCreatedThere Lies old kind parent id new → ChangesOnly (id ∷ []) old.view new.view
+created_there_only Lies old new kind parent id (pos, lies, has) = created_at_only old new kind (record { parent = parent; pos = pos }) id has
+
+pub moved_there_only : (Lies : Doc → ObjId → ObjId → Option Pos → Type 0) (old new : Client) (id parent : ObjId) → HasMovedThere Lies old id parent new → ChangesOnly (id ∷ []) old.view new.view
+moved_there_only Lies old new id parent (pos, lies, has) = moved_at_only old new id (record { parent = parent; pos = pos }) has

@@ -5,6 +5,7 @@ pub mod Ids
 pub mod Kinds
 pub mod Messages
 pub mod Objects
+pub mod Places
 pub mod Trees
 pub mod Values
 pub mod Saves

@@ -1,5 +1,6 @@
 // Why a call of bytes and numbers does nothing.
-use canvas_client::EditError;
+use canvas_client::{EditError, EndError, PlaceError};
+use canvas_pos::PosError;
 use canvas_value::NameError;
 use thiserror::Error;
 
@@ -33,6 +34,42 @@ pub enum CreateError {
     /// The kind is one, and the client refuses the edit.
     #[error("{0}")]
     Edit(EditError),
+}
+
+/// Why nothing was created at a place: the first that holds, in this order. But memory can be refused before.
+#[derive(Clone, Copy, Debug, PartialEq, Eq, Error)]
+pub enum CreateAtError {
+    /// The number is that of no kind.
+    #[error("a kind is 1 to 4: page, frame, shape or text")]
+    NoKind,
+    /// The kind is one, and the bytes are no position.
+    #[error("{0}")]
+    Position(PosError),
+    /// Both are what they should be, and the client refuses the edit.
+    #[error("{0}")]
+    Edit(PlaceError),
+}
+
+/// Why nothing was moved to a place: the first that holds, in this order. But memory can be refused before.
+#[derive(Clone, Copy, Debug, PartialEq, Eq, Error)]
+pub enum MoveAtError {
+    /// The bytes are no position.
+    #[error("{0}")]
+    Position(PosError),
+    /// They are one, and the client refuses the edit.
+    #[error("{0}")]
+    Edit(PlaceError),
+}
+
+/// Why nothing was created at an end of a parent's children.
+#[derive(Clone, Copy, Debug, PartialEq, Eq, Error)]
+pub enum CreateEndError {
+    /// The number is that of no kind.
+    #[error("a kind is 1 to 4: page, frame, shape or text")]
+    NoKind,
+    /// The kind is one, and there is no room at that end, or the client refuses the edit.
+    #[error("{0}")]
+    Edit(EndError),
 }
 
 /// Why no property was set: the first that holds, in this order. But memory can be refused before.
