@@ -44,7 +44,7 @@ function edit({ client }) {
   try {
     [() => client.create(any(['page', 'frame', 'shape', 'text']), holder.id, after), () => client.create(holder.kind === 'document' ? 'page' : 'frame', holder.id, after),
       () => client.set(id, 'x', below(500)), () => client.set(id, 'name', `n${below(99)}`), () => client.move(id, holder.id, after), () => client.move(id, holder.id, after),
-      () => client.clear(id, 'x'), () => below(2) ? client.set(id, 'y', BigInt(below(1 << 20)) << 40n) : client.delete(id)][below(8)]();
+      () => client.clear(id, 'x'), () => below(3) ? client.delete(id) : client.set(id, 'y', BigInt(below(1 << 20)) << 40n)][below(8)]();
     count(made, 'edits');
   } catch (fault) {
     if (!(fault instanceof ClientError)) throw fault;

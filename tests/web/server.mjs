@@ -36,7 +36,7 @@ export class Server {
     const line = await new Promise((resolve, reject) => {
       let text = '';
       setTimeout(() => reject(new Error('the server does not start')), STARTS_WITHIN).unref();
-      this.process.stderr.on('data', (data) => { text += data; if (text.includes('\n')) resolve(text); });
+      this.process.stderr.on('data', (data) => { text += data; if (/127\.0\.0\.1:\d+.*\n/.test(text)) resolve(text); });
       this.process.once('exit', () => reject(new Error(`the server has ended: ${text}`)));
     });
     this.port = Number(/127\.0\.0\.1:(\d+)/.exec(line)[1]);
