@@ -1,21 +1,32 @@
 -- What each call answers, and what it leaves.
-use Rattle.std.specs.Prelude.{◌≡◌, ℕ, ◌<◌, ◌≤◌, ◌++◌, ◌⊎◌, List, [], length, drop, Option, Some, None}
+use Rattle.std.specs.Prelude.{◌≡◌, ℕ, ◌<◌, ◌≤◌, ◌++◌, ◌⊎◌, List, [], length, drop, Option, Some, None, false}
 use Rattle.canvas_model.specs.declared.ObjId.{ObjId}
+use Rattle.canvas_model.specs.Chain.{InTree}
 use Rattle.canvas_model.specs.Client.{Client, new_client}
+use Rattle.canvas_model.specs.Document.{Doc, Pos, live}
 use Rattle.canvas_model.specs.Local.{Target, Move, Delete}
 use Rattle.canvas_model.specs.Messages.{Join}
 use Rattle.canvas_client.specs.Asked.{HasMade, IsRefusal, StandsStill, refusal}
+use Rattle.canvas_client.specs.Ends.{HasMovedThere, IsEndError, end_error_number}
+use Rattle.canvas_client.specs.Kept.{IsKept}
+use Rattle.canvas_client.specs.Placed as placed
 use Rattle.canvas_wire.specs.Text.{EncodesMessage, IsMessageError}
 use Rattle.canvas_wire.specs.declared.fault.WireError.{WireError}
+use Rattle.canvas_embed.specs.declared.fault.LoadError.{LoadError}
 use Rattle.canvas_embed.specs.declared.heard.Heard.{Heard}
+use Rattle.canvas_embed.specs.Changed.{TellsChanges}
 use Rattle.canvas_embed.specs.Edits.{HasCleared, HasCreatedKind, HasSet}
 use Rattle.canvas_embed.specs.Faults.{IsClearError, IsCreateError, IsSetError}
 use Rattle.canvas_embed.specs.Messages.{HasHeard, IsAskText, IsEditText}
+use Rattle.canvas_embed.specs.Objects.{IsChildrenText, IsObjectText}
+use Rattle.canvas_embed.specs.Places.{HasCreatedKindAt, HasCreatedKindThere, HasMovedToBytes, IsCreateAtError, IsCreateEndError, IsMoveAtError}
+use Rattle.canvas_embed.specs.Saves.{EncodesClient, IsLoadError, SpellsClient}
 use Rattle.canvas_embed.specs.Trees.{IsTreeText}
 use Rattle.canvas_c.specs.declared.ids.ObjectId.{ObjectId}
 use Rattle.canvas_c.specs.declared.session.Session.{Session}
 use Rattle.canvas_c.specs.Ids.{told}
-use Rattle.canvas_c.specs.Numbers.{done, memory, held, nothing, no_room, no_client, edit_number, create_number, set_number, clear_number, wire_number, heard_number}
+use Rattle.canvas_c.specs.Numbers.{done, not_shown, memory, held, nothing, no_room, no_client}
+use Rattle.canvas_c.specs.Numbers.{edit_number, create_number, create_at_number, move_at_number, create_end_number, set_number, clear_number, wire_number, heard_number, load_number}
 
 -- a client without an id, and nothing is left to be read
 abbrev pub IsNew : Session → Type 0
@@ -27,6 +38,18 @@ NewAnswer n None (Some new) = (n ≡ done) × IsNew new
 NewAnswer n None None = n ≡ memory
 NewAnswer n (Some old) new = (n ≡ held) × (new ≡ Some old)
 
+-- the client is the one of which the bytes are a text, and nothing is left to be read
+abbrev pub IsLoaded : List ℕ → Session → Type 0
+IsLoaded bytes s = SpellsClient bytes s.client × (s.left.items ≡ [])
+
+-- a session is held of the client of which the bytes are the text; or they are none, and this is why; or one was held already: then nothing
+-- has changed. Bytes that a client could be are refused for want of memory alone.
+abbrev pub LoadAnswer : List ℕ → ℕ → Option Session → Option Session → Type 0
+LoadAnswer bytes n None (Some new) = (n ≡ done) × IsLoaded bytes new × ((client : Client) → SpellsClient bytes client → new.client ≡ client)
+LoadAnswer bytes n None None =
+    (e : LoadError) × (n ≡ load_number e) × IsLoadError bytes e × ((client : Client) → SpellsClient bytes client → IsKept client → n ≡ memory)
+LoadAnswer bytes n (Some old) new = (n ≡ held) × (new ≡ Some old)
+
 -- the session that was held has ended, or none was held
 abbrev pub FreeAnswer : ℕ → Option Session → Option Session → Type 0
 FreeAnswer n (Some old) new = (n ≡ done) × (new ≡ None)
@@ -37,6 +60,12 @@ FreeAnswer n None new = (n ≡ no_client) × (new ≡ None)
 abbrev pub ReceiveAnswer : List ℕ → ℕ → Session → Session → Type 0
 ReceiveAnswer bytes n old new =
     ((heard : Heard) × (n ≡ heard_number heard) × HasHeard old.client bytes heard new.client × (new.left ≡ old.left))
+    ⊎ ((e : WireError) × (n ≡ wire_number e) × IsMessageError bytes e × (new ≡ old))
+
+-- the same, and the bytes that are left tell which objects of the view may have changed
+abbrev pub TellAnswer : List ℕ → ℕ → Session → Session → Type 0
+TellAnswer bytes n old new =
+    ((heard : Heard) × (n ≡ heard_number heard) × HasHeard old.client bytes heard new.client × TellsChanges new.left.items old.client.view new.client.view)
     ⊎ ((e : WireError) × (n ≡ wire_number e) × IsMessageError bytes e × (new ≡ old))
 
 -- the client has made the edit, and stands where it stood; or this is why it hasn't, and nothing has changed
@@ -62,6 +91,23 @@ MoveAnswer id target = EditAnswer edit_number (λ old new. HasMade old (Move id 
 abbrev pub DeleteAnswer : ObjId → ℕ → Session → Session → Type 0
 DeleteAnswer id = EditAnswer edit_number (λ old new. HasMade old (Delete id) new) (λ old e. IsRefusal old (Delete id) (refusal e))
 
+-- edits at a position that is named
+abbrev pub CreateAtAnswer : ℕ → ObjId → List ℕ → ObjectId → ObjectId → ℕ → Session → Session → Type 0
+CreateAtAnswer kind parent position was made =
+    EditAnswer create_at_number (λ old new. HasCreatedKindAt old kind parent position (told made) new) (λ old e. IsCreateAtError old kind parent position e × (made ≡ was))
+
+abbrev pub MoveAtAnswer : ObjId → ObjId → List ℕ → ℕ → Session → Session → Type 0
+MoveAtAnswer id parent position = EditAnswer move_at_number (λ old new. HasMovedToBytes old id parent position new) (λ old e. IsMoveAtError old id parent position e)
+
+-- edits at one of the two ends of the parent's children
+module _ (Lies : Doc → ObjId → ObjId → Option Pos → Type 0) where
+  abbrev pub CreateThereAnswer : ℕ → ObjId → ObjectId → ObjectId → ℕ → Session → Session → Type 0
+  CreateThereAnswer kind parent was made =
+      EditAnswer create_end_number (λ old new. HasCreatedKindThere Lies old kind parent (told made) new) (λ old e. IsCreateEndError Lies old kind parent e × (made ≡ was))
+
+  abbrev pub MoveThereAnswer : ObjId → ObjId → ℕ → Session → Session → Type 0
+  MoveThereAnswer id parent = EditAnswer end_error_number (λ old new. HasMovedThere Lies old id parent new) (λ old e. IsEndError Lies old parent id (placed.Move id) e)
+
 -- the text is left; or there is none, and this is why; or memory was refused. The client is as it was, and unless a text is left, all is
 abbrev pub TextAnswer : (List ℕ → Type 0) → Type 0 → ℕ → Session → Session → Type 0
 TextAnswer IsText IsNone n old new =
@@ -79,6 +125,20 @@ WaitingAnswer i n old new = TextAnswer (IsEditText old.client i) (0 < i → i �
 
 abbrev pub TreeAnswer : ℕ → Session → Session → Type 0
 TreeAnswer n old new = TextAnswer (IsTreeText old.client) ⊥ n old new
+
+-- the row of an object that the view has
+abbrev pub ObjectAnswer : ObjId → ℕ → Session → Session → Type 0
+ObjectAnswer id n old new = TextAnswer (IsObjectText old.client id) (live old.client.view id ≡ false) n old new
+
+abbrev pub ChildrenAnswer : ObjId → ℕ → Session → Session → Type 0
+ChildrenAnswer id n old new = TextAnswer (IsChildrenText old.client id) ⊥ n old new
+
+abbrev pub SaveAnswer : ℕ → Session → Session → Type 0
+SaveAnswer n old new = TextAnswer (λ text. EncodesClient text old.client) ⊥ n old new
+
+-- the object is in the tree that the client shows, or it isn't
+abbrev pub InTreeAnswer : ObjId → ℕ → Session → Session → Type 0
+InTreeAnswer id n old new = (new ≡ old) × (((n ≡ done) × InTree old.client.view id) ⊎ ((n ≡ not_shown) × (InTree old.client.view id → ⊥)))
 
 -- what was left stands at the start of the room, and behind it the room is as it was; or it is longer than the room, which is as it was
 abbrev pub ReadAnswer : List ℕ → List ℕ → ℕ → Session → Session → Type 0

@@ -1,10 +1,15 @@
 -- The numbers that calls answer. No number means two things.
 use Rattle.std.specs.Prelude.{ℕ, ◌+◌}
+use Rattle.canvas_pos.specs.declared.PosError.{PosError}
+use Rattle.canvas_pos.specs.declared.PosError.TheVariants as position
 use Rattle.canvas_value.specs.declared.names.NameError.{NameError}
 use Rattle.canvas_value.specs.declared.names.NameError.TheVariants as name
 use Rattle.canvas_judge.specs.Reasons as reasons
 use Rattle.canvas_client.specs.Asked.{refusal, number_of}
+use Rattle.canvas_client.specs.Ends.{end_error_number}
+use Rattle.canvas_client.specs.Placed.{place_number_of, place_refusal}
 use Rattle.canvas_client.specs.declared.error.EditError.{EditError}
+use Rattle.canvas_client.specs.declared.error.PlaceError.{PlaceError}
 use Rattle.canvas_client.specs.declared.received.Received.{Received}
 use Rattle.canvas_client.specs.declared.received.Received.TheVariants as received
 use Rattle.canvas_wire.specs.declared.fault.WireError.{WireError}
@@ -17,12 +22,24 @@ use Rattle.canvas_embed.specs.declared.fault.SetError.{SetError}
 use Rattle.canvas_embed.specs.declared.fault.SetError.TheVariants as set
 use Rattle.canvas_embed.specs.declared.fault.ClearError.{ClearError}
 use Rattle.canvas_embed.specs.declared.fault.ClearError.TheVariants as clear
+use Rattle.canvas_embed.specs.declared.fault.CreateAtError.{CreateAtError}
+use Rattle.canvas_embed.specs.declared.fault.CreateAtError.TheVariants as create_at
+use Rattle.canvas_embed.specs.declared.fault.MoveAtError.{MoveAtError}
+use Rattle.canvas_embed.specs.declared.fault.MoveAtError.TheVariants as move_at
+use Rattle.canvas_embed.specs.declared.fault.CreateEndError.{CreateEndError}
+use Rattle.canvas_embed.specs.declared.fault.CreateEndError.TheVariants as create_end
+use Rattle.canvas_embed.specs.declared.fault.LoadError.{LoadError}
+use Rattle.canvas_embed.specs.declared.fault.LoadError.TheVariants as load
 use Rattle.canvas_embed.specs.declared.heard.Heard.{Heard}
 use Rattle.canvas_embed.specs.declared.heard.Heard.TheVariants as heard
 
 -- the call has done what it is for
 abbrev pub done : ℕ
 done = 0
+
+-- the object isn't in the tree
+abbrev pub not_shown : ℕ
+not_shown = 2
 
 -- memory was refused
 abbrev pub memory : ℕ
@@ -44,9 +61,20 @@ nothing = 22
 abbrev pub no_room : ℕ
 no_room = 23
 
--- why the client refuses an edit: 1 to 11, 10 for want of memory
+-- why the client refuses an edit: 1 to 11, 10 for want of memory; at a place 12 too
 abbrev pub edit_number : EditError → ℕ
 edit_number e = number_of (refusal e)
+
+abbrev pub place_number : PlaceError → ℕ
+place_number e = place_number_of (place_refusal e)
+
+-- why bytes are no position
+abbrev pub position_number : PosError → ℕ
+position_number position.Empty = 33
+position_number position.TooLong = 34
+position_number (position.BadByte i) = 35
+position_number position.TrailingZero = 36
+position_number position.Memory = memory
 
 -- why bytes are no name
 abbrev pub name_number : NameError → ℕ
@@ -76,6 +104,22 @@ abbrev pub create_number : CreateError → ℕ
 create_number create.NoKind = 24
 create_number (create.Edit e) = edit_number e
 
+-- why nothing is created at a place
+abbrev pub create_at_number : CreateAtError → ℕ
+create_at_number create_at.NoKind = 24
+create_at_number (create_at.Position e) = position_number e
+create_at_number (create_at.Edit e) = place_number e
+
+-- why nothing is moved to a place
+abbrev pub move_at_number : MoveAtError → ℕ
+move_at_number (move_at.Position e) = position_number e
+move_at_number (move_at.Edit e) = place_number e
+
+-- why nothing is created at an end of a parent's children
+abbrev pub create_end_number : CreateEndError → ℕ
+create_end_number create_end.NoKind = 24
+create_end_number (create_end.Edit e) = end_error_number e
+
 -- why no property is set
 abbrev pub set_number : SetError → ℕ
 set_number (set.Name e) = name_number e
@@ -86,6 +130,15 @@ set_number (set.Edit e) = edit_number e
 abbrev pub clear_number : ClearError → ℕ
 clear_number (clear.Name e) = name_number e
 clear_number (clear.Edit e) = edit_number e
+
+-- why bytes are no client
+abbrev pub load_number : LoadError → ℕ
+load_number load.NotJson = 40
+load_number load.NotAClient = 45
+load_number load.OutOfRange = 43
+load_number load.TooDeep = 44
+load_number load.Inconsistent = 46
+load_number load.Memory = memory
 
 -- what the client did with a message
 abbrev pub received_number : Received → ℕ

@@ -4,9 +4,14 @@
 //! mark, the bytes and the numbers are, it answers, and its contract says what then holds.
 #![tactic(auto)]
 
-ghost use Rattle.std.specs.Prelude.{◌≡◌, IfOk, length};
+ghost use Rattle.std.specs.Prelude.{◌≡◌, IfErr, IfOk, length};
 ghost use Rattle.std.specs.Option.{unwrap_or};
-ghost use Rattle.canvas_c.specs.Answers.{AskAnswer, ClearAnswer, CreateAnswer, DeleteAnswer, FreeAnswer, IsNew, JoinAnswer, MoveAnswer, NewAnswer, ReadAnswer, ReceiveAnswer, SetAnswer, TreeAnswer, WaitingAnswer};
+ghost use Rattle.canvas_model.specs.Client as client;
+ghost use Rattle.canvas_client.specs.Ends.{LiesFirst, LiesLast};
+ghost use Rattle.canvas_client.specs.Kept.{IsKept};
+ghost use Rattle.canvas_embed.specs.Saves.{IsLoadError, SpellsClient};
+ghost use Rattle.canvas_embed.specs.declared.fault.LoadError.TheVariants as load;
+ghost use Rattle.canvas_c.specs.Answers.{AskAnswer, ChildrenAnswer, ClearAnswer, CreateAnswer, CreateAtAnswer, CreateThereAnswer, DeleteAnswer, FreeAnswer, InTreeAnswer, IsLoaded, IsNew, JoinAnswer, LoadAnswer, MoveAnswer, MoveAtAnswer, MoveThereAnswer, NewAnswer, ObjectAnswer, ReadAnswer, ReceiveAnswer, SaveAnswer, SetAnswer, TellAnswer, TreeAnswer, WaitingAnswer};
 ghost use Rattle.canvas_c.specs.Held.{OnHeld};
 ghost use Rattle.canvas_c.specs.Ids.{object, target_of};
 ghost use Rattle.canvas_c.specs.Numbers.{no_client};
@@ -19,9 +24,10 @@ mod parked;
 mod session;
 
 use canvas_doc::ObjId;
+use canvas_embed::LoadError;
 use handle::Handle;
 use ids::{ObjectId, after_of};
-use numbers::{DONE, HELD, MEMORY, NO_CLIENT};
+use numbers::{DONE, HELD, MEMORY, NO_CLIENT, load_number};
 use session::Session;
 use std::alloc::{AllocError, Global};
 
@@ -50,6 +56,40 @@ fn boxed(alloc: Global) -> Result<Box<Session>, AllocError>
     match Box::new(alloc, session) {
         Ok(held) => Ok(held),
         Err(_) => Err(AllocError),
+    }
+}
+
+/// Makes the client of which the bytes are the text.
+#[unsafe(no_mangle)]
+pub extern "C" fn lugcurrant_load(handle: &mut Handle, alloc: Global, bytes: &[u8]) -> u32
+    ensures { LoadAnswer bytes.now result handle.old.kept.session handle.new.kept.session }
+{
+    if !handle.is_empty() {
+        return HELD;
+    }
+    match loaded(alloc, bytes) {
+        Ok(session) => {
+            handle.put(session);
+            DONE
+        }
+        Err(error) => load_number(error),
+    }
+}
+
+// The session of the client of which the bytes are the text, in a box.
+fn loaded(alloc: Global, bytes: &[u8]) -> Result<Box<Session>, LoadError>
+    ensures ok { IfOk result (λ session. IsLoaded bytes.now session.value) }
+    ensures only { (client : client.Client) → SpellsClient bytes.now client → IfOk result (λ session. session.value.client ≡ client) }
+    ensures only_memory { (client : client.Client) → SpellsClient bytes.now client → IsKept client → IfErr result (λ error. error ≡ load.Memory) }
+    ensures fault { IfErr result (IsLoadError bytes.now) }
+{
+    let session = match Session::load(alloc, bytes) {
+        Ok(session) => session,
+        Err(error) => return Err(error),
+    };
+    match Box::new(alloc, session) {
+        Ok(held) => Ok(held),
+        Err(_) => Err(LoadError::Memory),
     }
 }
 
@@ -132,6 +172,23 @@ pub extern "C" fn lugcurrant_receive(handle: &mut Handle, alloc: Global, bytes: 
     answer
 }
 
+/// Receives one message, and leaves which objects of the view may have changed.
+#[unsafe(no_mangle)]
+pub extern "C" fn lugcurrant_receive_and_tell(
+    handle: &mut Handle,
+    alloc: Global,
+    bytes: &[u8],
+) -> u32
+    ensures { OnHeld (TellAnswer bytes.now result) (result ≡ no_client) handle.old.kept.session handle.new.kept.session }
+{
+    let Some(mut session) = handle.take(alloc) else {
+        return NO_CLIENT;
+    };
+    let answer = session.receive_and_tell(alloc, bytes);
+    handle.put(session);
+    answer
+}
+
 /// Creates an object of the kind of this number under the parent, after a child of it, or first where that is 0:0.
 #[unsafe(no_mangle)]
 pub extern "C" fn lugcurrant_create(
@@ -154,6 +211,79 @@ pub extern "C" fn lugcurrant_create(
         counter: parent_counter,
     };
     let answer = session.create(kind, parent, after_of(after_client, after_counter), made);
+    handle.put(session);
+    answer
+}
+
+/// Creates an object of the kind of this number under the parent, at the position of these bytes.
+#[unsafe(no_mangle)]
+pub extern "C" fn lugcurrant_create_at(
+    handle: &mut Handle,
+    alloc: Global,
+    kind: u32,
+    parent_client: u32,
+    parent_counter: u32,
+    position: &[u8],
+    made: &mut ObjectId,
+) -> u32
+    ensures { OnHeld (CreateAtAnswer kind (object parent_client parent_counter) position.now made.old made.new result) ((result ≡ no_client) × (made.new ≡ made.old)) handle.old.kept.session handle.new.kept.session }
+{
+    let Some(mut session) = handle.take(alloc) else {
+        return NO_CLIENT;
+    };
+    let parent = ObjId {
+        client: parent_client,
+        counter: parent_counter,
+    };
+    let answer = session.create_at(alloc, kind, parent, position, made);
+    handle.put(session);
+    answer
+}
+
+/// Creates an object of the kind of this number under the parent, behind all its children.
+#[unsafe(no_mangle)]
+pub extern "C" fn lugcurrant_create_last(
+    handle: &mut Handle,
+    alloc: Global,
+    kind: u32,
+    parent_client: u32,
+    parent_counter: u32,
+    made: &mut ObjectId,
+) -> u32
+    ensures { OnHeld (CreateThereAnswer LiesLast kind (object parent_client parent_counter) made.old made.new result) ((result ≡ no_client) × (made.new ≡ made.old)) handle.old.kept.session handle.new.kept.session }
+{
+    let Some(mut session) = handle.take(alloc) else {
+        return NO_CLIENT;
+    };
+    let parent = ObjId {
+        client: parent_client,
+        counter: parent_counter,
+    };
+    let answer = session.create_last(kind, parent, made);
+    handle.put(session);
+    answer
+}
+
+/// Creates an object of the kind of this number under the parent, before all its children.
+#[unsafe(no_mangle)]
+pub extern "C" fn lugcurrant_create_first(
+    handle: &mut Handle,
+    alloc: Global,
+    kind: u32,
+    parent_client: u32,
+    parent_counter: u32,
+    made: &mut ObjectId,
+) -> u32
+    ensures { OnHeld (CreateThereAnswer LiesFirst kind (object parent_client parent_counter) made.old made.new result) ((result ≡ no_client) × (made.new ≡ made.old)) handle.old.kept.session handle.new.kept.session }
+{
+    let Some(mut session) = handle.take(alloc) else {
+        return NO_CLIENT;
+    };
+    let parent = ObjId {
+        client: parent_client,
+        counter: parent_counter,
+    };
+    let answer = session.create_first(kind, parent, made);
     handle.put(session);
     answer
 }
@@ -226,6 +356,82 @@ pub extern "C" fn lugcurrant_move(
     answer
 }
 
+/// Moves the object under the parent, to the position of these bytes.
+#[unsafe(no_mangle)]
+pub extern "C" fn lugcurrant_move_at(
+    handle: &mut Handle,
+    alloc: Global,
+    client: u32,
+    counter: u32,
+    parent_client: u32,
+    parent_counter: u32,
+    position: &[u8],
+) -> u32
+    ensures { OnHeld (MoveAtAnswer (object client counter) (object parent_client parent_counter) position.now result) (result ≡ no_client) handle.old.kept.session handle.new.kept.session }
+{
+    let Some(mut session) = handle.take(alloc) else {
+        return NO_CLIENT;
+    };
+    let id = ObjId { client, counter };
+    let parent = ObjId {
+        client: parent_client,
+        counter: parent_counter,
+    };
+    let answer = session.move_at(alloc, id, parent, position);
+    handle.put(session);
+    answer
+}
+
+/// Moves the object under the parent, behind all its other children.
+#[unsafe(no_mangle)]
+pub extern "C" fn lugcurrant_move_last(
+    handle: &mut Handle,
+    alloc: Global,
+    client: u32,
+    counter: u32,
+    parent_client: u32,
+    parent_counter: u32,
+) -> u32
+    ensures { OnHeld (MoveThereAnswer LiesLast (object client counter) (object parent_client parent_counter) result) (result ≡ no_client) handle.old.kept.session handle.new.kept.session }
+{
+    let Some(mut session) = handle.take(alloc) else {
+        return NO_CLIENT;
+    };
+    let id = ObjId { client, counter };
+    let parent = ObjId {
+        client: parent_client,
+        counter: parent_counter,
+    };
+    let answer = session.move_last(id, parent);
+    handle.put(session);
+    answer
+}
+
+/// Moves the object under the parent, before all its other children.
+#[unsafe(no_mangle)]
+pub extern "C" fn lugcurrant_move_first(
+    handle: &mut Handle,
+    alloc: Global,
+    client: u32,
+    counter: u32,
+    parent_client: u32,
+    parent_counter: u32,
+) -> u32
+    ensures { OnHeld (MoveThereAnswer LiesFirst (object client counter) (object parent_client parent_counter) result) (result ≡ no_client) handle.old.kept.session handle.new.kept.session }
+{
+    let Some(mut session) = handle.take(alloc) else {
+        return NO_CLIENT;
+    };
+    let id = ObjId { client, counter };
+    let parent = ObjId {
+        client: parent_client,
+        counter: parent_counter,
+    };
+    let answer = session.move_first(id, parent);
+    handle.put(session);
+    answer
+}
+
 /// Removes the object; what lies below it is shown no more.
 #[unsafe(no_mangle)]
 pub extern "C" fn lugcurrant_delete(
@@ -293,6 +499,76 @@ pub extern "C" fn lugcurrant_tree(handle: &mut Handle, alloc: Global) -> u32
         return NO_CLIENT;
     };
     let answer = session.tree(alloc);
+    handle.put(session);
+    answer
+}
+
+/// Leaves the row of an object of the view.
+#[unsafe(no_mangle)]
+pub extern "C" fn lugcurrant_object(
+    handle: &mut Handle,
+    alloc: Global,
+    client: u32,
+    counter: u32,
+) -> u32
+    ensures { OnHeld (ObjectAnswer (object client counter) result) (result ≡ no_client) handle.old.kept.session handle.new.kept.session }
+{
+    let Some(mut session) = handle.take(alloc) else {
+        return NO_CLIENT;
+    };
+    let id = ObjId { client, counter };
+    let answer = session.object(alloc, id);
+    handle.put(session);
+    answer
+}
+
+/// Leaves the ids of an object's children in the view, in order.
+#[unsafe(no_mangle)]
+pub extern "C" fn lugcurrant_children(
+    handle: &mut Handle,
+    alloc: Global,
+    client: u32,
+    counter: u32,
+) -> u32
+    ensures { OnHeld (ChildrenAnswer (object client counter) result) (result ≡ no_client) handle.old.kept.session handle.new.kept.session }
+{
+    let Some(mut session) = handle.take(alloc) else {
+        return NO_CLIENT;
+    };
+    let id = ObjId { client, counter };
+    let answer = session.children(alloc, id);
+    handle.put(session);
+    answer
+}
+
+/// Whether the object is in the tree that the client shows.
+#[unsafe(no_mangle)]
+pub extern "C" fn lugcurrant_in_tree(
+    handle: &mut Handle,
+    alloc: Global,
+    client: u32,
+    counter: u32,
+) -> u32
+    ensures { OnHeld (InTreeAnswer (object client counter) result) (result ≡ no_client) handle.old.kept.session handle.new.kept.session }
+{
+    let Some(session) = handle.take(alloc) else {
+        return NO_CLIENT;
+    };
+    let id = ObjId { client, counter };
+    let answer = session.in_tree(id);
+    handle.put(session);
+    answer
+}
+
+/// Leaves the text of the client, of which `lugcurrant_load` makes it again.
+#[unsafe(no_mangle)]
+pub extern "C" fn lugcurrant_save(handle: &mut Handle, alloc: Global) -> u32
+    ensures { OnHeld (SaveAnswer result) (result ≡ no_client) handle.old.kept.session handle.new.kept.session }
+{
+    let Some(mut session) = handle.take(alloc) else {
+        return NO_CLIENT;
+    };
+    let answer = session.save(alloc);
     handle.put(session);
     answer
 }

@@ -1,14 +1,22 @@
 // The numbers that calls answer.
 ghost use Rattle.std.specs.Prelude.{◌≡◌};
-ghost use Rattle.canvas_c.specs.Numbers.{clear_number, create_number, edit_number, heard_number, name_number, received_number, set_number, value_number, wire_number};
+ghost use Rattle.canvas_client.specs.Ends.{end_error_number};
+ghost use Rattle.canvas_c.specs.Numbers.{clear_number, create_at_number, create_end_number, create_number, edit_number, heard_number, load_number, move_at_number, name_number, place_number, position_number, received_number, set_number, value_number, wire_number};
 
-use canvas_client::{EditError, Received};
-use canvas_embed::{ClearError, CreateError, Heard, SetError, ValueError};
+use canvas_client::{EditError, EndError, PlaceError, Received};
+use canvas_embed::{
+    ClearError, CreateAtError, CreateEndError, CreateError, Heard, LoadError, MoveAtError,
+    SetError, ValueError,
+};
+use canvas_pos::PosError;
 use canvas_value::NameError;
 use canvas_wire::WireError;
 
 // The call has done what it is for.
 pub(crate) const DONE: u32 = 0;
+
+// The object isn't in the tree.
+pub(crate) const NOT_SHOWN: u32 = 2;
 
 // Memory was refused.
 pub(crate) const MEMORY: u32 = 10;
@@ -30,6 +38,33 @@ pub(crate) fn edit_number(error: EditError) -> u32
     ensures { result ≡ edit_number error }
 {
     error.number() as u32
+}
+
+// Why the client refuses an edit at a place.
+fn place_number(error: PlaceError) -> u32
+    ensures { result ≡ place_number error }
+{
+    error.number() as u32
+}
+
+// Why the client makes no edit at an end.
+pub(crate) fn end_number(error: EndError) -> u32
+    ensures { result ≡ end_error_number error }
+{
+    error.number() as u32
+}
+
+// Why bytes are no position.
+fn position_number(error: PosError) -> u32
+    ensures { result ≡ position_number error }
+{
+    match error {
+        PosError::Empty => 33,
+        PosError::TooLong => 34,
+        PosError::BadByte(_) => 35,
+        PosError::TrailingZero => 36,
+        PosError::Memory => MEMORY,
+    }
 }
 
 // Why bytes are no name.
@@ -80,6 +115,37 @@ pub(crate) fn create_number(error: CreateError) -> u32
     }
 }
 
+// Why nothing is created at a place.
+pub(crate) fn create_at_number(error: CreateAtError) -> u32
+    ensures { result ≡ create_at_number error }
+{
+    match error {
+        CreateAtError::NoKind => 24,
+        CreateAtError::Position(error) => position_number(error),
+        CreateAtError::Edit(error) => place_number(error),
+    }
+}
+
+// Why nothing is moved to a place.
+pub(crate) fn move_at_number(error: MoveAtError) -> u32
+    ensures { result ≡ move_at_number error }
+{
+    match error {
+        MoveAtError::Position(error) => position_number(error),
+        MoveAtError::Edit(error) => place_number(error),
+    }
+}
+
+// Why nothing is created at an end.
+pub(crate) fn create_end_number(error: CreateEndError) -> u32
+    ensures { result ≡ create_end_number error }
+{
+    match error {
+        CreateEndError::NoKind => 24,
+        CreateEndError::Edit(error) => end_number(error),
+    }
+}
+
 // Why no property is set.
 pub(crate) fn set_number(error: SetError) -> u32
     ensures { result ≡ set_number error }
@@ -98,6 +164,20 @@ pub(crate) fn clear_number(error: ClearError) -> u32
     match error {
         ClearError::Name(error) => name_number(error),
         ClearError::Edit(error) => edit_number(error),
+    }
+}
+
+// Why bytes are no client.
+pub(crate) fn load_number(error: LoadError) -> u32
+    ensures { result ≡ load_number error }
+{
+    match error {
+        LoadError::NotJson => 40,
+        LoadError::NotAClient => 45,
+        LoadError::OutOfRange => 43,
+        LoadError::TooDeep => 44,
+        LoadError::Inconsistent => 46,
+        LoadError::Memory => MEMORY,
     }
 }
 
