@@ -55,7 +55,8 @@ enum {
     LUGCURRANT_DONE = 0,
 
     /* Why an edit is refused: the first that holds, in the order NOT_OPEN, IS_ROOT, NOT_SHOWN, PARENT_NOT_SHOWN, BAD_PARENT,
-     * OWN_DESCENDANT, TOO_DEEP, CROWDED, IDS_SPENT, FULL. */
+     * OWN_DESCENDANT, TOO_DEEP, CROWDED, IDS_SPENT, FULL; at a position that is named TAKEN stands in the place of CROWDED, and at an end
+     * CROWDED is looked for first, and TAKEN never comes. */
     LUGCURRANT_NOT_OPEN = 1,         /* the client has no id yet */
     LUGCURRANT_NOT_SHOWN = 2,        /* the object isn't in the tree, or the one to come after is no other child of that parent */
     LUGCURRANT_PARENT_NOT_SHOWN = 3, /* the parent isn't in the tree */
@@ -67,11 +68,12 @@ enum {
     LUGCURRANT_FULL = 9,             /* the client has made 2^62 edits */
     LUGCURRANT_MEMORY = 10,          /* memory was refused; any call can answer it, before every other reason */
     LUGCURRANT_TOO_DEEP = 11,        /* the object would stand deeper than 100 */
+    LUGCURRANT_TAKEN = 12,           /* another child of the parent has the position */
 
     /* What the call needs isn't there. */
     LUGCURRANT_NO_CLIENT = 20, /* the handle holds no client */
     LUGCURRANT_HELD = 21,      /* the handle holds a client already */
-    LUGCURRANT_NONE = 22,      /* the client has no id to ask under, or so many edits don't wait */
+    LUGCURRANT_NONE = 22,      /* the client has no id to ask under, or so many edits don't wait, or the view hasn't the object */
     LUGCURRANT_NO_ROOM = 23,   /* the room is smaller than the bytes that were left */
     LUGCURRANT_NO_KIND = 24,   /* no kind has the number */
 
@@ -80,12 +82,20 @@ enum {
     LUGCURRANT_NAME_TOO_LONG = 31, /* there are more than 32 */
     LUGCURRANT_NAME_BAD_BYTE = 32, /* one isn't of a to z, 0 to 9 and _ */
 
-    /* Why bytes are the JSON of no value, or the text of no message: the first that holds. */
+    /* Why bytes are no position. */
+    LUGCURRANT_POSITION_EMPTY = 33,         /* there are none */
+    LUGCURRANT_POSITION_TOO_LONG = 34,      /* there are more than 128 */
+    LUGCURRANT_POSITION_BAD_BYTE = 35,      /* one isn't from space to ~ */
+    LUGCURRANT_POSITION_TRAILING_ZERO = 36, /* the last one is a space */
+
+    /* Why bytes are the JSON of no value, or the text of no message or client: the first that holds. */
     LUGCURRANT_NOT_JSON = 40,      /* no JSON, no UTF-8, or nested more than 127 deep */
     LUGCURRANT_NOT_A_VALUE = 41,   /* the JSON is no value's */
     LUGCURRANT_NOT_A_MESSAGE = 42, /* the JSON is no message's */
     LUGCURRANT_OUT_OF_RANGE = 43,  /* a number is out of its range */
     LUGCURRANT_VALUE_TOO_DEEP = 44, /* a value has lists more than 16 deep */
+    LUGCURRANT_NOT_A_CLIENT = 45,   /* the JSON is no saved client's; it comes before OUT_OF_RANGE */
+    LUGCURRANT_INCONSISTENT = 46,   /* all fits, and no client waits with these edits */
 
     /* What the client did with a message. Where it isn't TOOK it has changed nothing. */
     LUGCURRANT_TOOK = 50,       /* it took it */
@@ -100,6 +110,10 @@ enum {
 
 /* Makes a client without an id, which shows the root alone. DONE, HELD, MEMORY. */
 uint32_t lugcurrant_new(lugcurrant_client *client);
+
+/* Makes the client that lugcurrant_save has left as these bytes: the same id, view and waiting edits. Load them for the same document
+ * alone, and for one client at a time. DONE, HELD, NOT_JSON, NOT_A_CLIENT, OUT_OF_RANGE, VALUE_TOO_DEEP, INCONSISTENT, MEMORY. */
+uint32_t lugcurrant_load(lugcurrant_client *client, const uint8_t *bytes, size_t length);
 
 /* Ends it, with all that waits; the handle is zero again. DONE, NO_CLIENT. */
 uint32_t lugcurrant_free(lugcurrant_client *client);
@@ -120,10 +134,26 @@ uint64_t lugcurrant_waiting(lugcurrant_client *client);
  * OUT_OF_RANGE, VALUE_TOO_DEEP; MEMORY, NO_CLIENT. */
 uint32_t lugcurrant_receive(lugcurrant_client *client, const uint8_t *bytes, size_t length);
 
+/* The same, and where it isn't an error it leaves which objects of the view may have changed: the JSON of their ids, [[1,2],..], each of
+ * which may be new or gone; or null, and any may have changed. */
+uint32_t lugcurrant_receive_and_tell(lugcurrant_client *client, const uint8_t *bytes, size_t length);
+
 /* Creates an object of this kind under the parent, behind its child `after`, or as the first where `after` is 0:0. `made` is its id then,
  * and is as it was after each error. DONE, NO_KIND, the refusals of an edit, NO_CLIENT. */
 uint32_t lugcurrant_create(lugcurrant_client *client, uint32_t kind, uint32_t parent_client, uint32_t parent_counter,
                            uint32_t after_client, uint32_t after_counter, lugcurrant_object_id *made);
+
+/* The same at the position of these bytes (docs/model.md), which no other child of the parent may have. DONE, NO_KIND, POSITION_*, the
+ * refusals of an edit, NO_CLIENT. */
+uint32_t lugcurrant_create_at(lugcurrant_client *client, uint32_t kind, uint32_t parent_client, uint32_t parent_counter,
+                              const uint8_t *position, size_t length, lugcurrant_object_id *made);
+
+/* The same behind all children of the parent, or before them: 41 million fit one behind the other, where lugcurrant_create fills up after
+ * some 800. DONE, NO_KIND, the refusals of an edit, NO_CLIENT. */
+uint32_t lugcurrant_create_last(lugcurrant_client *client, uint32_t kind, uint32_t parent_client, uint32_t parent_counter,
+                                lugcurrant_object_id *made);
+uint32_t lugcurrant_create_first(lugcurrant_client *client, uint32_t kind, uint32_t parent_client, uint32_t parent_counter,
+                                 lugcurrant_object_id *made);
 
 /* Gives a property of the object the value of which `json` is the JSON. DONE, NAME_*, NOT_JSON, NOT_A_VALUE, OUT_OF_RANGE,
  * VALUE_TOO_DEEP, the refusals of an edit, NO_CLIENT. */
@@ -138,6 +168,15 @@ uint32_t lugcurrant_clear(lugcurrant_client *client, uint32_t object_client, uin
  * NO_CLIENT. */
 uint32_t lugcurrant_move(lugcurrant_client *client, uint32_t object_client, uint32_t object_counter, uint32_t parent_client,
                          uint32_t parent_counter, uint32_t after_client, uint32_t after_counter);
+
+/* The same to the position of these bytes, or behind or before all other children of the parent. DONE, POSITION_* of the first, the
+ * refusals of an edit, NO_CLIENT. */
+uint32_t lugcurrant_move_at(lugcurrant_client *client, uint32_t object_client, uint32_t object_counter, uint32_t parent_client,
+                            uint32_t parent_counter, const uint8_t *position, size_t length);
+uint32_t lugcurrant_move_last(lugcurrant_client *client, uint32_t object_client, uint32_t object_counter, uint32_t parent_client,
+                              uint32_t parent_counter);
+uint32_t lugcurrant_move_first(lugcurrant_client *client, uint32_t object_client, uint32_t object_counter, uint32_t parent_client,
+                               uint32_t parent_counter);
 
 /* Removes the object; what lies below it is shown no more. DONE, the refusals of an edit, NO_CLIENT. */
 uint32_t lugcurrant_delete(lugcurrant_client *client, uint32_t object_client, uint32_t object_counter);
@@ -154,6 +193,20 @@ uint32_t lugcurrant_edit(lugcurrant_client *client, uint64_t i);
 /* Leaves the text of the tree that the client shows: a line for each object, its id, its kind and its position, and a line
  * `.NAME JSON` for each of its properties, two blanks deeper at each level. DONE, MEMORY, NO_CLIENT. */
 uint32_t lugcurrant_tree(lugcurrant_client *client);
+
+/* Leaves the object of the view, in the tree or not, as JSON: [[CLIENT,COUNTER],KIND,PLACE,PROPERTIES], a row of docs/wire.md. DONE,
+ * NONE, MEMORY, NO_CLIENT. */
+uint32_t lugcurrant_object(lugcurrant_client *client, uint32_t object_client, uint32_t object_counter);
+
+/* Leaves the ids of the objects of the view whose place names this one, in order: [[1,2],..]. DONE, MEMORY, NO_CLIENT. */
+uint32_t lugcurrant_children(lugcurrant_client *client, uint32_t object_client, uint32_t object_counter);
+
+/* Whether the object is in the tree that the client shows. DONE, NOT_SHOWN, NO_CLIENT. */
+uint32_t lugcurrant_in_tree(lugcurrant_client *client, uint32_t object_client, uint32_t object_counter);
+
+/* Leaves the client as JSON, of which lugcurrant_load makes it again: what the program keeps while it doesn't run. Save before an edit is
+ * sent: of two edits with one number the server takes the second for a repeat. DONE, MEMORY, NO_CLIENT. */
+uint32_t lugcurrant_save(lugcurrant_client *client);
 
 /* How many bytes were left by the last call that leaves some and answered DONE; 0 where there was none. */
 size_t lugcurrant_length(lugcurrant_client *client);

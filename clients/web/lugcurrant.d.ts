@@ -20,8 +20,9 @@ export class Colour {
 export class ClientError extends Error {
   readonly code:
     | 'NotOpen' | 'NotShown' | 'ParentNotShown' | 'BadParent' | 'OwnDescendant' | 'Crowded' | 'IsRoot' | 'IdsSpent' | 'Full' | 'Memory' | 'TooDeep'
-    | 'NoClient' | 'NoRoom' | 'NoKind' | 'NameEmpty' | 'NameTooLong' | 'NameBadByte'
-    | 'NotJson' | 'NotAValue' | 'NotAMessage' | 'OutOfRange' | 'ValueTooDeep' | 'Unknown';
+    | 'Taken' | 'NoClient' | 'NoRoom' | 'NoKind' | 'NameEmpty' | 'NameTooLong' | 'NameBadByte'
+    | 'PositionEmpty' | 'PositionTooLong' | 'PositionBadByte' | 'PositionTrailingZero'
+    | 'NotJson' | 'NotAValue' | 'NotAMessage' | 'OutOfRange' | 'ValueTooDeep' | 'NotAClient' | 'Inconsistent' | 'Unknown';
   readonly number: number;
 }
 
@@ -34,8 +35,6 @@ export interface CanvasObject {
   readonly properties: Readonly<Record<string, Value>>;
   /** In their order. */
   readonly children: readonly ObjectId[];
-  /** What is compared to tell whether the object has changed. */
-  readonly text: string;
 }
 
 export type Heard = { what: 'took' | 'old' | 'ahead' | 'not for me' | 'idle' } | { what: 'no'; reason: number };
@@ -47,9 +46,12 @@ export function readValue(json: string): Value;
 
 /** A client: what it shows, and its edits that wait. Each call either does what it says or throws a ClientError and changes nothing. */
 export class Client {
-  static load(source: ModuleSource): Promise<Client>;
-  constructor(exports: WebAssembly.Exports);
+  /** A client without an id, or the one that was saved as these bytes. */
+  static load(source: ModuleSource, saved?: Uint8Array | string | null): Promise<Client>;
+  constructor(exports: WebAssembly.Exports, saved?: Uint8Array | string | null);
   free(): void;
+  /** The client as bytes: to be kept before an edit is sent, and loaded for the same document alone. */
+  save(): Uint8Array;
   readonly id: number | null;
   readonly version: Whole;
   readonly acknowledged: Whole;
@@ -58,16 +60,25 @@ export class Client {
   readonly memoryInUse: number;
   receive(message: Uint8Array | string): Heard;
   create(kind: Kind, parent: ObjectId, after?: ObjectId | null): ObjectId;
+  /** Behind all children of the parent, or before them: there is room for 41 million. */
+  createLast(kind: Kind, parent: ObjectId): ObjectId;
+  createFirst(kind: Kind, parent: ObjectId): ObjectId;
+  /** At a position that no other child of the parent has. */
+  createAt(kind: Kind, parent: ObjectId, position: string): ObjectId;
   set(id: ObjectId, name: string, value: Value): void;
   setJson(id: ObjectId, name: string | Uint8Array, json: string | Uint8Array): void;
   clear(id: ObjectId, name: string): void;
   move(id: ObjectId, parent: ObjectId, after?: ObjectId | null): void;
+  moveLast(id: ObjectId, parent: ObjectId): void;
+  moveFirst(id: ObjectId, parent: ObjectId): void;
+  moveAt(id: ObjectId, parent: ObjectId, position: string): void;
   delete(id: ObjectId): void;
   joinMessage(): Uint8Array;
   askMessage(): Uint8Array | null;
   editMessage(i: Whole): Uint8Array | null;
   messages(): Generator<Uint8Array>;
   text(): string;
+  isInTree(id: ObjectId): boolean;
   objects(): ReadonlyMap<ObjectId, CanvasObject>;
   object(id: ObjectId): CanvasObject | null;
   children(id: ObjectId): readonly ObjectId[];
@@ -84,6 +95,8 @@ export interface Told {
   state?(link: Link): void;
   changed?(): void;
   refused?(refusal: Refusal): void;
+  /** Before an edit is sent, which waits for it: a program that keeps its client does so here. */
+  sends?(): Promise<void> | void;
 }
 
 export interface LinkOptions {

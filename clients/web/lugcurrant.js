@@ -6,7 +6,7 @@
 export const ROOT = '0:0';
 export const KINDS = Object.freeze({ page: 1, frame: 2, shape: 3, text: 4 });
 
-const DONE = 0, MEMORY = 10, NONE = 22;
+const DONE = 0, NOT_SHOWN = 2, MEMORY = 10, NONE = 22;
 const HANDLE_BYTES = 16, ID_BYTES = 8, FIRST_ROOM = 1024;
 
 // What a call answers that isn't done: a name, and what it means.
@@ -22,17 +22,24 @@ const FAULTS = new Map([
   [9, ['Full', 'this client can make no more edits']],
   [MEMORY, ['Memory', 'there is no memory left']],
   [11, ['TooDeep', 'objects stand at most 100 deep']],
+  [12, ['Taken', 'another object has this position']],
   [20, ['NoClient', 'this client was freed']],
   [23, ['NoRoom', 'the room is smaller than the bytes']],
   [24, ['NoKind', 'an object is a page, a frame, a shape or a text']],
   [30, ['NameEmpty', 'the name of a property is empty']],
   [31, ['NameTooLong', 'the name of a property has more than 32 bytes']],
   [32, ['NameBadByte', 'the name of a property is of a to z, 0 to 9 and _']],
+  [33, ['PositionEmpty', 'a position is empty']],
+  [34, ['PositionTooLong', 'a position has more than 128 bytes']],
+  [35, ['PositionBadByte', 'a position is of the bytes from space to ~']],
+  [36, ['PositionTrailingZero', 'a position does not end in a space']],
   [40, ['NotJson', 'this is no JSON']],
   [41, ['NotAValue', 'this is no value of a property']],
   [42, ['NotAMessage', 'this is no message']],
   [43, ['OutOfRange', 'a number is out of its range']],
   [44, ['ValueTooDeep', 'lists stand at most 16 deep in one another']],
+  [45, ['NotAClient', 'this is no saved client']],
+  [46, ['Inconsistent', 'no client waits with these edits']],
 ]);
 const HEARD = new Map([[50, 'took'], [51, 'old'], [52, 'ahead'], [53, 'not for me'], [54, 'idle']]);
 const NO = 60;
@@ -108,11 +115,12 @@ export function valueText(value) {
 }
 
 // The value of which this is the JSON. Numbers that don't fit are set in marked lists first, as JSON.parse would round them.
-export function readValue(text) {
-  const kept = /\d{16}/.test(text)
+export const readValue = (text) => valueOf(readJson(text));
+
+function readJson(text) {
+  return JSON.parse(/\d{16}/.test(text)
     ? text.replace(/"(?:[^"\\]|\\.)*"|-?\d+/g, (part) => part[0] === '"' || Number.isSafeInteger(Number(part)) ? part : `["big","${part}"]`)
-    : text;
-  return valueOf(JSON.parse(kept));
+    : text);
 }
 
 function valueOf(json) {
@@ -122,7 +130,8 @@ function valueOf(json) {
   return json.slice(1).map(valueOf);
 }
 
-// An id's two numbers.
+// The id of two numbers, and an id's two numbers.
+const idOf = ([client, counter]) => `${client}:${counter}`;
 function numbersOf(id) {
   const parts = /^(\d{1,10}):(\d{1,10})$/.exec(id);
   if (!parts || Number(parts[1]) > 0xffffffff || Number(parts[2]) > 0xffffffff) throw new TypeError(`an id is written client:counter, and ${id} is none`);
@@ -142,27 +151,30 @@ export async function compile(source) {
 }
 
 export class Client {
-  #calls; #handle; #made; #buffer; #room;
-  #objects = null;                  // the tree of the client as it is now, once it was read
-  #told = new Map();                // that of the last `changed`
+  #calls; #handle; #made; #buffer; #room; #shown;
 
-  // A client without an id, of the module's bytes, of the answer to a request for it, or of the compiled module.
-  static async load(source) {
-    return new Client((await WebAssembly.instantiate(await compile(source), {})).exports);
+  // A client of the module's bytes, of the answer to a request for it, or of the compiled module: one without an id, or the one that was
+  // saved as these bytes.
+  static async load(source, saved = null) {
+    return new Client((await WebAssembly.instantiate(await compile(source), {})).exports, saved);
   }
 
-  constructor(exports) {
+  constructor(exports, saved = null) {
     this.#calls = exports;
     this.#handle = this.#take(HANDLE_BYTES);
     this.#made = this.#take(ID_BYTES);
     this.#buffer = this.#take(FIRST_ROOM);
     this.#room = FIRST_ROOM;
     this.#bytes(this.#handle, HANDLE_BYTES).fill(0);
-    this.#need(exports.lugcurrant_new(this.#handle));
+    this.#shown = new Shown({ object: (id) => this.#object(id), children: (id) => this.#children(id), isInTree: (id) => this.isInTree(id) });
+    this.#need(saved ? exports.lugcurrant_load(this.#handle, ...this.#write(bytesOf(saved))) : exports.lugcurrant_new(this.#handle));
   }
 
+  // The client as bytes, of which `load` makes it again: to be kept before an edit is sent, and loaded for the same document alone.
+  save() { return this.#left(this.#calls.lugcurrant_save(this.#handle)); }
+
   // Ends the client, with all that waits.
-  free() { this.#need(this.#calls.lugcurrant_free(this.#handle)); this.#objects = null; }
+  free() { this.#need(this.#calls.lugcurrant_free(this.#handle)); this.#shown.touchAll(); }
 
   // Its id, or null while it has none; the version that it has reached; its last edit of which it has the entry; how many wait.
   get id() { return this.#calls.lugcurrant_id(this.#handle) >>> 0 || null; }
@@ -176,20 +188,40 @@ export class Client {
   // Receives a message, and tells what came of it: { what: 'took' | 'old' | 'ahead' | 'not for me' | 'idle' }, or { what: 'no', reason }.
   receive(message) {
     const [at, length] = this.#write(bytesOf(message));
-    const answer = this.#calls.lugcurrant_receive(this.#handle, at, length) >>> 0;
+    const answer = this.#calls.lugcurrant_receive_and_tell(this.#handle, at, length) >>> 0;
     if (answer > NO && answer < NO + 10) return { what: 'no', reason: answer - NO };
     const what = HEARD.get(answer);
     if (!what) throw new ClientError(answer);
-    if (what === 'took') this.#objects = null;
+    if (what === 'took') this.#touchTold();
     return { what };
+  }
+
+  // Notes the objects that the module has told to be changed, or any, where it says so or there is no memory to be told.
+  #touchTold() {
+    let ids = null;
+    try { ids = JSON.parse(fromUtf8.decode(this.#left(DONE))); } catch (fault) { if (!(fault instanceof ClientError)) throw fault; }
+    if (ids) for (const id of ids) this.#shown.touch(idOf(id)); else this.#shown.touchAll();
   }
 
   // Creates an object in the parent, behind its child `after` or as the first, and answers its id.
   create(kind, parent, after = null) {
-    const [client, counter] = numbersOf(parent), [afterClient, afterCounter] = numbersOf(after ?? ROOT);
-    this.#edited(this.#calls.lugcurrant_create(this.#handle, KINDS[kind] ?? 0, client, counter, afterClient, afterCounter, this.#made));
-    const made = new DataView(this.#calls.memory.buffer, Number(this.#made), ID_BYTES);
-    return `${made.getUint32(0, true)}:${made.getUint32(4, true)}`;
+    return this.#created(this.#calls.lugcurrant_create(this.#handle, KINDS[kind] ?? 0, ...numbersOf(parent), ...numbersOf(after ?? ROOT), this.#made));
+  }
+
+  // The same behind all children of the parent, before them, or at a position that no other child has.
+  createLast(kind, parent) { return this.#created(this.#calls.lugcurrant_create_last(this.#handle, KINDS[kind] ?? 0, ...numbersOf(parent), this.#made)); }
+  createFirst(kind, parent) { return this.#created(this.#calls.lugcurrant_create_first(this.#handle, KINDS[kind] ?? 0, ...numbersOf(parent), this.#made)); }
+  createAt(kind, parent, position) {
+    const numbers = numbersOf(parent), [at, length] = this.#write(bytesOf(position));
+    return this.#created(this.#calls.lugcurrant_create_at(this.#handle, KINDS[kind] ?? 0, ...numbers, at, length, this.#made));
+  }
+
+  // The id of what was created.
+  #created(answer) {
+    this.#need(answer);
+    const made = new DataView(this.#calls.memory.buffer, Number(this.#made), ID_BYTES), id = idOf([made.getUint32(0, true), made.getUint32(4, true)]);
+    this.#shown.touch(id);
+    return id;
   }
 
   set(id, name, value) { this.setJson(id, name, valueText(value)); }
@@ -201,24 +233,28 @@ export class Client {
     both.set(first);
     both.set(second, first.length);
     const [at] = this.#write(both), begin = BigInt(first.length);
-    this.#edited(this.#calls.lugcurrant_set(this.#handle, client, counter, at, begin, at + begin, BigInt(second.length)));
+    this.#edited(id, this.#calls.lugcurrant_set(this.#handle, client, counter, at, begin, at + begin, BigInt(second.length)));
   }
 
   clear(id, name) {
     const [client, counter] = numbersOf(id), [at, length] = this.#write(bytesOf(name));
-    this.#edited(this.#calls.lugcurrant_clear(this.#handle, client, counter, at, length));
+    this.#edited(id, this.#calls.lugcurrant_clear(this.#handle, client, counter, at, length));
   }
 
   // Moves the object into the parent, behind its child `after` or as the first.
   move(id, parent, after = null) {
-    const [client, counter] = numbersOf(id), [intoClient, intoCounter] = numbersOf(parent), [afterClient, afterCounter] = numbersOf(after ?? ROOT);
-    this.#edited(this.#calls.lugcurrant_move(this.#handle, client, counter, intoClient, intoCounter, afterClient, afterCounter));
+    this.#edited(id, this.#calls.lugcurrant_move(this.#handle, ...numbersOf(id), ...numbersOf(parent), ...numbersOf(after ?? ROOT)));
   }
 
-  delete(id) {
-    const [client, counter] = numbersOf(id);
-    this.#edited(this.#calls.lugcurrant_delete(this.#handle, client, counter));
+  // The same behind all other children of the parent, before them, or to a position that no other child has.
+  moveLast(id, parent) { this.#edited(id, this.#calls.lugcurrant_move_last(this.#handle, ...numbersOf(id), ...numbersOf(parent))); }
+  moveFirst(id, parent) { this.#edited(id, this.#calls.lugcurrant_move_first(this.#handle, ...numbersOf(id), ...numbersOf(parent))); }
+  moveAt(id, parent, position) {
+    const numbers = [...numbersOf(id), ...numbersOf(parent)], [at, length] = this.#write(bytesOf(position));
+    this.#edited(id, this.#calls.lugcurrant_move_at(this.#handle, ...numbers, at, length));
   }
+
+  delete(id) { this.#edited(id, this.#calls.lugcurrant_delete(this.#handle, ...numbersOf(id))); }
 
   // What is sent: to get an id; to hear what is new, null while there is no id; the i-th edit that waits, null where so many don't.
   joinMessage() { return this.#left(this.#calls.lugcurrant_join(this.#handle)); }
@@ -233,23 +269,33 @@ export class Client {
   // The tree that the client shows as text, as `lugcurrant show` prints it.
   text() { return fromUtf8.decode(this.#left(this.#calls.lugcurrant_tree(this.#handle))); }
 
-  // The objects of the tree by their ids, each before its children. They are read out of the text once after each change.
-  objects() { return (this.#objects ??= readTree(this.text())); }
+  // Whether parents lead from the object to the document's root.
+  isInTree(id) {
+    const answer = this.#calls.lugcurrant_in_tree(this.#handle, ...numbersOf(id));
+    if (answer !== NOT_SHOWN) this.#need(answer);
+    return answer === DONE;
+  }
+
+  // The objects of the tree by their ids. What has changed is read when this is called, and no other object.
+  objects() { return this.#shown.update(); }
   object(id) { return this.objects().get(id) ?? null; }
   children(id) { return this.object(id)?.children ?? []; }
   tree() { return this.object(ROOT); }
 
   // What has become other in the tree since the last call: objects that are new or changed, each before its children, and ids that are gone.
-  changed() {
-    const now = this.objects(), before = this.#told;
-    const put = [...now.values()].filter((object) => before.get(object.id)?.text !== object.text);
-    const gone = [...before.keys()].filter((id) => !now.has(id));
-    this.#told = now;
-    return { put, gone };
+  changed() { return this.#shown.take(); }
+
+  // An object of the view, and the ids of the objects whose place names it, as the module tells them.
+  #object(id) {
+    const [, kind, place, properties] = readJson(fromUtf8.decode(this.#left(this.#calls.lugcurrant_object(this.#handle, ...numbersOf(id)))));
+    const object = { id, kind, parent: place ? idOf(place[0]) : null, position: place?.[1] ?? null, properties: Object.create(null), children: [] };
+    for (const [name, value] of properties) object.properties[name] = valueOf(value);
+    return object;
   }
+  #children(id) { return JSON.parse(fromUtf8.decode(this.#left(this.#calls.lugcurrant_children(this.#handle, ...numbersOf(id))))).map(idOf); }
 
   #need(answer) { if (answer !== DONE) throw new ClientError(answer >>> 0); }
-  #edited(answer) { this.#need(answer); this.#objects = null; }
+  #edited(id, answer) { this.#need(answer); this.#shown.touch(id); }
 
   // Room in the module's memory: addresses are BigInts, as the module's are of 64 bits.
   #take(bytes) {
@@ -288,31 +334,99 @@ export class Client {
   }
 }
 
-// The objects of a tree's text: a line `ID KIND POSITION` for each, two blanks deeper than its parent's, and lines `.NAME JSON`.
-function readTree(text) {
-  const objects = new Map(), path = [];
-  for (const line of text.split('\n')) {
-    if (!line) continue;
-    const depth = line.search(/[^ ]/) / 2, rest = line.slice(2 * depth);
-    const blank = rest.indexOf(' ');
-    if (rest[0] === '.') {
-      const object = path[depth - 1];
-      object.properties[rest.slice(1, blank)] = readValue(rest.slice(blank + 1));
-      object.text += `\n${rest}`;
-      continue;
-    }
-    const next = rest.indexOf(' ', blank + 1), parent = depth ? path[depth - 1] : null;
-    const object = {
-      id: rest.slice(0, blank), kind: rest.slice(blank + 1, next < 0 ? undefined : next), parent: parent?.id ?? null,
-      position: next < 0 ? null : rest.slice(next + 1), properties: Object.create(null), children: [], text: '',
-    };
-    object.text = `${object.parent} ${rest}`;
-    parent?.children.push(object.id);
-    path[depth] = object;
-    objects.set(object.id, object);
+// The objects of the tree of a client, as they were when they were read last. An object is never altered: what changes is another one.
+class Shown {
+  #read; #objects = new Map(); #isAll = true;
+  #touched = new Set();             // what may have changed since
+  #stale = new Set();               // the objects of which the children are to be read
+  #before = new Map();              // what has changed since the last `take`, as it was then, or null
+
+  constructor(read) { this.#read = read; }
+
+  touch(id) { if (!this.#isAll) this.#touched.add(id); }
+  touchAll() { this.#isAll = true; this.#touched.clear(); }
+
+  update() {
+    if (this.#isAll) this.#readAll();
+    for (const id of this.#touched) { this.#refresh(id); this.#touched.delete(id); }
+    for (const id of this.#stale) { this.#list(id); this.#stale.delete(id); }
+    return this.#objects;
   }
-  for (const object of objects.values()) object.text += `\n${object.children.join(' ')}`;
-  return objects;
+
+  take() {
+    this.update();
+    const put = [], gone = [];
+    for (const [id, before] of this.#before) {
+      const now = this.#objects.get(id);
+      if (now && !(before && isSame(before, now))) put.push(now);
+      if (!now && before) gone.push(id);
+    }
+    this.#before.clear();
+    return { put: this.#inOrder(put), gone };
+  }
+
+  #readAll() {
+    for (const id of this.#objects.keys()) this.#keep(id);
+    this.#objects = new Map();
+    this.#load(ROOT);
+    this.#isAll = false;
+  }
+
+  // Notes how the object was, before it changes.
+  #keep(id) { if (!this.#before.has(id)) this.#before.set(id, this.#objects.get(id) ?? null); }
+
+  // An object that may have come into the tree, changed in it, or gone from it with what is below it.
+  #refresh(id) {
+    if (this.#read.isInTree(id)) this.#load(id);
+    else if (this.#objects.has(id)) this.#remove(id);
+  }
+
+  // Reads an object of the tree. Where its place is another, so are the children of its parents, before and now.
+  #load(id) {
+    const was = this.#objects.get(id), now = this.#read.object(id);
+    this.#keep(id);
+    this.#objects.set(id, { ...now, children: was?.children ?? [] });
+    if (!was) this.#stale.add(id);
+    if (was && was.parent === now.parent && was.position === now.position) return;
+    for (const parent of [was?.parent, now.parent]) if (parent) this.#stale.add(parent);
+  }
+
+  // Reads the children of an object, and of these the ones that weren't known to be its children.
+  #list(id) {
+    if (!this.#objects.has(id)) return;
+    const children = this.#read.children(id);
+    for (const child of children) if (this.#objects.get(child)?.parent !== id) this.#load(child);
+    this.#keep(id);
+    this.#objects.set(id, { ...this.#objects.get(id), children });
+  }
+
+  // Forgets an object, and what stood below it and isn't known to stand elsewhere by now.
+  #remove(id) {
+    this.#stale.add(this.#objects.get(id).parent);
+    const pending = [id];
+    for (let next; (next = pending.pop());) {
+      this.#keep(next);
+      for (const child of this.#objects.get(next).children) if (this.#objects.get(child)?.parent === next) pending.push(child);
+      this.#objects.delete(next);
+    }
+  }
+
+  // These objects, each before its children.
+  #inOrder(objects) {
+    const depths = new Map([[null, 0]]);
+    for (const { id } of objects) {
+      const above = [];
+      for (let at = id; !depths.has(at); at = this.#objects.get(at).parent) above.push(at);
+      while (above.length) { const at = above.pop(); depths.set(at, depths.get(this.#objects.get(at).parent) + 1); }
+    }
+    return objects.sort((a, b) => depths.get(a.id) - depths.get(b.id));
+  }
+}
+
+function isSame(a, b) {
+  const words = ({ kind, parent, position, properties, children }) =>
+    JSON.stringify([kind, parent, position, Object.entries(properties).map(([name, value]) => [name, valueText(value)]), children]);
+  return words(a) === words(b);
 }
 
 const sleeper = (milliseconds) => {
@@ -325,7 +439,8 @@ const sleeper = (milliseconds) => {
 // A client's way to a server: it joins, sends what waits, asks for what is new, and connects again where the connection is lost.
 //
 // `url` is the server's, as ws://127.0.0.1:7411/. `told` has functions, each of which may be left out: `state(link)` when the state is
-// another, `changed()` when the client took something, `refused(refusal)` when the server refused an edit of the client's.
+// another, `changed()` when the client took something, `refused(refusal)` when the server refused an edit of the client's, and `sends()`
+// before an edit is sent, which waits for what that answers: so a program can keep the client first.
 export class Link {
   #told; #socket = null; #inbox = []; #waiter = null; #sleep = null; #ended = false; #isOffline = false; #asksDocument; #isTold = false; #Socket; #pauses;
 
@@ -478,6 +593,7 @@ export class Link {
         const known = BigInt(client.acknowledged);
         if (sent === null || sent < known) sent = known;
         const message = client.editMessage(sent - known + 1n);
+        if (message) await this.#told.sends?.();
         const round = await this.#round(message ?? client.askMessage());
         if (round.took) this.#told.changed?.();
         if (round.end === 'no') {

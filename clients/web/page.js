@@ -10,7 +10,8 @@ const NAMES = { frame: 'Frame', rect: 'Rectangle', ellipse: 'Ellipse', text: 'Te
 const MOVED = 3;                                       // pixels from which on a press is a drag
 const at = (id) => document.getElementById(id);
 
-const worker = new Worker('worker.js', { type: 'module' });
+// The number of the window, under which its client is kept: it stays where the page is loaded anew.
+const worker = new Worker('worker.js', { type: 'module', name: sessionStorage.getItem('window') ?? '' });
 const objects = new Map();                             // as the worker has told them, by their ids
 const drawn = new Map();                               // the elements of each
 const waiters = new Map();                             // what is done with an answer of the worker
@@ -55,7 +56,6 @@ const inkOn = (fill) => {
   return 0.299 * r + 0.587 * g + 0.114 * b > 140 ? '#2c2a30' : '#ffffff';
 };
 const labelOf = (object) => textOf(object.properties.name) || textOf(object.properties.text) || NAMES[object.properties.form] || NAMES[object.kind];
-const lastOf = (id) => objects.get(id)?.children.at(-1) ?? null;
 const isIn = (id, above) => { for (let k = id; k; k = objects.get(k)?.parent) if (k === above) return true; return false; };
 
 // Where the object's own point 0, 0 is on the board.
@@ -157,6 +157,13 @@ function row(object, depth, isChosen) {
   return li;
 }
 
+// Puts rows into a list. One that is the same stays the same element: else a click would be lost where somebody edits between press and release.
+function fill(list, rows) {
+  const before = [...list.children];
+  if (rows.length !== before.length || rows.some((li, k) => li.dataset.id !== before[k].dataset.id)) return list.replaceChildren(...rows);
+  rows.forEach((li, k) => { if (li.outerHTML !== before[k].outerHTML) before[k].replaceWith(li); });
+}
+
 // The frontmost object is the first of the list, as what is in front hides what is behind.
 function drawLists() {
   const rows = [], walk = (id, depth) => {
@@ -168,9 +175,9 @@ function drawLists() {
     }
   };
   if (page) walk(page, 0);
-  at('list').replaceChildren(...rows);
+  fill(at('list'), rows);
   const pages = (objects.get(ROOT)?.children ?? []).map((id) => objects.get(id)).filter(Boolean);
-  at('pages').replaceChildren(...pages.map((object) => row(object, 0, object.id === page)));
+  fill(at('pages'), pages.map((object) => row(object, 0, object.id === page)));
   at('hint').hidden = rows.length > 0;
 }
 
@@ -247,8 +254,8 @@ function fillHolders(object) {
 
 // Moves an object into another one, in front there, and leaves it where it is on the board.
 function putInto(id, holder, origin = originOf(id)) {
-  const [x, y] = originOf(holder), after = lastOf(holder);
-  send(['move', id, holder, after === id ? null : after], ['set', id, 'at', [Math.round(origin[0] - x), Math.round(origin[1] - y)]]);
+  const [x, y] = originOf(holder);
+  send(['moveLast', id, holder], ['set', id, 'at', [Math.round(origin[0] - x), Math.round(origin[1] - y)]]);
 }
 
 // One to the front or to the back among its siblings.
@@ -257,7 +264,9 @@ function reorder(by) {
   if (!siblings) return;
   const rest = siblings.filter((id) => id !== chosen), to = siblings.indexOf(chosen) + by;
   if (to < 0 || to > rest.length) return say(by > 0 ? 'It is in front already.' : 'It is at the back already.');
-  send(['move', chosen, object.parent, to ? rest[to - 1] : null]);
+  if (to === rest.length) send(['moveLast', chosen, object.parent]);
+  else if (!to) send(['moveFirst', chosen, object.parent]);
+  else send(['move', chosen, object.parent, rest[to - 1]]);
 }
 
 function choose(id) {
@@ -345,8 +354,8 @@ async function create({ sketch, from }, point) {
   const kind = tool === 'rect' || tool === 'ellipse' ? 'shape' : tool;
   const holder = page ? holderAt(from) : '$', [left, top] = page ? originOf(holder) : [0, 0];
   const [x, y, w, h] = sketch && sketch.w > 6 && sketch.h > 6 ? [sketch.x, sketch.y, sketch.w, sketch.h] : [...point, ...SIZES[kind]];
-  const edits = page ? [] : [['create', 'page', ROOT, null], ['set', '$', 'name', 'Page 1']];
-  edits.push(['create', kind, holder, page ? lastOf(holder) : null]);
+  const edits = page ? [] : [['createLast', 'page', ROOT], ['set', '$', 'name', 'Page 1']];
+  edits.push(['createLast', kind, holder]);
   edits.push(['set', '$', 'at', [Math.round(x - left), Math.round(y - top)]], ['set', '$', 'size', [Math.round(w), Math.round(h)]]);
   if (kind === 'frame') edits.push(['set', '$', 'name', 'Frame']);
   if (kind === 'shape') edits.push(['set', '$', 'form', tool], ['set', '$', 'fill', colourOf(ink)]);
@@ -395,7 +404,7 @@ at('delete').onclick = deleteChosen;
 at('offline').onchange = () => worker.postMessage({ do: 'offline', value: at('offline').checked });
 at('newpage').onclick = async () => {
   const count = objects.get(ROOT)?.children.length ?? 0;
-  const made = await send(['create', 'page', ROOT, lastOf(ROOT)], ['set', '$', 'name', `Page ${count + 1}`]);
+  const made = await send(['createLast', 'page', ROOT], ['set', '$', 'name', `Page ${count + 1}`]);
   if (made) showPage(made);
 };
 
@@ -427,6 +436,7 @@ addEventListener('keydown', (event) => {
 worker.onmessage = ({ data }) => {
   if (data.told === 'tree') takeTree(data);
   else if (data.told === 'state') drawState(data);
+  else if (data.told === 'kept') { if (data.window !== null) sessionStorage.setItem('window', data.window); }
   else if (data.told === 'refused') say(`${data.by === 'the server' ? 'Taken back' : 'Not done'}: ${data.words}.`);
   else if (waiters.has(data.token)) { waiters.get(data.token)(data); waiters.delete(data.token); }
 };

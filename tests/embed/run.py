@@ -6,7 +6,11 @@ folder of its own:
 
 - numbers: calls without a client, with a mark that is none, with no bytes, with bytes that aren't UTF-8, with numbers that are nothing's:
   each answers its own number, and the client is as it was.
-- deep: a copy of a document of 5,000 levels, as no server may send it: a process with a stack of half a MiB takes it and reads its tree.
+- deep: a copy of a document of 5,000 levels, as no server may send it: a process with a stack of half a MiB takes it and reads its tree; and
+  of 20,000 levels, of which it reads objects, and which it edits, saves and loads.
+- places: 3,000 objects, one behind the other and one before the other; positions that are named.
+- shown: what is told to have changed, after random edits of two clients, is what differs in the tree.
+- kept: a client that is saved and loaded goes on as the same one, with what waits.
 - page: clients/c/page.c is compiled and run; what it prints is what `lugcurrant show` prints.
 - module: `python -m lugcurrant PORT` prints the tree.
 - together: RUNS (5) times 4 Python clients make EDITS (800) random edits, two of them away for a while, and the server is killed and started
@@ -28,13 +32,14 @@ import socket
 import subprocess
 import sys
 import tempfile
+import threading
 import time
 from pathlib import Path
 
 TOP = Path(__file__).resolve().parents[2]
 sys.path.insert(0, str(TOP / "clients" / "python"))
 
-from lugcurrant import ROOT, Client, Link, MessageError, Refused, State  # noqa: E402
+from lugcurrant import ROOT, Client, Link, MessageError, Refused, SaveError, State  # noqa: E402
 from lugcurrant.library import Handle, MadeId, library  # noqa: E402
 
 WORDS = [word for word in sys.argv[1:] if not word.startswith("--")]
@@ -94,9 +99,12 @@ def numbers():
         answers = [
             calls.free(handle), calls.receive(handle, b"", 0), calls.create(handle, 1, 0, 0, 0, 0, made), calls.set(handle, 0, 0, b"a", 1, b"1", 1),
             calls.clear(handle, 0, 0, b"a", 1), calls.move(handle, 1, 1, 0, 0, 0, 0), calls.delete(handle, 1, 1), calls.join(handle),
-            calls.ask(handle), calls.edit(handle, 1), calls.tree(handle), calls.read(handle, room, 4),
+            calls.ask(handle), calls.edit(handle, 1), calls.tree(handle), calls.read(handle, room, 4), calls.receive_and_tell(handle, b"", 0),
+            calls.create_at(handle, 1, 0, 0, b"O", 1, made), calls.create_last(handle, 1, 0, 0, made), calls.create_first(handle, 1, 0, 0, made),
+            calls.move_at(handle, 1, 1, 0, 0, b"O", 1), calls.move_last(handle, 1, 1, 0, 0), calls.move_first(handle, 1, 1, 0, 0),
+            calls.object(handle, 0, 0), calls.children(handle, 0, 0), calls.in_tree(handle, 0, 0), calls.save(handle),
         ]
-        require(answers == [20] * 12, "without a client:", answers)
+        require(answers == [20] * 23, "without a client:", answers)
         counts = [calls.id(handle), calls.version(handle), calls.acknowledged(handle), calls.waiting(handle), calls.length(handle)]
         require(counts == [0] * 5, "without a client:", counts)
     require((made.client, made.counter, room.raw[:4]) == (7, 8, b"keep"), "without a client something was written")
@@ -125,8 +133,56 @@ def numbers():
     small = ctypes.create_string_buffer(b"keep", length)
     require(calls.read(handle, small, length - 1) == 23 and small.raw[:4] == b"keep", "a room that is too small")
     require(calls.read(handle, small, length) == 0 and small.raw.startswith(b"0:0 document\n"), "the tree that was left")
+    places(handle, made)
+    saved(handle)
     require(calls.free(handle) == 0 and calls.free(handle) == 20 and not handle.at, "an end")
     return "as they should be"
+
+
+def left(handle):
+    """The bytes that the last call left."""
+    room = ctypes.create_string_buffer(library().length(handle) + 1)
+    require(library().read(handle, room, len(room) - 1) == 0, "what was left")
+    return room.raw[:-1]
+
+
+def places(handle, made):
+    """Calls that name a position or an end, and what they leave; the page 3:1 is there alone."""
+    calls = library()
+    for position, number in [(b"", 33), (b"a" * 129, 34), (b"a\n", 35), (b"\xff", 35), (b"a ", 36), (b"O", 12), (b"P", 0)]:
+        answer = calls.create_at(handle, 1, 0, 0, position, len(position), made)
+        require(answer == number, "a page at", position[:9], "is answered", answer, "and not", number)
+    require((made.client, made.counter) == (3, 2), "a creation at a position")
+    for position, number in [(b"", 33), (b"a ", 36), (b"O", 12), (b"Q", 0)]:
+        answer = calls.move_at(handle, 3, 2, 0, 0, position, len(position))
+        require(answer == number, "a move to", position, "is answered", answer, "and not", number)
+    require(calls.create_last(handle, 1, 0, 0, made) == 0 and calls.create_first(handle, 1, 0, 0, made) == 0 and made.counter == 4, "creations at the ends")
+    require(calls.create_last(handle, 9, 0, 0, made) == 24 and calls.create_first(handle, 3, 0, 0, made) == 4 and made.counter == 4, "refusals at the ends")
+    require(calls.children(handle, 0, 0) == 0 and left(handle) == b"[[3,4],[3,1],[3,2],[3,3]]", "children")
+    require(calls.move_last(handle, 3, 4, 0, 0) == 0 and calls.move_first(handle, 3, 2, 0, 0) == 0 and calls.move_last(handle, 9, 9, 0, 0) == 2, "moves to the ends")
+    require(calls.children(handle, 0, 0) == 0 and left(handle) == b"[[3,2],[3,1],[3,3],[3,4]]", "children after moves")
+    require(calls.object(handle, 9, 9) == 22 and calls.object(handle, 3, 1) == 0 and left(handle) == b'[[3,1],"page",[[0,0],"O"],[]]', "an object")
+    require([calls.in_tree(handle, *at) for at in [(0, 0), (3, 4), (9, 9)]] == [0, 0, 2], "what is in the tree")
+    text = b'["entry",1,[5,1,["create",[5,1],"page",[[0,0],"z"]],["created",[[0,0],"z"]]]]'
+    require(calls.receive_and_tell(handle, text, len(text)) == 50 and left(handle) == b"[[5,1]]", "what an entry changed")
+    require(calls.receive_and_tell(handle, text, len(text)) == 51 and left(handle) == b"[]", "what an old entry changed")
+    require(calls.receive_and_tell(handle, b"[", 1) == 40 and left(handle) == b"[]", "after an error what was left stays")
+
+
+def saved(handle):
+    """Saved clients, and bytes that are none."""
+    calls, other = library(), Handle()
+    require(calls.save(handle) == 0, "no saved client")
+    text = left(handle)
+    require(text.startswith(b'["client",[3,4,1,0],['), "a saved client is", text[:40])
+    faults = [(b"", 40), (b"\xff", 40), (b"{}", 45), (b'["client"]', 45), (text.replace(b"[3,4,1,0]", b"[3,4294967296,1,0]"), 43), (text.replace(b"[3,4,1,0]", b"[null,4,1,0]"), 46),
+              (text.replace(b'["a","1"]', b"") + b" ", 0)]
+    for bytes_, number in faults:
+        answer = calls.load(other, bytes_, len(bytes_))
+        require(answer == number, bytes_[:30], "is loaded with", answer, "and not", number)
+    require(calls.load(other, text, len(text)) == 21, "a second client in a handle")
+    require(calls.save(other) == 0 and left(other) == text and calls.waiting(other) == calls.waiting(handle), "the client that was loaded")
+    require(calls.free(other) == 0, "its end")
 
 
 DEEP = """
@@ -146,14 +202,165 @@ print(len(text))
 client.close()
 """
 
+# The same without the tree's text, whose lines get longer with each level.
+DEEPER = """
+from lugcurrant import ROOT, Client, ObjectId, Refused
+import json, sys
+levels = int(sys.argv[1])
+rows = [[[0, 0], "document", None, []]]
+rows += [[[1, k + 1], "frame" if k else "page", [[1 if k else 0, k], "O"], []] for k in range(levels)]
+client = Client()
+client.receive(b'["welcome",2]')
+heard = client.receive(json.dumps(["copy", levels, 0, rows], separators=(",", ":")).encode())
+assert heard.took, heard
+page, middle, last = ObjectId(1, 1), ObjectId(1, levels // 2), ObjectId(1, levels)
+assert client.is_in_tree(last) and client.object(last).parent == (1, levels - 1)
+assert client.children(ObjectId(1, levels - 1)) == [last] and client.children(last) == []
+def refused(act, *words):
+    try:
+        return act(*words)
+    except Refused as fault:
+        return fault.reason
+assert refused(client.create_last, "shape", last) == "TooDeep"
+assert refused(client.move_last, middle, last) == "OwnDescendant"
+assert refused(client.move_last, page, last) == "BadParent"
+assert refused(client.move_first, middle, page) == "TooDeep"
+client.set(last, "a", 1)
+client.move_last(last, page)
+client.create_at("frame", page, "a")
+text = client.save()
+again = Client.load(text)
+assert again.save() == text and again.waiting == client.waiting and again.is_in_tree(ObjectId(1, levels - 1))
+client.delete(middle)
+assert not client.is_in_tree(ObjectId(1, levels - 1)) and client.is_in_tree(last)
+ids = [[1, k] for k in range(2, levels)]
+removal = json.dumps(["entry", levels + 1, [5, 1, ["delete", [1, 2]], ["removed", ids]]], separators=(",", ":")).encode()
+heard = again.receive(removal)
+assert heard.took and not again.is_in_tree(middle) and again.is_in_tree(last) and len(again.objects()) == 4
+print(len(text))
+client.close()
+again.close()
+"""
+
 
 def deep():
-    """A document that is deeper than any server may make one, read with a stack of half a MiB."""
-    levels, stack = 5000, 1 << 19
-    done = subprocess.run([sys.executable, "-c", DEEP, str(levels)], capture_output=True, text=True, env=dict(os.environ, PYTHONPATH=str(TOP / "clients/python")),
-                          preexec_fn=lambda: resource.setrlimit(resource.RLIMIT_STACK, (stack, stack)))
-    require(done.returncode == 0, "the client of a deep document ended with", done.returncode, done.stderr[-300:])
-    return f"{levels} levels, {int(done.stdout) // 1000000} MB of text"
+    """Documents that are deeper than any server may make one, read with a stack of half a MiB."""
+    stack, said = 1 << 19, []
+    for program, levels in [(DEEP, 5000), (DEEPER, 20000)]:
+        done = subprocess.run([sys.executable, "-c", program, str(levels)], capture_output=True, text=True, env=dict(os.environ, PYTHONPATH=str(TOP / "clients/python")),
+                              preexec_fn=lambda: resource.setrlimit(resource.RLIMIT_STACK, (stack, stack)))
+        require(done.returncode == 0, "the client of a document of", levels, "levels ended with", done.returncode, done.stderr[-300:])
+        said.append(f"{levels} levels, {int(done.stdout) / 1e6:.1f} MB of text")
+    return "; ".join(said)
+
+
+def ends():
+    """A parent takes more objects at its ends than the rule of the middle lets in."""
+    client, count = joined(7), 3000
+    page = client.create_last("page", ROOT)
+    made = [client.create_last("shape", page) for _ in range(count)]
+    made = [client.create_first("shape", page) for _ in range(count)][::-1] + made
+    require(client.children(page) == made, "objects at the ends stand in another order")
+    client.move_last(made[0], page)
+    client.move_first(made[-1], page)
+    require(client.children(page) == made[-1:] + made[1:-1] + made[:1], "moves to the ends")
+    return f"{2 * count} objects in a page"
+
+
+def joined(number):
+    client = Client()
+    client.receive(f'["welcome",{number}]'.encode())
+    return client
+
+
+def shown_of(client):
+    """What the client shows, read whole."""
+    seen, pending = {}, [(client.tree(), None)]
+    while pending:
+        node, parent = pending.pop()
+        seen[node.id] = (node.kind, parent, node.position, json.dumps(node.properties), tuple(child.id for child in node.children))
+        pending += [(child, node.id) for child in node.children]
+    return seen
+
+
+def shown():
+    """After each step the objects that are told to have changed are those that differ in the tree, and the objects that are kept are the tree's."""
+    steps = 0
+    for seed in range(6):
+        chance, client = random.Random(seed), joined(1)
+        told, server = shown_of(client), History()
+        for _ in range(300):
+            edit(client if chance.random() < 0.5 else server.other, chance)
+            if chance.random() < 0.4:
+                server.judge(client, chance)
+            if chance.random() < 0.5:
+                now, changed = shown_of(client), client.changed()
+                require(set(changed.added) == set(now) - set(told) and set(changed.removed) == set(told) - set(now), f"seed {seed}: what came and went is told as", changed)
+                altered = {at for at in set(now) & set(told) if now[at][:4] != told[at][:4]}
+                require(set(changed.altered) == altered, f"seed {seed}: what differs is told as", changed.altered, "and not", altered)
+                objects = {at: (*it.words(), it.children) for at, it in client.objects().items()}
+                require(objects == now, f"seed {seed}: the objects that are kept aren't the tree's")
+                told, steps = now, steps + 1
+    return f"{steps} steps"
+
+
+class History:
+    """A server of two clients that takes each edit as it stands, without a rule of the document: so an entry may close a circle."""
+
+    def __init__(self):
+        self.other, self.entries = joined(2), []
+
+    def judge(self, client, chance):
+        """Judges some edits of the two, and tells each what it hasn't heard, or a part of it."""
+        for one in (client, self.other):
+            known = sum(entry[0] == one.id for entry in self.entries)
+            text = one.message(known - one.acknowledged + 1)
+            if text is not None and chance.random() < 0.7:
+                _, author, number, change = json.loads(text)
+                self.entries.append([author, number, change, self.outcome(change)])
+        for one in (client, self.other):
+            for entry in self.entries[one.version : one.version + chance.randrange(4)]:
+                one.receive(json.dumps(["entry", one.version + 1, entry], separators=(",", ":"), ensure_ascii=False).encode())
+
+    def outcome(self, change):
+        if change[0] == "create":
+            return ["created", change[3]]
+        if change[0] == "move":
+            return ["moved", change[2]]
+        return ["removed", [change[1]]] if change[0] == "delete" else ["wasset"]
+
+
+def kept():
+    """A client that is saved and loaded in the midst goes on as the same one."""
+    with tempfile.TemporaryDirectory() as room:
+        server = Server(os.path.join(room, "kept-folder"))
+        try:
+            first = asyncio.run(settle(Client(), server.port))
+            page = first.create_last("page", ROOT)
+            first.set(page, "name", "Plan")
+            text = first.save()
+            first.close()
+            second = Client.load(text)
+            require((second.id, second.waiting) == (1, 2) and second.object(page).properties == {"name": "Plan"}, "a loaded client")
+            asyncio.run(settle(second, server.port))
+            third = asyncio.run(settle(Client.load(text), server.port))
+            require(second.text() == third.text() and third.waiting == 0 and third.id == 1, "a client that is loaded after its edits were taken")
+        finally:
+            server.kill()
+        require(server.show() == (3, second.text()), "what the folder holds")
+    try:
+        Client.load(text[:-1])
+    except SaveError as fault:
+        return f"{len(text)} bytes; half of them are {fault.reason}"
+    raise Wrong("bytes that are no client are loaded")
+
+
+async def settle(client, port):
+    link = Link(client, f"ws://127.0.0.1:{port}/", pause=0.02)
+    run = asyncio.create_task(link.run())
+    await asyncio.wait_for(link.until_settled(), 20)
+    run.cancel()
+    return client
 
 
 def page(room):
@@ -174,9 +381,13 @@ def module(room):
     server = Server(os.path.join(room, "module-folder"))
     shown = subprocess.Popen([sys.executable, "-u", "-m", "lugcurrant", str(server.port)], stdout=subprocess.PIPE, text=True, cwd=TOP / "clients/python")
     asyncio.run(draw(server.port))
-    time.sleep(1)
+    text, end = "", threading.Timer(60, shown.kill)
+    end.start()
+    while "frame" not in text and (line := shown.stdout.readline()):
+        text += line
+    end.cancel()
     shown.send_signal(signal.SIGINT)
-    text = shown.communicate(timeout=20)[0]
+    text += shown.communicate(timeout=20)[0]
     server.kill()
     require(shown.returncode == 0, "python -m lugcurrant ended with", shown.returncode)
     require(text.endswith(server.show()[1]) and "Plan" in text, "python -m lugcurrant printed", text)
@@ -208,26 +419,28 @@ class Broken(Client):
         return super().receive(message)
 
 
+def edit(client, chance):
+    """A random edit, which may be refused."""
+    nodes = list(client.objects().values())
+    at, parent = chance.choice(nodes), chance.choice(nodes)
+    after = chance.choice(parent.children) if parent.children and chance.random() < 0.7 else None
+    position = chance.choice(["A", "O", "Z", "a", "z", "~", "aa"])
+    kind = chance.choice(["page", "frame", "frame", "shape", "text"])
+    acts = [lambda: client.create(kind, parent.id, after), lambda: client.create_last(kind, parent.id), lambda: client.create_first(kind, parent.id),
+            lambda: client.create_at(kind, parent.id, position), lambda: client.move(at.id, parent.id, after), lambda: client.move_last(at.id, parent.id),
+            lambda: client.move_first(at.id, parent.id), lambda: client.move_at(at.id, parent.id, position), lambda: client.clear(at.id, chance.choice("abc")),
+            lambda: client.set(at.id, chance.choice("abc"), chance.choice([1, -5, True, "text \u00e9", ["rgba", 7], ["list", 1, ["list"]]])),
+            lambda: client.set(at.id, "a", chance.randrange(9)), lambda: chance.random() < 0.4 and client.delete(at.id)]
+    try:
+        chance.choice(acts if len(nodes) > 3 else acts[:4])()
+    except Refused:
+        pass
+
+
 async def edits(client, link, count, chance):
     """Random edits, of which some are refused."""
     for _ in range(count):
-        nodes = list(client.tree().walk())
-        at, parent = chance.choice(nodes), chance.choice(nodes)
-        after = chance.choice(parent.children).id if parent.children and chance.random() < 0.7 else None
-        try:
-            kind = chance.randrange(10)
-            if kind < 4 or len(nodes) < 4:
-                client.create(chance.choice(["page", "frame", "shape", "text"]), parent.id, after)
-            elif kind < 6:
-                client.set(at.id, chance.choice("abc"), chance.choice([1, -5, True, "text \u00e9", ["rgba", 7], ["list", 1, ["list"]]]))
-            elif kind < 7:
-                client.clear(at.id, chance.choice("abc"))
-            elif kind < 9:
-                client.move(at.id, parent.id, after)
-            elif chance.random() < 0.4:
-                client.delete(at.id)
-        except Refused:
-            pass
+        edit(client, chance)
         link.edited()
         await asyncio.sleep(chance.random() * 0.01)
 
@@ -281,7 +494,7 @@ def together(room):
 
 
 def main():
-    groups = [("together", together)] if BROKEN else [("numbers", lambda room: numbers()), ("deep", lambda room: deep()), ("page", page), ("module", module), ("together", together)]
+    groups = [("together", together)] if BROKEN else [("numbers", lambda room: numbers()), ("deep", lambda room: deep()), ("places", lambda room: ends()), ("shown", lambda room: shown()), ("kept", lambda room: kept()), ("page", page), ("module", module), ("together", together)]
     wrong = 0
     with tempfile.TemporaryDirectory() as room:
         for name, group in groups:

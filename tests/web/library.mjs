@@ -60,10 +60,37 @@ same([() => client.create('document', ROOT), () => client.create('page', page), 
 client.changed();
 client.move(shape, page, frame);
 same([client.children(page), client.children(frame), client.object(shape).parent, client.tree().children], [[frame, shape], [inner], page, [page]]);
-same(client.changed().put.map(({ id }) => id), [page, frame, shape]);
+same(client.changed().put.map(({ id }) => id), [page, shape, frame]);
 client.delete(frame);
 same([client.changed(), client.object(inner), client.children(inner)].map((seen) => seen?.gone ?? seen), [[frame, inner], null, []]);
 same(client.changed(), { put: [], gone: [] });
+
+// Places and ends.
+const other = client.createLast('page', ROOT), third = client.createFirst('page', ROOT), fourth = client.createAt('page', ROOT, 'zz');
+same(client.tree().children, [third, page, other, fourth]);
+client.moveLast(page, ROOT);
+client.moveFirst(other, ROOT);
+client.moveAt(third, ROOT, '~~');
+same([client.tree().children, client.object(third).position, client.object(fourth).position], [[other, fourth, page, third], '~~', 'zz']);
+same(['', 'a'.repeat(129), 'a\n', '\u00e9', 'a ', 'zz', '~~'].map((position) => code(() => client.createAt('page', ROOT, position))),
+  ['PositionEmpty', 'PositionTooLong', 'PositionBadByte', 'PositionBadByte', 'PositionTrailingZero', 'Taken', 'Taken']);
+same([code(() => client.moveAt(page, ROOT, 'zz')), code(() => client.createLast('shape', ROOT)), code(() => client.moveFirst(ROOT, page))], ['Taken', 'BadParent', 'IsRoot']);
+same([client.isInTree(page), client.isInTree(frame), client.isInTree('9:9')], [true, false, false]);
+const many = [];
+for (let k = 0; k < 2000; k++) many.push(client.createLast('shape', page));
+for (let k = 0; k < 2000; k++) many.unshift(client.createFirst('shape', page));
+same(client.children(page).filter((id) => id !== shape).join(), many.join());
+for (const id of many) client.delete(id);
+
+// A client that is saved and made again.
+const saved = client.save(), again = await Client.load(module, saved);
+same([again.id, again.waiting, again.version, again.text(), text(again.save())], [client.id, client.waiting, client.version, client.text(), text(saved)]);
+same(again.createLast('page', ROOT), client.createLast('page', ROOT));
+client.delete(again.tree().children.at(-1));
+for (const [bytes, fault] of [['[', 'NotJson'], ['{}', 'NotAClient'], ['["client",[7,0,0,4611686018427387905],[],[[[0,0],"document",null,[]]]]', 'OutOfRange'],
+  ['["client",[null,0,0,0],[["create",[7,1],"page",[[0,0],"O"]]],[[[0,0],"document",null,[]]]]', 'Inconsistent']]) {
+  same(await Client.load(module, bytes).then(() => null, (fault) => fault.code), fault);
+}
 
 // Texts of all sizes about a page of memory, and a memory that grows in the call.
 for (const length of [0, 1, 1000, 65520, 65536, 65537, 1 << 20, 5 << 20]) {
@@ -86,10 +113,23 @@ const chain = (depth) => {
   for (let k = 2; k <= depth; k++) rows.push(`[[1,${k}],"frame",[[1,${k - 1}],"O"],[]]`);
   return `["copy",9,0,[${rows}]]`;
 };
-const high = await joined(), low = await joined();
+const high = await joined(), low = await joined(), lower = await joined();
 same([high.receive(chain(100)).what, high.changed().put.length], ['took', 101]);
 same(low.receive(chain(6000)).what, 'took');
-const fault = code(() => low.text());
-same(code(() => low.text()), fault ? 'NoClient' : null);
-console.log(`a document of 6000 levels ${fault ? `ends the client: ${fault}` : 'is read'}`);
+same([low.text().split('\n').length, low.objects().size, low.changed().put.at(-1).id], [6002, 6001, '1:6000']);
+// Of 20,000 levels the tree's text has 400 MB. All else is tried: no call goes deeper with the document.
+const bottom = '1:20000', upper = '1:10000';
+same([lower.receive(chain(20000)).what, lower.isInTree(bottom), lower.isInTree('1:20001')], ['took', true, false]);
+same([() => lower.createLast('shape', bottom), () => lower.createFirst('frame', '1:99'), () => lower.moveLast(upper, bottom), () => lower.move(upper, '1:1')].map(code), ['TooDeep', null, 'OwnDescendant', 'TooDeep']);
+lower.set(bottom, 'x', 1);
+lower.moveLast(bottom, '1:1');
+const kept = lower.save(), loaded = await Client.load(module, kept);
+same([loaded.isInTree('1:19999'), text(loaded.save()) === text(kept)], [true, true]);
+lower.delete(upper);
+same([lower.isInTree('1:19999'), lower.isInTree(bottom)], [false, true]);
+const below = Array.from({ length: 19998 }, (_, k) => `[1,${k + 2}]`);
+same(loaded.receive(`["entry",10,[5,1,["delete",[1,2]],["removed",[${below}]]]]`).what, 'took');
+same([loaded.isInTree('1:2'), loaded.isInTree(bottom), loaded.objects().size], [false, true, 3]);
+lower.free();
+loaded.free();
 console.log(`${tried} answers, all as they should be`);

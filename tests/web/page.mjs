@@ -56,6 +56,14 @@ class Page {
     return page;
   }
 
+  // Loads the page anew.
+  async reload() {
+    await this.window.call('Page.reload');
+    await sleep(300);
+    if (!await until(() => this.window.js("window.lugcurrant?.state().state === 'online' && lugcurrant.state().id > 0"), 60)) throw new Error('the page does not come back');
+    await until(() => this.window.js('lugcurrant.objects.size > 1'));
+  }
+
   constructor(window) { this.window = window; }
   state() { return this.window.js('lugcurrant.state()'); }
   text() { return this.window.js('lugcurrant.text()'); }
@@ -216,6 +224,28 @@ try {
   check('and one goes back to the first', await until(async () => window.js(`getComputedStyle(document.querySelector('[data-id="${frame.id}"]')).visibility === 'visible' && !!document.querySelector('[data-id="${frame.id}"]').getBoundingClientRect().width`)));
   await window.clickAt(on(240, 180));
   await picture(window, 'whiteboard');
+
+  // A window that is loaded anew: what waits is there, under the same id; and again once the server has it.
+  await right.window.click('.switch');
+  await until(async () => (await right.state()).state === 'offline');
+  const kept = (await right.window.js(`lugcurrant.send(['createLast', 'shape', '${frame.parent}'], ['set', '$', 'name', 'Kept'], ['set', '$', 'at', [700, 400]])`));
+  const beforehand = await right.state();
+  await sleep(500);
+  await server.kill();
+  await server.run(server.port);
+  await right.reload();
+  const afterwards = await right.state();
+  check('a window that is loaded anew has its id, and what waited', afterwards.id === beforehand.id && beforehand.waiting >= 3 && (await right.objects()).some(({ id, properties }) => id === kept && properties.name === 'Kept'), JSON.stringify([beforehand, afterwards]));
+  check('and the other window gets it', await until(async () => (await left.objects()).some(({ id, properties }) => id === kept && properties.name === 'Kept')) && await agree([left, right]));
+  await left.reload();
+  check('so is the other one, with its own id', (await left.state()).id !== (await right.state()).id && await agree([left, right]));
+
+  // A page that never fills up.
+  const isFull = async () => (await right.objects()).find(({ id }) => id === second.id).children.length >= 1000;
+  await window.js(`lugcurrant.send(...Array.from({ length: 1000 }, () => ['createLast', 'shape', '${second.id}']))`);
+  check('a thousand shapes stand one behind the other', await until(isFull, 60) && await agree([left, right]), await left.said());
+  await window.js(`lugcurrant.send(...[...lugcurrant.objects.values()].filter(({ parent, properties }) => parent === '${second.id}' && !properties.form).map(({ id }) => ['delete', id]))`);
+  check('and are gone again', await until(async () => !(await right.objects()).some(({ parent, properties }) => parent === second.id && !properties.form), 60) && await agree([left, right]));
 
   if (partner) {
     partner.tell('rest');

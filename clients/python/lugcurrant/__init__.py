@@ -12,10 +12,11 @@
 `Client` holds the document, merges and speaks no network; it needs nothing but the library. `Link` needs the package `websockets`.
 """
 
-from .client import Changed, Client, Heard, MessageError, Refused
+from .client import Changed, Client, Heard, MessageError, Refused, SaveError
+from .shown import Shown
 from .tree import ROOT, Node, ObjectId, Value
 
-__all__ = ["Changed", "Client", "Heard", "Link", "MessageError", "Node", "ObjectId", "ROOT", "Refused", "State", "Value"]
+__all__ = ["Changed", "Client", "Heard", "Link", "MessageError", "Node", "ObjectId", "ROOT", "Refused", "SaveError", "Shown", "State", "Value"]
 
 
 def __getattr__(name: str):

@@ -4,7 +4,7 @@ import ctypes
 import os
 from pathlib import Path
 
-DONE, MEMORY, NO_CLIENT, NONE = 0, 10, 20, 22
+DONE, NOT_SHOWN, MEMORY, NO_CLIENT, NONE = 0, 2, 10, 20, 22
 TOOK, OLD, AHEAD, NOT_FOR_ME, IDLE, NO = 50, 51, 52, 53, 54, 60
 
 # Why an edit isn't made, by its number.
@@ -19,10 +19,15 @@ REFUSALS = {
     8: "IdsSpent",
     9: "Full",
     11: "TooDeep",
+    12: "Taken",
     24: "NoKind",
     30: "NameEmpty",
     31: "NameTooLong",
     32: "NameBadByte",
+    33: "PositionEmpty",
+    34: "PositionTooLong",
+    35: "PositionBadByte",
+    36: "PositionTrailingZero",
     40: "NotJson",
     41: "NotAValue",
     43: "OutOfRange",
@@ -31,6 +36,9 @@ REFUSALS = {
 
 # Why bytes are the text of no message, by its number.
 MESSAGE_FAULTS = {40: "NotJson", 42: "NotAMessage", 43: "OutOfRange", 44: "ValueTooDeep"}
+
+# Why bytes are the text of no client, by its number.
+CLIENT_FAULTS = {40: "NotJson", 45: "NotAClient", 43: "OutOfRange", 44: "ValueTooDeep", 46: "Inconsistent"}
 
 
 class Handle(ctypes.Structure):
@@ -50,21 +58,33 @@ _NUMBER, _LONG, _SIZE, _BYTES = ctypes.c_uint32, ctypes.c_uint64, ctypes.c_size_
 # Each call's result, and what it takes after the handle.
 _CALLS = {
     "new": (_NUMBER, []),
+    "load": (_NUMBER, [_BYTES, _SIZE]),
     "free": (_NUMBER, []),
     "id": (_NUMBER, []),
     "version": (_LONG, []),
     "acknowledged": (_LONG, []),
     "waiting": (_LONG, []),
     "receive": (_NUMBER, [_BYTES, _SIZE]),
+    "receive_and_tell": (_NUMBER, [_BYTES, _SIZE]),
     "create": (_NUMBER, [_NUMBER] * 5 + [ctypes.POINTER(MadeId)]),
+    "create_at": (_NUMBER, [_NUMBER] * 3 + [_BYTES, _SIZE, ctypes.POINTER(MadeId)]),
+    "create_last": (_NUMBER, [_NUMBER] * 3 + [ctypes.POINTER(MadeId)]),
+    "create_first": (_NUMBER, [_NUMBER] * 3 + [ctypes.POINTER(MadeId)]),
     "set": (_NUMBER, [_NUMBER, _NUMBER, _BYTES, _SIZE, _BYTES, _SIZE]),
     "clear": (_NUMBER, [_NUMBER, _NUMBER, _BYTES, _SIZE]),
     "move": (_NUMBER, [_NUMBER] * 6),
+    "move_at": (_NUMBER, [_NUMBER] * 4 + [_BYTES, _SIZE]),
+    "move_last": (_NUMBER, [_NUMBER] * 4),
+    "move_first": (_NUMBER, [_NUMBER] * 4),
     "delete": (_NUMBER, [_NUMBER] * 2),
     "join": (_NUMBER, []),
     "ask": (_NUMBER, []),
     "edit": (_NUMBER, [_LONG]),
     "tree": (_NUMBER, []),
+    "object": (_NUMBER, [_NUMBER] * 2),
+    "children": (_NUMBER, [_NUMBER] * 2),
+    "in_tree": (_NUMBER, [_NUMBER] * 2),
+    "save": (_NUMBER, []),
     "length": (_SIZE, []),
     "read": (_NUMBER, [ctypes.c_void_p, _SIZE]),
 }
