@@ -1,6 +1,7 @@
 pub mod Going
 pub mod Unasked
 pub mod Texts
+pub mod NoTexts
 pub mod Sending
 pub mod Begun
 pub mod Hearing

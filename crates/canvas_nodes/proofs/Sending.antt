@@ -1,7 +1,7 @@
 -- What a connection went through, one step more.
 use Rattle.std.proofs.Common.{◌≡◌, ℕ, suc, ◌+◌, ◌<◌, true, List, [], ◌∷◌, ◌++◌, length, get_or, map, take, drop, Option, refl, ap, sym, ◌∙◌, subst}
 use Rattle.std.specs.Prelude.{◌⊎◌}
-use mathlib.Core.Logic.{inr}
+use mathlib.Core.Logic.{inl, inr}
 use Rattle.std.proofs.lemmas.List.{append_assoc, map-append, take-append-drop, take_more}
 use Rattle.tungstenite.specs.Connection.{write_step}
 use Rattle.tungstenite.specs.Content.{Content, binary}
@@ -13,6 +13,10 @@ use Rattle.canvas_model.specs.Messages.{Message}
 use Rattle.canvas_nodes.specs.Served.{WritesEach, SendsAnswer, Handles, Turns, GoesThrough, RefusesText, StopsAnswer, StopsHandling, StopsWriting}
 use Rattle.canvas_judge.specs.declared.message.NoReason.TheVariants.{Memory}
 use Rattle.canvas_nodes.specs.Answers.{AreTexts, Replies, refused}
+
+as_one : (P : Type 0) → P ⊎ P → P
+as_one P (inl p) = p
+as_one P (inr p) = p
 
 module _ {S : Type 0} (contents : S → Option (List ℕ)) where
   pub wrote_one : (old mid new : Socket S) (ts : List (List ℕ)) (t : List ℕ) (content : Content) → WritesEach contents old ts mid → content ≡ binary t → Writes contents mid new (write_step mid.conn content) → WritesEach contents old (ts ++ t ∷ []) new
@@ -30,11 +34,14 @@ module _ {S : Type 0} (contents : S → Option (List ℕ)) where
       more : take (i + 1) whole ≡ take i whole ++ v ∷ []
       more = take_more whole i v within ∙ ap (λ (x : V). take i whole ++ x ∷ []) (sym at)
 
-  -- what is sent of an answer whose texts are kept in vectors
-  pub sends_answer : {V : Type 0} (text_of : V → List ℕ) (old mid new : Socket S) (made lent : List V) (answer : List Message) → lent ≡ made → AreTexts (map text_of made) answer ⊎ AreTexts (map text_of made) (refused Memory)
-      → WritesEach contents old (map text_of lent) mid → Flushed contents mid new → new.output ≡ [] → SendsAnswer contents old answer new
-  sends_answer {V = V} text_of old mid new made lent answer same are wrote flushed empty =
-      (map text_of lent, subst (λ (vs : List V). AreTexts (map text_of vs) answer ⊎ AreTexts (map text_of vs) (refused Memory)) (sym same) are, (mid, wrote, (flushed, empty)))
+  -- one text alone that was sent
+  pub sends_one : (old mid new : Socket S) (t : List ℕ) (answer : List Message) → AreTexts (t ∷ []) answer → Writes contents old mid (write_step old.conn (binary t))
+      → Flushed contents mid new → new.output ≡ [] → SendsAnswer contents old answer new
+  sends_one old mid new t answer are wrote flushed empty = (t ∷ [], inl are, (mid, (mid, wrote, refl), (flushed, empty)))
+
+  -- an answer in place of which a No for Memory was sent
+  pub sends_no : (old new : Socket S) (answer : List Message) → SendsAnswer contents old (refused Memory) new → SendsAnswer contents old answer new
+  sends_no old new answer h = (h.0, inr (as_one (AreTexts h.0 (refused Memory)) h.1), h.2)
 
   -- a text for which there was no memory
   pub no_memory : (s : Socket S) (t : List ℕ) → RefusesText contents s t OutOfMemory s
@@ -58,11 +65,18 @@ module _ {S : Type 0} (contents : S → Option (List ℕ)) where
       parts : take i whole ++ v ∷ drop (i + 1) whole ≡ whole
       parts = sym (append_assoc (take i whole) (v ∷ []) (drop (i + 1) whole)) ∙ ap (λ (l : List V). l ++ drop (i + 1) whole) (sym more) ∙ take-append-drop (i + 1) whole
 
-  -- an answer whose texts, kept in vectors, didn't all leave
-  pub stops_answer : {V : Type 0} (text_of : V → List ℕ) (old new : Socket S) (made lent : List V) (answer : List Message) (e : Error) → lent ≡ made → AreTexts (map text_of made) answer ⊎ AreTexts (map text_of made) (refused Memory)
-      → StopsWriting contents old (map text_of lent) e new ⊎ ((mid : Socket S) × WritesEach contents old (map text_of lent) mid × Flushed contents mid new × IsIo e) → StopsAnswer contents old answer e new
-  stops_answer {V = V} text_of old new made lent answer e same are stops =
-      inr (map text_of lent, subst (λ (vs : List V). AreTexts (map text_of vs) answer ⊎ AreTexts (map text_of vs) (refused Memory)) (sym same) are, stops)
+  -- one text alone that didn't join the output
+  pub refuses_one : (old new : Socket S) (t : List ℕ) (answer : List Message) (e : Error) → AreTexts (t ∷ []) answer → RefusesText contents old t e new → StopsAnswer contents old answer e new
+  refuses_one old new t answer e are refuses = (t ∷ [], inl are, inl (record { done = []; next = t; rest = []; mid = old; are = refl; wrote = refl; refuses = refuses }))
+
+  -- one text alone that didn't leave
+  pub stops_one : (old mid new : Socket S) (t : List ℕ) (answer : List Message) (e : Error) → AreTexts (t ∷ []) answer → Writes contents old mid (write_step old.conn (binary t))
+      → Flushed contents mid new → IsIo e → StopsAnswer contents old answer e new
+  stops_one old mid new t answer e are wrote flushed io = (t ∷ [], inl are, inr (mid, (mid, wrote, refl), flushed, io))
+
+  -- an answer in place of which a No for Memory didn't leave
+  pub stops_no : (old new : Socket S) (answer : List Message) (e : Error) → StopsAnswer contents old (refused Memory) e new → StopsAnswer contents old answer e new
+  stops_no old new answer e h = (h.0, inr (as_one (AreTexts h.0 (refused Memory)) h.1), h.2)
 
 module _ {A S : Type 0} (Gives : A → Message → List Message → A → Type 0) (remaining contents : S → Option (List ℕ)) where
   pub one_turn : (n m : ℕ) (old : A) (before : Socket S) (a : A) (s : Socket S) (new : A) (after : Socket S) → m ≡ suc n → GoesThrough Gives remaining contents n old before a s → Turns Gives remaining contents true a s new after → GoesThrough Gives remaining contents m old before new after
@@ -76,7 +90,7 @@ module _ {A S : Type 0} (Gives : A → Message → List Message → A → Type 0
 
   -- a message whose answer didn't leave whole
   pub stops_binary : (content : Content) (bytes lent : List ℕ) (e : Error) (old : A) (before : Socket S) (new : A) (after : Socket S) → content ≡ binary bytes → lent ≡ bytes
-      → ((e ≡ OutOfMemory) × (after ≡ before)) ⊎ ((answer : List Message) × Replies Gives old lent answer new × StopsAnswer contents before answer e after) → StopsHandling Gives remaining contents content e old before new after
+      → ((answer : List Message) × Replies Gives old lent answer new × StopsAnswer contents before answer e after) → StopsHandling Gives remaining contents content e old before new after
   stops_binary content bytes lent e old before new after is same h =
       subst (λ (c : Content). StopsHandling Gives remaining contents c e old before new after) (sym is)
-      (subst (λ (bs : List ℕ). ((e ≡ OutOfMemory) × (after ≡ before)) ⊎ ((answer : List Message) × Replies Gives old bs answer new × StopsAnswer contents before answer e after)) same h)
+      (h.0, subst (λ (bs : List ℕ). Replies Gives old bs h.0 new) same h.1, h.2)

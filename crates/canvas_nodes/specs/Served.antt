@@ -50,11 +50,9 @@ module _ {S : Type 0} (contents : S → Option (List ℕ)) where
   abbrev pub StopsSending : Socket S → List (List ℕ) → Error → Socket S → Type 0
   StopsSending old ts e new = StopsWriting old ts e new ⊎ ((mid : Socket S) × WritesEach old ts mid × Flushed contents mid new × IsIo e)
 
-  -- the texts of these messages, or that of a No for Memory, didn't all leave; or memory was refused for them, and nothing has changed
+  -- the texts of these messages, or, where there was no memory for them, that of a No for Memory, didn't all leave
   abbrev pub StopsAnswer : Socket S → List Message → Error → Socket S → Type 0
-  StopsAnswer old answer e new =
-      ((e ≡ OutOfMemory) × (new ≡ old))
-      ⊎ ((ts : List (List ℕ)) × (AreTexts ts answer ⊎ AreTexts ts (refused Memory)) × StopsSending old ts e new)
+  StopsAnswer old answer e new = (ts : List (List ℕ)) × (AreTexts ts answer ⊎ AreTexts ts (refused Memory)) × StopsSending old ts e new
 
 module _ {A S : Type 0} (Gives : A → Message → List Message → A → Type 0) (remaining contents : S → Option (List ℕ)) where
   -- what a frame makes of the answerer and the socket, and whether the connection goes on: a binary message has its reply, a text is refused as
@@ -81,12 +79,9 @@ module _ {A S : Type 0} (Gives : A → Message → List Message → A → Type 0
       (n : ℕ) × (a : A) × (s : Socket S) × GoesThrough n old before a s
       × (((n ≡ most) × (new ≡ a) × (after ≡ s)) ⊎ ((n < most) × Turns false a s new after))
 
-  -- a frame wasn't handled to its end: the answer to a message didn't leave whole, or there was no memory for one; or what waited didn't leave
-  -- before a closing frame
+  -- a frame wasn't handled to its end: the answer to a message didn't leave whole, or what waited didn't leave before a closing frame
   abbrev pub StopsHandling : Content → Error → A → Socket S → A → Socket S → Type 0
-  StopsHandling (binary bytes) e old before new after =
-      ((e ≡ OutOfMemory) × (after ≡ before))
-      ⊎ ((answer : List Message) × Replies Gives old bytes answer new × StopsAnswer contents before answer e after)
+  StopsHandling (binary bytes) e old before new after = (answer : List Message) × Replies Gives old bytes answer new × StopsAnswer contents before answer e after
   StopsHandling (text bytes) e old before new after = (new ≡ old) × StopsAnswer contents before (refused NotRead) e after
   StopsHandling (ping bytes) e old before new after = ⊥
   StopsHandling (pong bytes) e old before new after = ⊥

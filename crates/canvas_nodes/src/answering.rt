@@ -1,6 +1,9 @@
 // What is answered to a client's message.
-ghost use Rattle.std.specs.Prelude.{◌≡◌, ◌⊎◌, IfOk, map};
+ghost use Rattle.std.specs.Prelude.{◌≡◌, IfOk, MatchResult, map};
+ghost use Rattle.canvas_model.specs.Messages.{No};
+ghost use Rattle.canvas_judge.specs.Reasons.{number_of};
 ghost use Rattle.canvas_judge.specs.Seen.{seen_message};
+ghost use Rattle.canvas_wire.specs.Text.{EncodesMessage};
 ghost use Rattle.canvas_nodes.specs.Answers.{AreTexts, IsAnswer, Replies, refused};
 
 use crate::asked;
@@ -39,26 +42,38 @@ pub fn reply<A: Answerer>(
     ensures replies { IfOk result (λ answer. Replies A.gives answerer.old bytes.now (map seen_message answer.items) answerer.new) }
     ensures whole { IfOk result (λ answer. IsAnswer (map seen_message answer.items)) }
 {
-    match asked(alloc, bytes) {
-        Ok(message) => match answerer.answer(&message) {
-            Ok(answer) => Ok(answer),
-            Err(_) => refusal(alloc, NoReason::Memory),
-        },
-        Err(reason) => refusal(alloc, reason),
+    match answered(alloc, answerer, bytes) {
+        Ok(answer) => Ok(answer),
+        Err(reason) => {
+            let mut answer = Vec::with_capacity(alloc, 1)?;
+            answer.push(Message::No(reason))?;
+            Ok(answer)
+        }
     }
 }
 
-// A No for this reason, as an answer. Fails only where memory is refused.
-pub(crate) fn refusal(alloc: Global, reason: NoReason) -> Result<Vec<Message>, AllocError>
-    ensures { IfOk result (λ answer. map seen_message answer.items ≡ refused reason) }
+// The same, where a No that isn't the answerer's own is told by its reason. It takes no memory for that.
+pub(crate) fn answered<A: Answerer>(
+    alloc: Global,
+    answerer: &mut A,
+    bytes: &[u8],
+) -> Result<Vec<Message>, NoReason>
+    ensures replies { MatchResult result
+        (λ answer. Replies A.gives answerer.old bytes.now (map seen_message answer.items) answerer.new)
+        (λ reason. Replies A.gives answerer.old bytes.now (refused reason) answerer.new) }
+    ensures whole { IfOk result (λ answer. IsAnswer (map seen_message answer.items)) }
 {
-    let mut answer = Vec::with_capacity(alloc, 1)?;
-    answer.push(Message::No(reason))?;
-    Ok(answer)
+    match asked(alloc, bytes) {
+        Ok(message) => match answerer.answer(&message) {
+            Ok(answer) => Ok(answer),
+            Err(_) => Err(NoReason::Memory),
+        },
+        Err(reason) => Err(reason),
+    }
 }
 
 // The text of each of these messages. Fails only where memory is refused.
-fn texts(alloc: Global, messages: &[Message]) -> Result<Vec<Vec<u8>>, AllocError>
+pub(crate) fn texts(alloc: Global, messages: &[Message]) -> Result<Vec<Vec<u8>>, AllocError>
     ensures { IfOk result (λ texts. AreTexts (map (λ text. text.items) texts.items) (map seen_message messages.now)) }
 {
     let mut texts = Vec::with_capacity(alloc, messages.len())?;
@@ -69,16 +84,19 @@ fn texts(alloc: Global, messages: &[Message]) -> Result<Vec<Vec<u8>>, AllocError
     Ok(texts)
 }
 
-// The texts of an answer; where memory is refused for them, those of a No for Memory. Fails only where memory is refused for that.
-pub(crate) fn written(alloc: Global, answer: &[Message]) -> Result<Vec<Vec<u8>>, AllocError>
-    ensures { IfOk result (λ texts. AreTexts (map (λ text. text.items) texts.items) (map seen_message answer.now)
-        ⊎ AreTexts (map (λ text. text.items) texts.items) (refused NoReason.Memory)) }
+// The text of a No for this reason, a constant.
+pub(crate) fn no_text(reason: NoReason) -> &'static [u8]
+    ensures { EncodesMessage result.now (No (number_of reason)) }
 {
-    match texts(alloc, answer) {
-        Ok(texts) => Ok(texts),
-        Err(_) => {
-            let answer = refusal(alloc, NoReason::Memory)?;
-            texts(alloc, &answer)
-        }
+    match reason {
+        NoReason::Stranger => b"[\"no\",1]",
+        NoReason::Repeat => b"[\"no\",2]",
+        NoReason::Gap => b"[\"no\",3]",
+        NoReason::Full => b"[\"no\",4]",
+        NoReason::Device => b"[\"no\",5]",
+        NoReason::Failed => b"[\"no\",6]",
+        NoReason::Memory => b"[\"no\",7]",
+        NoReason::TooLarge => b"[\"no\",8]",
+        NoReason::NotRead => b"[\"no\",9]",
     }
 }

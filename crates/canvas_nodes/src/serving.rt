@@ -1,14 +1,15 @@
 // A server's side of a connection.
-ghost use Rattle.std.specs.Prelude.{◌≡◌, ◌⊎◌, List, IfErr, IfOk, OnOk, map};
-ghost use Rattle.tungstenite.specs.Socket.{content_of};
+ghost use Rattle.std.specs.Prelude.{List, IfErr, IfOk, OnOk, map};
+ghost use Rattle.tungstenite.specs.Connection.{write_step};
+ghost use Rattle.tungstenite.specs.Content.{binary};
+ghost use Rattle.tungstenite.specs.Socket.{Writes, content_of};
 ghost use Rattle.canvas_model.specs.Messages as messages;
 ghost use Rattle.canvas_judge.specs.Seen.{seen_message};
 ghost use Rattle.canvas_nodes.specs.Answers.{Replies, refused};
-ghost use Rattle.canvas_nodes.specs.Served.{Handles, SendsAnswer, Serves, StopsAnswer, StopsHandling, StopsServing, StopsTurn, StopsWriting, Turns, WritesEach};
-ghost use Rattle.tungstenite.specs.declared.error.Error.TheVariants.{OutOfMemory};
+ghost use Rattle.canvas_nodes.specs.Served.{Handles, RefusesText, SendsAnswer, SendsEach, Serves, StopsAnswer, StopsHandling, StopsSending, StopsServing, StopsTurn, StopsWriting, Turns, WritesEach};
 
 use crate::Answerer;
-use crate::answering::{refusal, reply, written};
+use crate::answering::{answered, no_text, texts};
 use canvas_judge::{Message, NoReason};
 use std::alloc::Global;
 use std::io::{Read, Write};
@@ -23,7 +24,8 @@ use tungstenite::{Error, Message as Frame, NoMask, WebSocket};
 /// Once the answer to a binary message has left, the answerer is told.
 ///
 /// It ends with a closing frame, or the 4294967296th message, which isn't read. Otherwise it tells what ended it: a fault of the
-/// socket, or that memory was refused, for a No too. All answers but the last have left then, and of the last a beginning.
+/// socket, or that memory was refused for what the socket reads or for the frame of a text. Every message that was read has an answer,
+/// and the answer its texts, since a No takes no memory. All answers but the last have left then, and of the last a beginning.
 pub fn serve_one<A: Answerer, S: Read + Write + Drop>(
     alloc: Global,
     answerer: &mut A,
@@ -90,11 +92,27 @@ fn answer_bytes<A: Answerer, S: Read + Write + Drop>(
     bytes: &[u8],
 ) -> Result<(), Error>
     ensures sends { OnOk result ((answer : List messages.Message) × Replies A.gives answerer.old bytes.now answer answerer.new × SendsAnswer S.contents socket.old answer socket.new) }
-    ensures stops { IfErr result (λ e. ((e ≡ OutOfMemory) × (socket.new ≡ socket.old))
-        ⊎ ((answer : List messages.Message) × Replies A.gives answerer.old bytes.now answer answerer.new × StopsAnswer S.contents socket.old answer e socket.new)) }
+    ensures stops { IfErr result (λ e. (answer : List messages.Message) × Replies A.gives answerer.old bytes.now answer answerer.new × StopsAnswer S.contents socket.old answer e socket.new) }
 {
-    let answer = reply(alloc, answerer, bytes)?;
-    send(alloc, socket, &answer)
+    match answered(alloc, answerer, bytes) {
+        Ok(answer) => send(alloc, socket, &answer),
+        Err(reason) => refuse(alloc, socket, reason),
+    }
+}
+
+// Sends each message of an answer as a binary message; or, where there is no memory for their texts, a No for Memory.
+fn send<S: Read + Write + Drop>(
+    alloc: Global,
+    socket: &mut WebSocket<S, NoMask>,
+    answer: &[Message],
+) -> Result<(), Error>
+    ensures sends { OnOk result (SendsAnswer S.contents socket.old (map seen_message answer.now) socket.new) }
+    ensures stops { IfErr result (λ e. StopsAnswer S.contents socket.old (map seen_message answer.now) e socket.new) }
+{
+    match texts(alloc, answer) {
+        Ok(texts) => send_each(alloc, socket, &texts),
+        Err(_) => refuse(alloc, socket, NoReason::Memory),
+    }
 }
 
 // Sends a No for this reason.
@@ -106,21 +124,20 @@ fn refuse<S: Read + Write + Drop>(
     ensures sends { OnOk result (SendsAnswer S.contents socket.old (refused reason) socket.new) }
     ensures stops { IfErr result (λ e. StopsAnswer S.contents socket.old (refused reason) e socket.new) }
 {
-    let answer = refusal(alloc, reason)?;
-    send(alloc, socket, &answer)
+    write_text(alloc, socket, no_text(reason))?;
+    socket.flush()
 }
 
-// Sends each message of an answer as a binary message, all of them with one flush.
-fn send<S: Read + Write + Drop>(
+// Sends each of these texts as a binary message, all of them with one flush.
+fn send_each<S: Read + Write + Drop>(
     alloc: Global,
     socket: &mut WebSocket<S, NoMask>,
-    answer: &[Message],
+    texts: &[Vec<u8>],
 ) -> Result<(), Error>
-    ensures sends { OnOk result (SendsAnswer S.contents socket.old (map seen_message answer.now) socket.new) }
-    ensures stops { IfErr result (λ e. StopsAnswer S.contents socket.old (map seen_message answer.now) e socket.new) }
+    ensures sends { OnOk result (SendsEach S.contents socket.old (map (λ text. text.items) texts.now) socket.new) }
+    ensures stops { IfErr result (λ e. StopsSending S.contents socket.old (map (λ text. text.items) texts.now) e socket.new) }
 {
-    let texts = written(alloc, answer)?;
-    write_each(alloc, socket, &texts)?;
+    write_each(alloc, socket, texts)?;
     socket.flush()
 }
 
@@ -134,8 +151,20 @@ fn write_each<S: Read + Write + Drop>(
     ensures stops { IfErr result (λ e. StopsWriting S.contents socket.old (map (λ text. text.items) texts.now) e socket.new) }
 {
     for text in texts {
-        let frame = Frame::binary(alloc, text)?;
-        socket.write(frame)?;
+        write_text(alloc, socket, text)?;
     }
     Ok(())
+}
+
+// Puts a text into the socket's output, as a binary message.
+fn write_text<S: Read + Write + Drop>(
+    alloc: Global,
+    socket: &mut WebSocket<S, NoMask>,
+    text: &[u8],
+) -> Result<(), Error>
+    ensures writes { OnOk result (Writes S.contents socket.old socket.new (write_step socket.old.conn (binary text.now))) }
+    ensures refuses { IfErr result (λ e. RefusesText S.contents socket.old text.now e socket.new) }
+{
+    let frame = Frame::binary(alloc, text)?;
+    socket.write(frame)
 }

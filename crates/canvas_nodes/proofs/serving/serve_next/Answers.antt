@@ -1,9 +1,6 @@
-use Rattle.std.proofs.Common.{refl, subst, Result, Err}
+use Rattle.std.proofs.Common.{refl}
 use Rattle.std.proofs.lemmas.Result.{err_from_is_err_and, IfErr-weaker, IfOk-weaker}
 use mathlib.Core.Logic.{inl, inr}
-use Rattle.tungstenite.specs.Socket.{Reads}
-use Rattle.tungstenite.specs.declared.error.Error.{Error}
-use Rattle.tungstenite.specs.declared.message.Message.{Message as Frame}
 use Rattle.canvas_nodes.proofs.serving.serve_next.Goals as goal
 
 pub returns-clause-turns : goal.returns-clause-turns
