@@ -23,9 +23,13 @@ use std::net::{Net, TcpListener, TcpStream};
 use std::random::RandomSource;
 use std::sync::{Barrier, Wait};
 use std::thread::{Promise, PromisedHandle, Threads, join_promised, scope, scope_env};
+use std::time::Duration;
 
 /// How many shapes each client makes on its page.
 const SHAPES: u32 = 7;
+
+/// For how many seconds a client waits for an answer.
+const SILENCE_SECONDS: u64 = 60;
 
 /// Serves the document of a folder at a free port of the own machine to two clients, in four threads of this process. Each makes a
 /// page and seven shapes on it, each after the former, while the other does, and exchanges; when both have, each exchanges again.
@@ -98,12 +102,23 @@ where
     let (_room, seats) = opened::<N, K, R>(rt, room)?;
     let address = door.listener.local_addr().map_err(|_| Fault::Device)?;
     // Both connections stand before one is accepted, so that none is waited for that never comes.
-    let first = connect(rt, address.port())?;
-    let second = connect(rt, address.port())?;
+    let first = connect_for_a_while(rt, address.port())?;
+    let second = connect_for_a_while(rt, address.port())?;
     let serve = |seat: Seat<N, Lock<K, N, R>>| -> Result<(), Fault>
         ensures { IfErr result IsMemoryOrDevice }
     { serve_next(rt, door, seat) };
     edit_both(rt, seats, &serve, first, second)
+}
+
+// Connects to a port of the own machine. Reading fails where nothing comes for a minute: so a client ends whose connection no seat took,
+// since accepting one failed.
+fn connect_for_a_while<R: Net<Stream = TcpStream>>(rt: &R, port: u16) -> Result<TcpStream, Fault>
+    ensures { IfErr result (λ fault. fault ≡ Fault.Device) }
+{
+    let stream = connect(rt, port)?;
+    let silence = Some(Duration::from_secs(SILENCE_SECONDS));
+    stream.set_read_timeout(silence).map_err(|_| Fault::Device)?;
+    Ok(stream)
 }
 
 // That a thread ends with no other fault than want of memory or a failed device.
