@@ -8,6 +8,7 @@ const INKS = ['#e9c46a', '#e08e6d', '#b4405f', '#8d7bb5', '#6f9ccf', '#7fb09a', 
 const SIZES = { frame: [260, 180], shape: [110, 76], text: [130, 22] };
 const NAMES = { frame: 'Frame', rect: 'Rectangle', ellipse: 'Ellipse', text: 'Text', shape: 'Shape', page: 'Page' };
 const MOVED = 3;                                       // pixels from which on a press is a drag
+const DEEPEST = 98;                                    // how deep the list goes, from 0 for what stands on the page: the rules allow no more
 const at = (id) => document.getElementById(id);
 
 // The number of the window, under which its client is kept: it stays where the page is loaded anew.
@@ -71,16 +72,17 @@ function originOf(id) {
 
 // The frontmost frame of the page at this point of the board, but for one and what is in it; else the page.
 function holderAt([x, y], except) {
-  const under = (id, left, top) => {
+  const under = (id, left, top, depth) => {
+    if (depth > DEEPEST) return null;
     for (const child of [...(objects.get(id)?.children ?? [])].reverse()) {
       const object = objects.get(child);
       if (!object || object.kind !== 'frame' || child === except) continue;
       const [dx, dy] = spotOf(object), [w, h] = sizeOf(object), a = left + dx, b = top + dy;
-      if (x >= a && y >= b && x < a + w && y < b + h) return under(child, a, b) ?? child;
+      if (x >= a && y >= b && x < a + w && y < b + h) return under(child, a, b, depth + 1) ?? child;
     }
     return null;
   };
-  return under(page, 0, 0) ?? page;
+  return under(page, 0, 0, 0) ?? page;
 }
 
 // ---- drawing ---------------------------------------------------------------------------------------------------
@@ -120,27 +122,28 @@ function draw(object) {
   label.textContent = object.kind === 'text' ? textOf(object.properties.text) || labelOf(object) : textOf(object.properties.name);
 }
 
-// The children of an object's element, in the order of the tree.
-function order(object) {
-  const holder = object.id === ROOT ? at('objects') : drawn.get(object.id)?.inner;
+// The elements of these children, and no other, in an object's element.
+function order(id, children) {
+  const holder = id === ROOT ? at('objects') : drawn.get(id).inner;
   let before = null;
-  for (const child of object.children) {
+  for (const child of children) {
     const { group } = drawn.get(child) ?? {};
     if (!group) continue;
     const next = before ? before.nextSibling : holder.firstChild;
     if (group !== next) holder.insertBefore(group, next);
     before = group;
   }
+  while (holder.lastChild !== before) holder.lastChild.remove();
 }
 
 function takeTree({ put, gone }) {
   for (const id of gone) { objects.delete(id); drawn.get(id)?.group.remove(); drawn.delete(id); }
   for (const object of put) { objects.set(object.id, object); if (object.kind !== 'document') draw(object); }
-  for (const object of put) order(object);
   if (chosen && !objects.has(chosen)) choose(null);
   if (!objects.has(page)) page = objects.get(ROOT)?.children[0] ?? null;
+  order(ROOT, objects.get(ROOT)?.children ?? []);
   for (const id of objects.get(ROOT)?.children ?? []) drawn.get(id)?.group.setAttribute('display', id === page ? 'inline' : 'none');
-  drawLists();
+  drawPage();
   drawMarks();
   fillPanel();
 }
@@ -157,6 +160,13 @@ function row(object, depth, isChosen) {
   return li;
 }
 
+function rowOfMore(depth) {
+  const li = document.createElement('li');
+  li.style.paddingLeft = `${8 + 14 * depth}px`;
+  li.textContent = '..and what lies below';
+  return li;
+}
+
 // Puts rows into a list. One that is the same stays the same element: else a click would be lost where somebody edits between press and release.
 function fill(list, rows) {
   const before = [...list.children];
@@ -164,17 +174,22 @@ function fill(list, rows) {
   rows.forEach((li, k) => { if (li.outerHTML !== before[k].outerHTML) before[k].replaceWith(li); });
 }
 
-// The frontmost object is the first of the list, as what is in front hides what is behind.
-function drawLists() {
+// What is on the page and in the list. The frontmost object is the first of the list, as what is in front hides what is behind. What lies
+// deeper than the rules allow, as a server that breaks them can tell, is one row and isn't drawn: the browser can't draw any depth.
+function drawPage() {
   const rows = [], walk = (id, depth) => {
-    for (const child of [...(objects.get(id)?.children ?? [])].reverse()) {
+    const { children } = objects.get(id), isTooDeep = depth > DEEPEST;
+    order(id, isTooDeep ? [] : children);
+    if (isTooDeep && children.length) rows.push(rowOfMore(depth));
+    if (isTooDeep) return;
+    for (const child of [...children].reverse()) {
       const object = objects.get(child);
       if (!object) continue;
       rows.push(row(object, depth, child === chosen));
       walk(child, depth + 1);
     }
   };
-  if (page) walk(page, 0);
+  if (objects.has(page)) walk(page, 0);
   fill(at('list'), rows);
   const pages = (objects.get(ROOT)?.children ?? []).map((id) => objects.get(id)).filter(Boolean);
   fill(at('pages'), pages.map((object) => row(object, 0, object.id === page)));
@@ -246,7 +261,7 @@ function fillHolders(object) {
     const holder = objects.get(id);
     if (!holder || (id !== page && holder.kind !== 'frame') || id === object.id) return;
     options.push(new Option(`${'\u2003'.repeat(depth)}${labelOf(holder)}`, id, false, id === object.parent));
-    holder.children.forEach((child) => add(child, depth + 1));
+    if (depth <= DEEPEST) holder.children.forEach((child) => add(child, depth + 1));
   };
   add(page, 0);
   at('into').replaceChildren(...options);
@@ -272,7 +287,7 @@ function reorder(by) {
 function choose(id) {
   chosen = id;
   if (document.activeElement instanceof HTMLInputElement) document.activeElement.blur();
-  drawLists();
+  drawPage();
   drawMarks();
   fillPanel();
 }
