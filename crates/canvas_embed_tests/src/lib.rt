@@ -11,6 +11,8 @@ mod edits;
 #[cfg(test)]
 mod messages;
 #[cfg(test)]
+mod places;
+#[cfg(test)]
 mod saves;
 #[cfg(test)]
 mod values;
