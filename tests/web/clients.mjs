@@ -4,7 +4,7 @@
 //     node --experimental-websocket clients.mjs LUGCURRANT [EDITS [SEED]] [--break]
 // With --break one client hears other values than the server told, so that the comparison has to fail.
 import { readFileSync } from 'node:fs';
-import { Client, ClientError, Link, compile } from '../../clients/web/lugcurrant.js';
+import { Client, ClientError, Link, ROOT, compile } from '../../clients/web/lugcurrant.js';
 import { Server, endAfter } from './server.mjs';
 
 const CLIENTS = 6, KILLS = 3;
@@ -62,6 +62,20 @@ for (let k = 1; k <= Number(edits); k++) {
   if (k % Math.ceil(Number(edits) / (KILLS + 1)) === 0 && made.kills < KILLS) { await server.restart(); count(made, 'kills'); }
 }
 for (const { link } of clients) link.offline = false;
+
+// An edit that the server has to refuse: what it is to stand in is deleted while its client is away.
+async function conflict(one, other) {
+  const page = one.client.create('page', ROOT);
+  one.link.wake();
+  while (!other.client.objects().has(page)) await sleep(20);
+  one.link.offline = true;
+  one.client.create('frame', page);
+  other.client.delete(page);
+  other.link.wake();
+  while (other.client.waiting) await sleep(20);
+  one.link.offline = false;
+}
+await conflict(clients[1], clients[2]);
 
 let shown = server.show();
 const isSettled = () => clients.every(({ client }) => client.version === shown.version && client.waiting === 0);

@@ -38,8 +38,9 @@ first.offline = false;
 await becomes(first, 'online');
 assert(await settled(first) && server.show().tree === first.client.text());
 
-const second = await link(), third = await link();
+const second = await link();
 await becomes(second, 'online');
+const third = await link();
 await becomes(third, 'no seat');
 second.close();
 await becomes(second, 'closed');
