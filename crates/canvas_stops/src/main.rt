@@ -1,0 +1,67 @@
+//! Scripts of a room over a journal in memory, whose device fails: a program that is run on a file of cases.
+//!
+//! These lines say what a case is about:
+//!
+//! - `record TEXT` adds a record to segment 1 of the shelf. Where no line says so, the shelf has no segment.
+//! - A message `["join",2]` or `["edit",..]` is submitted by the first of the room's two seats; several with ` & ` between are one batch of
+//!   the desk. `checkpoint` makes one. `read` tells what the second seat reads. These lines are the script.
+//!
+//! These ask:
+//!
+//! - `play`: what each line of the script is answered: the version of an entry, or why there is none. Then which version both seats read.
+//!   Then what is found after a crash that keeps of the bytes that aren't synced none, half, and all; and to which version the
+//!   script goes on there, from its first line whose entries aren't found.
+//! - `fuses` and `faults`: the same for each number of calls of the shelf that pass while all others fail, and for each call that fails
+//!   alone, up to the number at which none fails. Where the shelf isn't opened, also what opening it again comes to.
+#![tactic(auto)]
+
+mod bench;
+mod plays;
+mod shelves;
+mod steps;
+mod stops;
+
+use bench::Bench;
+use canvas_cases::{Answerer, run_cases};
+use std::alloc::{AllocError, Global};
+use std::io;
+use std::sync::Wait;
+use stops::answer_line;
+
+// Answers line by line.
+struct Stops<R: Wait + Copy + Drop> {
+    rt: R,
+    bench: Bench,
+}
+
+impl<R: Wait + Copy + Drop> Drop for Stops<R> {
+    fn drop(self) {
+        let Stops { rt: _, bench: _ } = self;
+    }
+}
+
+impl<R: Wait + Copy + Drop> Answerer for Stops<R> {
+    fn begin(&mut self, _alloc: Global) -> Result<(), AllocError> {
+        self.bench.clear();
+        Ok(())
+    }
+
+    fn answer(&mut self, alloc: Global, asked: &[u8], out: &mut Vec<u8>) -> Result<(), AllocError> {
+        for line in asked
+            .strip_suffix(b"\n")
+            .unwrap_or(asked)
+            .split(|byte| *byte == b'\n')
+        {
+            answer_line(self.rt, alloc, &mut self.bench, line, out)?;
+        }
+        Ok(())
+    }
+}
+
+fn main(rt: HostRuntime) -> io::Result<()> {
+    let mut stops = Stops {
+        rt,
+        bench: Bench::new(rt.alloc()),
+    };
+    run_cases(rt.alloc(), &mut stops, &mut rt.stdin(), &mut rt.stdout())
+}
