@@ -1,6 +1,6 @@
 // A library that is put before the C library's allocator (LD_PRELOAD). It counts each call of a program that asks for memory, and refuses
-// the one of number REFUSE_AT, the first being 1; none for 0. How many were asked for stands in the file REFUSE_FILE while the program
-// runs and after it, however it ends.
+// the one of number REFUSE_AT, the first being 1, and REFUSE_MORE behind it; none for 0. How many were asked for stands in the file
+// REFUSE_FILE while the program runs and after it, however it ends.
 #define _GNU_SOURCE
 #include <dlfcn.h>
 #include <errno.h>
@@ -13,6 +13,7 @@
 static atomic_ulong none;
 static atomic_ulong *asked = &none;
 static unsigned long refused;
+static unsigned long more;
 
 static unsigned long number(const char *name) {
     const char *text = getenv(name);
@@ -23,6 +24,7 @@ __attribute__((constructor)) static void begin(void) {
     const char *path = getenv("REFUSE_FILE");
     int file = path ? open(path, O_RDWR | O_CREAT, 0600) : -1;
     refused = number("REFUSE_AT");
+    more = number("REFUSE_MORE");
     if (file >= 0 && ftruncate(file, sizeof none) == 0) {
         void *page = mmap(0, sizeof none, PROT_READ | PROT_WRITE, MAP_SHARED, file, 0);
         if (page != MAP_FAILED) asked = page;
@@ -35,7 +37,7 @@ static int is_refused(void) {
     unsigned long at;
     if (asked == &none) return 0;
     at = atomic_fetch_add(asked, 1) + 1;
-    if (at != refused) return 0;
+    if (refused == 0 || at < refused || at - refused > more) return 0;
     errno = ENOMEM;
     return 1;
 }

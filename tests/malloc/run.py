@@ -1,5 +1,5 @@
 #!/usr/bin/env python3
-"""run.py SCENE CANVASD: refuses each call by which a program asks for memory, one in each run, until a run has no such call.
+"""run.py SCENE CANVASD STOPS: refuses each call by which a program asks for memory, one in each run, until a run has no such call.
 
 - `scene` with a log and with a world, and `canvasd show`: the program ends with status 3, `out of memory` and no output, or does as it does
   without.
@@ -9,6 +9,11 @@
 - `canvasd serve` with a session of a client, which asks what is answered No 7 once more, and comes back where its connection ends. Each of
   its edits then stands once, in order, also in the folder. Where the server can't begin to serve, or to write its last line, it ends with
   status 3; what was answered stands then too.
+- `canvas_stops` with a room's script, of which it says what each line is answered; then with two calls in a row refused. Each answer is that
+  of a room in the state that stands then: a line that is refused memory has changed nothing and is answered as usual the next time; an entry
+  that is owed (by a submit, a batch, or told by a checkpoint) is published by the next line, before that one's own; where memory is
+  refused inside of the shelf, Device is answered once, and then Failed. Each of the three is met. A program whose own call is refused ends
+  with status 1.
 
 Prints how many runs of each kind there were and what came of them; exits with 1 where something else came. A program of several threads
 asks in another order each time, so some call of it may be refused in two runs and another in none.
@@ -92,6 +97,22 @@ CHANGES = [
     ["create", ["ME", 3], "page", [[0, 0], "a"]],
     ["delete", ["ME", 3]],
 ]
+
+
+JOIN = '["join",2]'
+
+
+def edit_of(client, seq, change):
+    return json.dumps(["edit", client, seq, change], separators=(",", ":"))
+
+
+PAGE = edit_of(1, 1, ["create", [1, 1], "page", [[0, 0], "O"]])
+FRAME = edit_of(1, 2, ["create", [1, 2], "frame", [[1, 1], "O"]])
+NAME = edit_of(1, 3, ["set", [1, 2], "name", "Toolbar"])
+MOVE = edit_of(2, 1, ["move", [1, 2], [[1, 1], "a"]])
+BATCH = f"{NAME} & {MOVE} & {JOIN}"
+# What a room is asked, line by line.
+ROOM_SCRIPT = [JOIN, JOIN, JOIN, "read", PAGE, PAGE, "read", FRAME, "checkpoint", "checkpoint", FRAME, "read", BATCH, BATCH, "read", JOIN, "read"]
 
 
 class Wrong(Exception):
@@ -295,6 +316,118 @@ def serve(run, whole):
     return None, " and ".join(came) if server.returncode == 0 else "status 3 at the end"
 
 
+class Desk:
+    """What a room may answer, whatever it is refused: its version, the one that is published, and the clients' judged edits."""
+
+    def __init__(self):
+        self.version, self.shown, self.done, self.has_failed, self.pending = 0, 0, [], False, 0
+        self.came = collections.Counter()
+
+    def judge(self, request):
+        """What a request is answered; an entry's is its version, and takes effect."""
+        if request[0] == "edit":
+            client, seq = request[1:3]
+            if client > len(self.done):
+                return "Stranger"
+            done = self.done[client - 1]
+            if seq != done + 1:
+                return f"{'Gap' if seq > done else 'Repeat'} {{ done: {done} }}"
+            self.done[client - 1] = seq
+        else:
+            self.done.append(0)
+        self.version += 1
+        return self.version
+
+    def stops(self, told, requests):
+        """Whether this answer is none to the requests: the keeper failed, or memory was refused before any was judged."""
+        if self.has_failed or told == "Failed":
+            if not self.has_failed or told != "Failed":
+                raise Wrong(f"{told} {'after' if self.has_failed else 'before'} a failure")
+            return True
+        if told == "Device":
+            self.has_failed, self.pending = True, len(requests)
+            self.came["Device and then Failed"] += 1
+        if told == "Memory":
+            self.came["Memory"] += 1
+        return told in ("Device", "Memory")
+
+    def submit(self, requests, told):
+        """The answers to a batch, or to one request."""
+        if self.stops(told[0], requests):
+            return
+        self.shown = self.version
+        if "Memory" in told:
+            # It stops the batch there: the lines behind it are refused too.
+            self.came["Memory in a batch"] += 1
+            requests = requests[:told.index("Memory")]
+            told, rest = told[:len(requests)], told[len(requests):]
+            if set(rest) != {"Memory"}:
+                raise Wrong(f"{rest} in a batch")
+        wanted = [self.judge(request) for request in requests]
+        if told == [f"Owed {answer}" if isinstance(answer, int) else answer for answer in wanted] and self.version > self.shown:
+            self.came["Owed by a batch" if len(requests) > 1 else "Owed by a submit"] += 1
+        elif told == [str(answer) for answer in wanted]:
+            self.shown = self.version
+        else:
+            raise Wrong(f"{told} in place of {wanted}")
+
+    def checkpoint(self, told):
+        if self.stops(told, []):
+            return
+        if told == f"Owed {self.version}" and self.shown < self.version:
+            self.came["Owed told by a checkpoint"] += 1
+        elif told == "checkpoint":
+            self.shown = self.version
+        else:
+            raise Wrong(f"a checkpoint is answered {told}")
+
+    def read(self, told):
+        """What is published: all that isn't owed, and that too where the last line published it and was refused memory then."""
+        told = 0 if told == "nothing" else int(told)
+        if told not in (self.shown, self.version):
+            raise Wrong(f"{told} is read in place of {self.shown} or {self.version}")
+        self.shown = told
+
+
+def play_script(text):
+    """What a room's answers come to."""
+    if re.fullmatch(r"all: (device failed|out of memory); found 0 to \d+, 0 to \d+, 0 to \d+; again 0 to \d+", text):
+        return ["not opened"]
+    said, read, found = re.fullmatch(r"all: (.*); read (.*); found (.*)", text).groups()
+    told = re.findall(r"Owed \d+|reads \w+|\w+ \{ done: \d+ \}|\([^)]*\)|\w+", said)
+    desk = Desk()
+    for line, answer in zip(ROOM_SCRIPT, told, strict=True):
+        if line == "read":
+            desk.read(answer.split()[1])
+        elif line == "checkpoint":
+            desk.checkpoint(answer)
+        else:
+            answers = re.findall(r"Owed \d+|\w+ \{ done: \d+ \}|\w+", answer)
+            desk.submit([json.loads(message) for message in line.split(" & ")], answers)
+    for answer in read.split():
+        desk.read(answer)
+    for version in re.findall(r"(\d+) to", found):
+        if not desk.shown <= int(version) <= desk.version + desk.pending:
+            raise Wrong(f"{version} is found of {desk.shown} to {desk.version}")
+    return desk.came
+
+
+def room(more):
+    def play(run, whole):
+        given = "".join(f"> {line}\n" for line in [*ROOM_SCRIPT, "play"])
+        status, out, err = ran([run.programs["stops"]], given, {**run.environment(), "REFUSE_MORE": str(more)})
+        if whole and status == 1 and out == "":
+            return None, "status 1"
+        if status != 0:
+            raise Wrong(f"{status}, {out!r}, {err!r}")
+        came = play_script(out.strip().split("\n")[-1])
+        return out, " and ".join(sorted(came)) or "as without"
+    return play
+
+
+PATHS = ("Owed by a submit", "Owed by a batch", "Owed told by a checkpoint")
+
+
 def kinds(programs):
     yield "scene, a log", scene(LOG)
     yield "scene, a world", scene(WORLD)
@@ -302,6 +435,8 @@ def kinds(programs):
     yield "canvasd edit", edit
     yield "canvasd serve", serve
     yield "canvasd trial", trial
+    yield "a room", room(0)
+    yield "a room, two in a row", room(1)
 
 
 def one(programs, play, at, whole):
@@ -329,17 +464,19 @@ def each(programs, play, pool):
 
 
 def main():
-    room = tempfile.mkdtemp(prefix="malloc-")
-    programs = dict(zip(("scene", "canvasd"), map(os.path.abspath, sys.argv[1:])), library=f"{room}/refuse.so")
+    folder = tempfile.mkdtemp(prefix="malloc-")
+    programs = dict(zip(("scene", "canvasd", "stops"), map(os.path.abspath, sys.argv[1:])), library=f"{folder}/refuse.so")
     subprocess.run(["cc", "-shared", "-fPIC", "-O", "-o", programs["library"], f"{HERE}/refuse.c", "-ldl"], check=True)
-    wrong = []
+    wrong, met = [], ""
     with concurrent.futures.ThreadPoolExecutor(os.cpu_count()) as pool:
         for name, play in kinds(programs):
             came = each(programs, play, pool)
             wrong += [f"{name}: {what}" for what in came if what.startswith("wrong")]
             counts = collections.Counter(what for what in came if not what.startswith("wrong"))
+            met += "\n".join(came)
             print(f"{name}: {len(came)} runs, " + ", ".join(f"{times} {what}" for what, times in counts.most_common()), flush=True)
-    shutil.rmtree(room)
+    shutil.rmtree(folder)
+    wrong += [f"never met: {path}" for path in PATHS if path not in met]
     for line in wrong[:20]:
         print(line)
     print(f"{len(wrong)} went wrong")
