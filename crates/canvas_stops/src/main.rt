@@ -29,18 +29,18 @@ use std::sync::Wait;
 use stops::answer_line;
 
 // Answers line by line.
-struct Stops<R: Wait + Copy + Drop> {
+struct Rooms<R: Wait + Copy + Drop> {
     rt: R,
     bench: Bench,
 }
 
-impl<R: Wait + Copy + Drop> Drop for Stops<R> {
+impl<R: Wait + Copy + Drop> Drop for Rooms<R> {
     fn drop(self) {
-        let Stops { rt: _, bench: _ } = self;
+        let Rooms { rt: _, bench: _ } = self;
     }
 }
 
-impl<R: Wait + Copy + Drop> Answerer for Stops<R> {
+impl<R: Wait + Copy + Drop> Answerer for Rooms<R> {
     fn begin(&mut self, _alloc: Global) -> Result<(), AllocError> {
         self.bench.clear();
         Ok(())
@@ -59,9 +59,9 @@ impl<R: Wait + Copy + Drop> Answerer for Stops<R> {
 }
 
 fn main(rt: HostRuntime) -> io::Result<()> {
-    let mut stops = Stops {
+    let mut rooms = Rooms {
         rt,
         bench: Bench::new(rt.alloc()),
     };
-    run_cases(rt.alloc(), &mut stops, &mut rt.stdin(), &mut rt.stdout())
+    run_cases(rt.alloc(), &mut rooms, &mut rt.stdin(), &mut rt.stdout())
 }
