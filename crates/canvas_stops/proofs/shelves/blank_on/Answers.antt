@@ -1,0 +1,8 @@
+use Rattle.std.proofs.Common.{rules}
+use Rattle.canvas_journal.specs.Meaning.{IsCounted}
+use Rattle.canvas_stops.proofs.shelves.blank_on.Goals as goal
+
+pub blank_room-requires-clause-kept : goal.blank_room-requires-clause-kept
+blank_room-requires-clause-kept c honest =
+    let counted : IsCounted (c.in-Ok.opened.1, c.in-Ok.opened.2) = search rules in
+    record { keeps_is = record { at = c.in-Ok.ensures.keeps honest counted; ready = c.in-Ok.ensures.staged; next = search rules }; found = c.in-Ok.ensures.kept honest counted }
