@@ -1,0 +1,12 @@
+//! What is looked at before a folder is opened: whether its segments are what a crash leaves. Recovery takes a damaged length for the end of
+//! a segment, so a document may be lost that a person could mend.
+#![tactic(auto)]
+
+mod listed;
+mod loss;
+mod losses;
+mod parts;
+
+pub use listed::Listed;
+pub use loss::Loss;
+pub use losses::loss_of;
