@@ -1,5 +1,5 @@
 -- What is written of rows, and read back.
-use Rattle.std.specs.Prelude.{◌≡◌, ℕ, List, map}
+use Rattle.std.specs.Prelude.{◌≡◌, List, map}
 use Rattle.canvas_lines.specs.Lines.{lines_of}
 use Rattle.canvas_wire.specs.Text.{row_text}
 use Rattle.canvas_journal.specs.Found.{AreRowTexts}

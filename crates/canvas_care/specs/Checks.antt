@@ -1,11 +1,12 @@
 -- What is told of a folder that is checked.
-use Rattle.std.specs.Prelude.{◌≡◌, ◌-◌, ℕ, List, [], ◌∷◌, ◌++◌, length, codes, Option, Some, None}
+use Rattle.std.specs.Prelude.{◌-◌, ℕ, List, [], ◌∷◌, ◌++◌, length, codes, Option, Some, None}
 use Rattle.std.specs.Fmt.{decimal}
 use Rattle.std.specs.Io.KnownBytes.{Appends}
 use Rattle.canvas_shelf.specs.Disk.{Content, Segment, seen}
 use Rattle.canvas_shelf.specs.Records.{texts}
 use Rattle.canvas_journal.specs.Meaning.{Versioned}
 use Rattle.canvas_journal.specs.Found.{Finds, IsState, IsDamaged, size}
+use Rattle.canvas_care.specs.LossLines.{no_loss_line}
 use Rattle.canvas_care.specs.Taken.{Source, TakesFrom}
 
 -- how many bytes stand behind the whole records
@@ -37,9 +38,13 @@ taken_line None version = codes "recovery takes no segment: version " ++ decimal
 taken_line (Some s) version = taken_text s.number version (length s.behind)
 
 -- lines of some segments, of what is taken of them, and of a version were written
-abbrev pub WritesCheck : Option (List ℕ) → Option (List ℕ) → Type 0
-WritesCheck before after =
+abbrev pub WritesShelf : Option (List ℕ) → Option (List ℕ) → Type 0
+WritesShelf before after =
     (content : Content) × (source : Option Source) × (version : ℕ) × Appends before after (segment_lines content ++ taken_line source version)
+
+-- the same, and the line of no loss
+abbrev pub WritesCheck : Option (List ℕ) → Option (List ℕ) → Type 0
+WritesCheck before after = (between : Option (List ℕ)) × WritesShelf before between × Appends between after no_loss_line
 
 -- the lines of all segments of the disk, of the one that recovery takes, and of the version that it finds were written
 abbrev pub WritesCheckOf : List Segment → Option (List ℕ) → Option (List ℕ) → Type 0

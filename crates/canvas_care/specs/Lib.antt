@@ -8,3 +8,5 @@ pub mod Back
 pub mod Taken
 pub mod Checks
 pub mod Logs
+pub mod Losing
+pub mod LossLines

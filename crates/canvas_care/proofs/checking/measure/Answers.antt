@@ -1,4 +1,4 @@
-use Rattle.std.proofs.Common.{◌∙◌, length, refl, ap, arith}
+use Rattle.std.proofs.Common.{◌∙◌, length, ap, arith}
 use Rattle.canvas_care.proofs.Lines.{torn_on}
 use Rattle.canvas_care.proofs.checking.measure.Goals as goal
 

@@ -1,0 +1,36 @@
+-- How a loss is told.
+use Rattle.std.specs.Prelude.{◌≡◌, ℕ, List, ◌++◌, codes}
+use Rattle.std.specs.Fmt.{decimal}
+use Rattle.canvas_sums.specs.declared.fault.SumFault.{SumFault}
+use Rattle.canvas_sums.specs.declared.fault.SumFault.TheVariants.{Unreadable, Short, Changed}
+use Rattle.canvas_losses.specs.declared.loss.Loss.{Loss}
+use Rattle.canvas_losses.specs.declared.loss.Loss.TheVariants.{Sums, NoCheckpoint, NoCutRecord}
+
+-- the line of a folder of which nothing is lost
+abbrev pub no_loss_line : List ℕ
+no_loss_line = codes "no loss: a crash may have left it so\n"
+
+-- the line of a segment's sums that don't hold
+abbrev pub sums_line : ℕ → SumFault → List ℕ
+sums_line n (Unreadable good) = codes "loss: the sums of segment " ++ decimal n ++ codes " can't be read behind those of its first " ++ decimal good ++ codes " bytes\n"
+sums_line n (Short good named) = codes "loss: segment " ++ decimal n ++ codes " is shorter than it was: " ++ decimal named ++ codes " bytes were synced\n"
+sums_line n (Changed good named) =
+    codes "loss: of segment " ++ decimal n ++ codes " the bytes from " ++ decimal good ++ codes " to " ++ decimal named ++ codes " aren't those that were synced\n"
+
+-- the line of a loss
+abbrev pub loss_line : Loss → List ℕ
+loss_line (Sums n fault) = sums_line n fault
+loss_line (NoCheckpoint n at) = codes "loss: segment " ++ decimal n ++ codes " is no checkpoint that was cut short: it differs at offset " ++ decimal at ++ codes "\n"
+loss_line (NoCutRecord n at) = codes "loss: segment " ++ decimal n ++ codes " ends in more than a record that was cut short, from offset " ++ decimal at ++ codes " on\n"
+
+-- so many bytes hold
+abbrev pub good_of : SumFault → ℕ
+good_of (Unreadable good) = good
+good_of (Short good named) = good
+good_of (Changed good named) = good
+
+-- the loss is of this segment, which is as it was up to here
+abbrev pub IsPlaceOf : Loss → ℕ → ℕ → Type 0
+IsPlaceOf (Sums n fault) segment at = (segment ≡ n) × (at ≡ good_of fault)
+IsPlaceOf (NoCheckpoint n offset) segment at = (segment ≡ n) × (at ≡ offset)
+IsPlaceOf (NoCutRecord n offset) segment at = (segment ≡ n) × (at ≡ offset)
