@@ -1,0 +1,2 @@
+pub mod Prometheus
+pub mod Numbers
