@@ -9,13 +9,19 @@
 - origins: a page of the same host, of a named one, of a foreign one, and none.
 - identity: /document/ID connects, another ID doesn't; the ID stands in the answer, and stays after a restart.
 - kills: 16 clients edit while the server is killed KILLS (40) times; every edit that was answered is there at the end.
-- sizes: a message above --message-bytes ends its connection with code 1009, and the next client is served.
+- figures: the whole text of /metrics after a known session: edits judged and refused by each reason, Noes, syncs, a checkpoint.
+- sizes: an edit whose text has --message-bytes is judged, one of a byte more is answered No 8 and changes nothing, and a message above
+  twice as many ends its connection with code 1009; the next client is served.
+- large: a document of 100 MB is imported, served, and copied to a client in one message.
 - disk: on a disk that is full an edit is answered No 5 (or No 6, after a checkpoint that failed), the server ends with status 4 and its sentence, and every edit that was
   answered is there afterwards. (It mounts a small tmpfs, and passes where it may not.)
 - sentences: each fault that can be had has its sentence and its status.
 - rows: what `show --json` and `show --lines` write is imported to the same document; a folder that holds anything of a document isn't imported
   to; of rows that make no document the line is told.
 - restored: a backup's folder is restored with another identity, with which clients of the old document aren't served.
+- lost: a bit is turned in each byte of a folder's segment, in turn: each time the server ends with status 5, says where, and touches nothing. So
+  where a segment is cut below what was synced, and where one that is passed over isn't a checkpoint cut short. With --accept-loss it opens
+  the folder once the segments are copied, and never over an earlier copy. What a crash leaves is opened.
 - checked: `check` tells segments, whole records, torn rests and damage, and `log` the entries past the checkpoint; neither writes anything.
 - coming: six clients come, edit and go again for SECONDS (30), and the server's memory stays flat.
 
@@ -374,20 +380,150 @@ def kills(room):
     return f"{KILLS} kills, {len(answered)} answered edits, 0 lost"
 
 
+REASONS = ("is_root", "bad_id", "gone", "parent_gone", "bad_parent", "cycle", "crowded", "too_deep")
+NOES = ("stranger", "repeat", "gap", "full", "device", "failed", "memory", "too_large", "not_read")
+
+
+def metrics(seconds, **numbers):
+    """The text of /metrics with these numbers, and 0 for all others."""
+    def family(name, kind, value):
+        return f"# TYPE lugcurrant_{name} {kind}\nlugcurrant_{name} {value}\n"
+
+    def gauge(name, key):
+        return family(name, "gauge", numbers.get(key, 0))
+
+    def counter(name, key):
+        return family(f"{name}_total", "counter", numbers.get(key, 0))
+
+    def by_reason(name, reasons):
+        lines = [f'lugcurrant_{name}_total{{reason="{reason}"}} {numbers.get(reason, 0)}\n' for reason in reasons]
+        return f"# TYPE lugcurrant_{name}_total counter\n" + "".join(lines)
+
+    return "".join([
+        gauge("version", "version"), gauge("published_version", "version"), gauge("floor_version", "floor"), gauge("objects", "objects"),
+        gauge("clients", "clients"), counter("connections", "connections"), counter("turned_away", "turned_away"),
+        counter("requests", "requests"), counter("edits", "edits"), by_reason("refused", REASONS), by_reason("no", NOES),
+        counter("entries", "entries"), counter("syncs", "syncs"), counter("checkpoints", "checkpoints"),
+        family("checkpoint_seconds_total", "counter", seconds), gauge("checkpoint_bytes", "checkpoint_bytes")])
+
+
+def figures(room):
+    server = Server(room, "--message-bytes", "2000", "--quiet")
+    client = Client(server.port)
+    name, number = client.join(), 0
+
+    def edit(*change):
+        nonlocal number
+        number += 1
+        require(client.ask("edit", name, number, change) == [["idle"]], change, "isn't judged")
+
+    def no(reason, *message):
+        require(client.ask(*message) == [["no", reason]], message, "isn't answered No", reason)
+
+    def told(seconds, **numbers):
+        """Compares the numbers, once the server has looked at its document."""
+        time.sleep(0.5)
+        text = server.get("/metrics")[2].decode()
+        found = re.search(r"(?m)^lugcurrant_checkpoint_seconds_total ([0-9]+\.[0-9]{6})$", text)
+        require(found and (float(found.group(1)) > 0) == seconds, "the seconds of checkpoints:", text)
+        found_bytes = re.search(r"(?m)^lugcurrant_checkpoint_bytes ([0-9]+)$", text)
+        wanted = metrics(found.group(1), checkpoint_bytes=found_bytes and found_bytes.group(1), **numbers)
+        require(text == wanted, "the numbers are", [line for line in text.splitlines() if line not in wanted.splitlines()])
+
+    first, frame, shape = [name, 1], [name, 2], [name, 3]
+    edit("create", first, "page", [[0, 0], "O"])
+    edit("create", frame, "frame", [first, "O"])
+    edit("create", shape, "shape", [frame, "O"])
+    edit("set", shape, "name", "a\n\"b\"")
+    edit("move", [0, 0], [first, "O"])  # is_root
+    edit("delete", [0, 0])
+    edit("create", first, "page", [[0, 0], "g"])  # bad_id
+    edit("set", [name, 99], "name", 1)  # gone
+    edit("clear", [name, 99], "name")
+    edit("delete", [name, 99])
+    edit("create", [name, 4], "shape", [[name, 99], "O"])  # parent_gone
+    edit("create", [name, 4], "page", [frame, "O"])  # bad_parent
+    edit("move", frame, [frame, "g"])  # cycle
+    last = "O" * 127 + "P"
+    edit("create", [name, 4], "shape", [frame, "O" * 128])
+    edit("create", [name, 5], "shape", [frame, last])
+    edit("create", [name, 6], "shape", [frame, "O" * 128])  # crowded
+    above = first
+    for counter in range(10, 108):
+        edit("create", [name, counter], "frame", [above, "a"])
+        above = [name, counter]
+    edit("create", [name, 200], "frame", [above, "a"])
+    edit("create", [name, 201], "shape", [[name, 200], "a"])  # too_deep
+    no(1, "ask", 99, 0)
+    no(1, "edit", 99, 1, ["delete", first])
+    no(3, "edit", name, number + 2, ["delete", first])
+    no(8, "edit", name, number + 1, ["set", first, "text", "a" * 2000])
+    no(9, "welcome", 1)
+    no(9, "nonsense")
+    require(client.ask("edit", name, number, ["delete", first]) == [["idle"]], "a repeated edit isn't answered Idle")
+    counts = {"is_root": 2, "bad_id": 1, "gone": 3, "parent_gone": 1, "bad_parent": 1, "cycle": 1, "crowded": 1, "too_deep": 1}
+    noes = {"stranger": 2, "gap": 1, "too_large": 1, "not_read": 2}
+    told(False, version=number + 1, objects=105, clients=1, connections=1, requests=1, edits=number, entries=number + 1, syncs=number + 1,
+         **counts, **noes)
+    while number < 300:
+        edit("set", first, "count", number)
+    told(True, version=301, floor=256, objects=105, clients=1, connections=1, requests=2, edits=300, entries=301, syncs=301, checkpoints=1,
+         **counts, **noes)
+    client.leave()
+    server.kill()
+    server.start()
+    told(False, version=301, floor=301, objects=105, requests=1)
+    server.kill()
+    return "every number after 300 edits, of which 11 were refused, 6 Noes, a checkpoint and a restart"
+
+
+def text_of(message):
+    return json.dumps(message, separators=(",", ":"))
+
+
 def sizes(room):
     server = Server(room, "--message-bytes", "100000", "--quiet")
     client = Client(server.port)
     name = client.join()
-    first = page(name, 1)
-    require(client.ask("edit", name, 1, first) == [["idle"]], "an edit isn't judged")
-    require(client.ask("edit", name, 2, ["set", first[1], "text", "a" * 90000]) == [["idle"]], "an edit of 90,000 bytes isn't judged")
-    client.send(json.dumps(["edit", name, 3, ["set", first[1], "text", "a" * 110000]]).encode())
+    first = page(name, 1)[1]
+    require(client.ask("edit", name, 1, page(name, 1)) == [["idle"]], "an edit isn't judged")
+    bare = len(text_of(["edit", name, 2, ["set", first, "text", ""]]))
+    before = client.ask("ask", name, 0)
+    for number, text in ((2, "a" * (100001 - bare)), (2, "\u0001" * 17000), (2, ["list"] + ["ab"] * 20000)):
+        require(client.ask("edit", name, number, ["set", first, "text", text]) == [["no", 8]], "an edit that is too large is answered otherwise")
+    require(client.ask("ask", name, 0) == before, "an edit that is too large changes something")
+    for number, text in ((2, "a" * (100000 - bare)), (3, "\u0001" * 16000), (4, ["list"] + ["ab"] * 19980)):
+        require(client.ask("edit", name, number, ["set", first, "text", text]) == [["idle"]], "an edit that isn't too large isn't judged")
+    spaced = json.dumps(["edit", name, 5, ["set", first, "text", "a" * 90000]]) + " " * 100000
+    client.send(spaced.encode())
+    require(json.loads(client.frame()[1]) == ["idle"], "an edit in a long message isn't judged")
+    client.send(text_of(["edit", name, 6, ["set", first, "text", "a" * 200000]]).encode())
     opcode, payload = client.frame()
-    require(opcode == 8 and payload[:2] == struct.pack("!H", 1009), "a message of 110,000 bytes is answered", opcode, payload)
+    require(opcode == 8 and payload[:2] == struct.pack("!H", 1009), "a message of more than 200,000 bytes is answered", opcode, payload)
     again = Client(server.port)
-    require(again.ask("edit", name, 3, ["clear", first[1], "text"]) == [["idle"]], "the client isn't served again")
+    require(again.ask("edit", name, 6, ["clear", first, "text"]) == [["idle"]], "the client isn't served again")
+    require('lugcurrant_no_total{reason="too_large"} 3\n' in server.get("/metrics")[2].decode(), "the Noes aren't counted")
     server.kill()
-    return "a message above the limit ends its connection with 1009"
+    server = Server(room, "--message-bytes", "67108864", "--quiet")
+    again = Client(server.port)
+    require(again.ask("edit", name, 7, ["set", first, "text", "a" * 40_000_000]) == [["idle"]], "an edit of 40 MB isn't judged")
+    server.kill()
+    return "No 8 above the limit, 1009 above twice as much, and an edit of 40 MB where that is allowed"
+
+
+def large(room):
+    rows = ['[[0,0],"document",null,[]]']
+    rows += [text_of([[1, number], "page", [[0, 0], f"{number:04d}O"], [["text", "x" * 1_000_000]]]) for number in range(1, 101)]
+    require(call("import", room, text="\n".join(rows).encode()) == b"version 1, objects 101\n", "100 MB aren't imported")
+    server = Server(room, "--quiet")
+    client = Client(server.port)
+    name = client.join()
+    client.send(text_of(["ask", name, 0]).encode())
+    copy = client.frame()[1]
+    require(copy.startswith(b'["copy",2,0,[') and len(copy) > 100_000_000, "a copy of 100 MB is", len(copy), copy[:100])
+    require(json.loads(client.frame()[1]) == ["idle"], "the answer doesn't end")
+    server.kill()
+    return f"a copy of {len(copy)} bytes in one message"
 
 
 def disk(room):
@@ -556,21 +692,85 @@ def restored(room):
     return "the same document and version, another identity, and the backup as it was"
 
 
-def hurt(folder, at):
+def highest(folder):
+    """The name of the highest segment."""
+    return max(name for name in os.listdir(folder) if re.fullmatch(r"segment-\d{10}", name))
+
+
+def hurt(folder, at, bit=1):
     """Turns a bit of the byte at this offset of the highest segment."""
-    segment = os.path.join(folder, max(name for name in os.listdir(folder) if name.startswith("segment")))
-    with open(segment, "r+b") as damaged:
+    with open(os.path.join(folder, highest(folder)), "r+b") as damaged:
         damaged.seek(at)
         byte = damaged.read(1)
         damaged.seek(at)
-        damaged.write(bytes([byte[0] ^ 1]))
+        damaged.write(bytes([byte[0] ^ bit]))
+
+
+def copied(room, name):
+    """A copy of the folder beside it."""
+    other = os.path.join(os.path.dirname(room), name)
+    shutil.rmtree(other, ignore_errors=True)
+    return shutil.copytree(room, other)
+
+
+def opens(folder, *options):
+    """What a folder shows, once its server has opened it and was killed."""
+    server = Server(folder, *options)
+    require(server.get("/health")[0] == 200, "the server of", folder, "doesn't serve")
+    server.kill()
+    return shown(folder)
+
+
+def lost(room):
+    drawn(room, 60)
+    segment, whole = highest(room), shown(room)
+    with open(os.path.join(room, segment), "rb") as held:
+        content = held.read()
+    number, told = int(segment[8:]), "would lose something: segment"
+    serve = ("--port", "0", "--quiet")
+    for at in range(len(content)):
+        other = copied(room, "other")
+        hurt(other, at, 1 << at % 8)
+        before = files_of(other)
+        call("serve", other, *serve, status=5, told=f"segment {number} ")
+        require(files_of(other) == before, "a damaged folder is written to")
+    cut = copied(room, "cut")
+    os.truncate(os.path.join(cut, segment), len(content) - 30)
+    call("serve", cut, *serve, status=5, told=f"{told} {number} had {len(content)} bytes when it was synced, and has fewer")
+    above = copied(room, "above")
+    with open(os.path.join(above, f"segment-{number + 1:010}"), "wb") as other:
+        other.write(b"\0\0\1\x17[\"checkpoint\"")
+    call("serve", above, *serve, status=5, told=f"{told} {number + 1} is no checkpoint that a crash cut short, at offset ")
+    bare = copied(room, "bare")
+    os.remove(os.path.join(bare, segment + ".sum"))
+    hurt(bare, 0, 64)
+    call("serve", bare, *serve, status=5, told=told)
+    require(opens(bare, "--accept-loss") == "version 0\n0:0 document\n", "what is recovered of a bad first length is", shown(bare))
+    with open(os.path.join(bare, "lost", segment), "rb") as kept:
+        require(kept.read() == bytes([content[0] ^ 64]) + content[1:], "the lost segment isn't kept as it was")
+    hurt(bare, 0, 64)
+    os.makedirs(os.path.join(bare, "lost"), exist_ok=True)
+    with open(os.path.join(bare, "lost", highest(bare)), "wb"):
+        pass
+    call("serve", bare, *serve, "--accept-loss", status=4, told="can't be copied to")
+    require(opens(copied(room, "other")) == whole, "a folder that has lost nothing isn't opened")
+    torn = copied(room, "torn")
+    with open(os.path.join(torn, segment), "ab") as other:
+        other.write(b"\0\0\1\0[1,7,[\"set\"")
+    require(opens(torn) == whole, "a torn rest isn't what a crash leaves")
+    os.truncate(os.path.join(torn, highest(torn)), 80)
+    os.remove(os.path.join(torn, highest(torn) + ".sum"))
+    shutil.copy(os.path.join(room, segment), torn)
+    require(opens(torn) == whole, "a checkpoint that is cut short isn't what a crash leaves")
+    require(not os.path.exists(os.path.join(torn, "lost")), "what a crash leaves is copied")
+    return f"{len(content)} turned bits told, cuts, foreign segments, an accepted loss; what a crash leaves is opened"
 
 
 def checked(room):
     above = os.path.dirname(room)
     drawn(room, 290)
     before = files_of(room)
-    segment, content = max((name, held) for name, held in before.items() if name.startswith("segment"))
+    segment, content = highest(room), before[highest(room)]
     number, version = int(segment[8:]), int(call("show", room).split()[1])
     texts, at = [], 0
     while at < len(content):
@@ -581,17 +781,24 @@ def checked(room):
     require(0 < len(past) < version, "the entries past the checkpoint are", len(past))
     taken = f"recovery takes segment {number}: version {version}, entries past its checkpoint {len(past)}\n"
     segments = f"segment {number}: bytes {len(content)}, whole records {len(texts)}, torn rest 0\n"
-    require(call("check", room).decode() == segments + taken, "a folder is checked:", call("check", room))
+    kept = "no loss: a crash may have left it so\n"
+    require(call("check", room).decode() == segments + taken + kept, "a folder is checked:", call("check", room))
     wanted = [["entry", version - len(past) + at + 1, entry] for at, entry in enumerate(past)]
     require([json.loads(line) for line in call("log", room).splitlines()] == wanted, "the log is", call("log", room)[:200])
     require(files_of(room) == before, "check or log writes to the folder")
     with open(os.path.join(room, segment), "ab") as torn:
         torn.write(b"\0\0\0")
     with open(os.path.join(room, f"segment-{number + 1:010}"), "wb") as cut:
-        cut.write(content[:50])
-    segments = f"segment {number + 1}: bytes 50, whole records 1, torn rest {50 - texts[1][0]}\n" + segments.replace("rest 0", "rest 3").replace(
+        cut.write(content[:3])
+    segments = f"segment {number + 1}: bytes 3, whole records 0, torn rest 3\n" + segments.replace("rest 0", "rest 3").replace(
         f"bytes {len(content)}", f"bytes {len(content) + 3}")
-    require(call("check", room).decode() == segments + taken, "a torn folder is checked:", call("check", room))
+    require(call("check", room).decode() == segments + taken + kept, "a torn folder is checked:", call("check", room))
+    with open(os.path.join(room, f"segment-{number + 1:010}"), "wb") as other:
+        other.write(b"\0\0\1" + content[3:50])
+    told = call("check", room, status=5, told=f"in segment {number + 1} at offset 2: ").decode()
+    require(told.endswith(f"loss: segment {number + 1} is no checkpoint that was cut short: it differs at offset 2\n"), "a loss is told:", told)
+    with open(os.path.join(room, f"segment-{number + 1:010}"), "wb") as cut:
+        cut.write(content[:3])
     require([json.loads(line) for line in call("log", room).splitlines()] == wanted, "the log of a torn folder is another")
     for offset, _ in texts[1:]:
         other = os.path.join(above, "other")
@@ -650,7 +857,7 @@ def coming(room):
 
 def main():
     wrong = 0
-    for group in (reuse, full, quiet, pages, origins, identity, kills, sizes, disk, sentences, rows, restored, checked, coming):
+    for group in (reuse, full, quiet, pages, origins, identity, kills, figures, sizes, large, disk, sentences, rows, restored, lost, checked, coming):
         above = tempfile.mkdtemp()
         try:
             print(f"{group.__name__}: {group(os.path.join(above, 'room'))}", flush=True)

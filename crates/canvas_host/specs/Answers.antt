@@ -11,8 +11,8 @@ use Rattle.canvas_http.specs.Answers.{answer_text, sentence_text}
 use Rattle.canvas_http.specs.Heads.{Begins, request_of}
 use Rattle.canvas_http.specs.Sites.{SiteValue}
 use Rattle.canvas_http.specs.Texts.{kind_of, status_of}
-use Rattle.canvas_host.specs.declared.figures.Numbers.{Numbers}
-use Rattle.canvas_host.specs.Figures.{health_line}
+use Rattle.canvas_figures.specs.declared.numbers.Numbers.{Numbers}
+use Rattle.canvas_figures.specs.Numbers.{health_line, metrics_text}
 
 -- a client for which no seat is free is told to come again
 abbrev pub turned_away : SiteValue → List ℕ
@@ -25,7 +25,7 @@ IsAnswerTo site asked.Connection wants answer = answer ≡ turned_away site
 IsAnswerTo site (asked.File f) wants answer =
     ((bytes : List ℕ) × (answer ≡ answer_text site status.Ok (kind_of f) bytes wants)) ⊎ (answer ≡ sentence_text site status.NotFound wants)
 IsAnswerTo site asked.Health wants answer = (n : Numbers) × (answer ≡ answer_text site status.Ok kind.Text (health_line n) wants)
-IsAnswerTo site asked.Metrics wants answer = (numbers : List ℕ) × (answer ≡ answer_text site status.Ok kind.Metrics numbers wants)
+IsAnswerTo site asked.Metrics wants answer = (n : Numbers) × (answer ≡ answer_text site status.Ok kind.Metrics (metrics_text n) wants)
 IsAnswerTo site asked.Document wants answer = answer ≡ answer_text site status.Ok kind.Text (site.identity ++ 10 ∷ []) wants
 IsAnswerTo site (asked.Refused r) wants answer = answer ≡ sentence_text site (status_of r) wants
 

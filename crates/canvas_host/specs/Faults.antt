@@ -8,11 +8,17 @@ use Rattle.canvas_journal.specs.declared.fault.OpenError.{OpenError}
 use Rattle.canvas_journal.specs.declared.fault.OpenError.TheVariants as opening
 use Rattle.canvas_room.specs.declared.faults.RoomError.{RoomError}
 use Rattle.canvas_room.specs.declared.faults.RoomError.TheVariants as room
+use Rattle.canvas_shelf.specs.declared.shelf.ShelfError.{ShelfError}
+use Rattle.canvas_shelf.specs.declared.shelf.ShelfError.TheVariants as shelf
+use Rattle.canvas_watch.specs.declared.call.ShelfCall.{ShelfCall}
+use Rattle.canvas_care.specs.declared.fault.Fault as care
+use Rattle.canvas_care.specs.declared.fault.Fault.TheVariants as looked
+use Rattle.canvas_host.specs.Causes.{cause_text, loss_text}
 use Rattle.canvas_host.specs.declared.fault.Fault.{Fault}
-use Rattle.canvas_host.specs.declared.fault.Fault.TheVariants.{ClientCount, PortInUse, NoPort, FolderInUse, NoFolder, NoIdentity, Damaged, TooLarge, NoThread, JournalFailed, Memory}
+use Rattle.canvas_host.specs.declared.fault.Fault.TheVariants.{ClientCount, PortInUse, NoPort, FolderInUse, NoFolder, NoIdentity, Damaged, Lost, NotKept, TooLarge, NoThread, JournalFailed, Memory}
 
--- 2 for a wrong number of clients, 3 for want of memory, 5 for a damaged journal, 6 for one without room, and 4 for all that the system
--- refuses
+-- 2 for a wrong number of clients, 3 for want of memory, 5 for a journal that is damaged or would lose something, 6 for one without room,
+-- and 4 for all that the system refuses
 abbrev pub status_of : Fault → ℕ
 status_of ClientCount = 2
 status_of PortInUse = 4
@@ -21,9 +27,11 @@ status_of FolderInUse = 4
 status_of NoFolder = 4
 status_of NoIdentity = 5
 status_of (Damaged segment offset) = 5
+status_of (Lost loss) = 5
+status_of NotKept = 4
 status_of TooLarge = 6
 status_of NoThread = 4
-status_of JournalFailed = 4
+status_of (JournalFailed call) = 4
 status_of Memory = 3
 
 -- the sentence that tells of a fault at this folder and port
@@ -35,9 +43,12 @@ sentence FolderInUse dir port = codes "another server has the folder " ++ dir
 sentence NoFolder dir port = codes "the folder " ++ dir ++ codes " can't be read and written: look at its rights and at the disk"
 sentence NoIdentity dir port = codes "the file identity in " ++ dir ++ codes " isn't 32 hex digits: put the one of a backup in its place"
 sentence (Damaged segment offset) dir port = codes "the document in " ++ dir ++ codes " is damaged in segment " ++ decimal segment ++ codes " at offset " ++ decimal offset ++ codes ": put a backup in its place"
+sentence (Lost loss) dir port =
+    codes "opening " ++ dir ++ codes " would lose something: " ++ loss_text loss ++ codes "; put a backup in its place, or start with --accept-loss, which first copies the segments to " ++ dir ++ codes "/lost"
+sentence NotKept dir port = codes "what opening " ++ dir ++ codes " loses can't be copied to " ++ dir ++ codes "/lost: look at its rights and at the disk, and move away what is there"
 sentence TooLarge dir port = codes "the document in " ++ dir ++ codes " is too large for a checkpoint"
 sentence NoThread dir port = codes "no thread can be made: ask for fewer clients, or raise the system's limit"
-sentence JournalFailed dir port = codes "the disk of " ++ dir ++ codes " failed: what was acknowledged is kept; look at the disk, and start anew"
+sentence (JournalFailed call) dir port = codes "the disk of " ++ dir ++ codes " failed" ++ cause_text call ++ codes ": what was acknowledged is kept; look at the disk, and start anew"
 sentence Memory dir port = codes "out of memory"
 
 -- the fault that a folder that isn't opened is
@@ -52,6 +63,24 @@ fault_of_opening opening.Device = NoFolder
 fault_of_opening (opening.Damaged segment offset) = Damaged segment offset
 fault_of_opening opening.TooLarge = TooLarge
 fault_of_opening opening.Memory = Memory
+
+-- the fault that a folder that isn't looked at is
+abbrev pub fault_of_care : care.Fault → Fault
+fault_of_care looked.Stream = NoFolder
+fault_of_care looked.Device = NoFolder
+fault_of_care looked.InUse = FolderInUse
+fault_of_care looked.Taken = NoFolder
+fault_of_care looked.NoSegment = NoFolder
+fault_of_care (looked.BadLine n) = NoFolder
+fault_of_care looked.NoDocument = NoFolder
+fault_of_care (looked.Damaged segment offset) = Damaged segment offset
+fault_of_care looked.TooLarge = TooLarge
+fault_of_care looked.Memory = Memory
+
+-- the fault that a segment that isn't read is
+abbrev pub fault_of_shelf : ShelfError → Fault
+fault_of_shelf shelf.Device = NoFolder
+fault_of_shelf shelf.Memory = Memory
 
 -- the fault that a room that isn't made is
 abbrev pub fault_of_room : RoomError → Fault
@@ -76,10 +105,16 @@ IsOpeningFault clients FolderInUse = Unit {0}
 IsOpeningFault clients NoFolder = Unit {0}
 IsOpeningFault clients NoIdentity = Unit {0}
 IsOpeningFault clients (Damaged segment offset) = Unit {0}
+IsOpeningFault clients (Lost loss) = Unit {0}
+IsOpeningFault clients NotKept = Unit {0}
 IsOpeningFault clients TooLarge = Unit {0}
 IsOpeningFault clients NoThread = ⊥
-IsOpeningFault clients JournalFailed = ⊥
+IsOpeningFault clients (JournalFailed call) = ⊥
 IsOpeningFault clients Memory = Unit {0}
+
+-- why a folder isn't opened that may lose something
+abbrev pub IsLossFault : Fault → Type 0
+IsLossFault fault = (clients : ℕ) → IsOpeningFault clients fault
 
 -- why a server doesn't get its port and its document for so many clients
 abbrev pub IsPreparingFault : ℕ → Fault → Type 0
@@ -89,9 +124,13 @@ IsPreparingFault clients fault = IsPortFault fault ⊎ IsOpeningFault clients fa
 abbrev pub IsIdentityFault : Fault → Type 0
 IsIdentityFault fault = (fault ≡ NoIdentity) ⊎ (fault ≡ NoFolder) ⊎ (fault ≡ Memory)
 
+-- the journal failed, in this call or in one that isn't known
+abbrev pub IsJournalFault : Fault → Type 0
+IsJournalFault fault = (call : Option ShelfCall) × (fault ≡ JournalFailed call)
+
 -- why a server that has its document doesn't go on
 abbrev pub IsRunningFault : Fault → Type 0
-IsRunningFault fault = (fault ≡ NoThread) ⊎ (fault ≡ JournalFailed) ⊎ (fault ≡ Memory)
+IsRunningFault fault = (fault ≡ NoThread) ⊎ IsJournalFault fault ⊎ (fault ≡ Memory)
 
 -- what may end a server for so many clients
 abbrev pub IsServeFault : ℕ → Fault → Type 0

@@ -1,4 +1,7 @@
+pub mod Causes
 pub mod Faults
 pub mod Figures
 pub mod Answers
+pub mod Seats
 pub mod Shown
+pub mod Runs

@@ -90,7 +90,8 @@ fn serve<A: Answerer>(alloc: Global, shared: &Shared, answerer: &mut A, stream: 
         return End::NoHandshake;
     };
     let config = *socket.get_config();
-    socket.set_config(config.max_message_size(Some(shared.limits.message_bytes)));
+    let most = Some(shared.limits.message_bytes.saturating_mul(2));
+    socket.set_config(config.max_message_size(most).max_frame_size(most));
     match serve_one(alloc, answerer, &mut socket) {
         Ok(()) => End::Left,
         Err(error) => ended(&mut socket, &error),

@@ -2,9 +2,13 @@
 ghost use Rattle.std.specs.Prelude.{◌≡◌};
 ghost use Rattle.canvas_host.specs.Faults.{status_of};
 
+use crate::causes::{Cause, Lost};
 use canvas_folder::FolderError;
 use canvas_journal::OpenError;
+use canvas_losses::Loss;
 use canvas_room::RoomError;
+use canvas_shelf::ShelfError;
+use canvas_watch::ShelfCall;
 use std::alloc::{AllocError, AllocFailed};
 use std::fmt;
 
@@ -30,12 +34,22 @@ pub enum Fault {
         /// Where the record begins, in bytes from the beginning of the segment.
         offset: usize,
     },
+    /// Opening the folder would lose what no crash has left so.
+    Lost {
+        /// What it would lose.
+        loss: Loss,
+    },
+    /// What opening the folder loses couldn't be copied to its folder `lost`.
+    NotKept,
     /// The journal has no room for its checkpoint.
     TooLarge,
     /// A thread couldn't be made.
     NoThread,
     /// The journal failed while the server ran.
-    JournalFailed,
+    JournalFailed {
+        /// The first call of the folder that failed, where that is known.
+        call: Option<ShelfCall>,
+    },
     /// Memory was refused.
     Memory,
 }
@@ -52,9 +66,10 @@ impl Fault {
             | Fault::NoPort
             | Fault::FolderInUse
             | Fault::NoFolder
+            | Fault::NotKept
             | Fault::NoThread
-            | Fault::JournalFailed => 4,
-            Fault::NoIdentity | Fault::Damaged { .. } => 5,
+            | Fault::JournalFailed { .. } => 4,
+            Fault::NoIdentity | Fault::Damaged { .. } | Fault::Lost { .. } => 5,
             Fault::TooLarge => 6,
         }
     }
@@ -99,15 +114,29 @@ impl fmt::Display for Told<'_> {
                 f,
                 "the document in {dir} is damaged in segment {segment} at offset {offset}: put a backup in its place"
             ),
+            Fault::Lost { loss } => {
+                let lost = Lost(loss);
+                write!(
+                    f,
+                    "opening {dir} would lose something: {lost}; put a backup in its place, or start with --accept-loss, which first copies the segments to {dir}/lost"
+                )
+            }
+            Fault::NotKept => write!(
+                f,
+                "what opening {dir} loses can't be copied to {dir}/lost: look at its rights and at the disk, and move away what is there"
+            ),
             Fault::TooLarge => write!(f, "the document in {dir} is too large for a checkpoint"),
             Fault::NoThread => write!(
                 f,
                 "no thread can be made: ask for fewer clients, or raise the system's limit"
             ),
-            Fault::JournalFailed => write!(
-                f,
-                "the disk of {dir} failed: what was acknowledged is kept; look at the disk, and start anew"
-            ),
+            Fault::JournalFailed { call } => {
+                let cause = Cause(call);
+                write!(
+                    f,
+                    "the disk of {dir} failed{cause}: what was acknowledged is kept; look at the disk, and start anew"
+                )
+            }
             Fault::Memory => write!(f, "out of memory"),
         }
     }
@@ -171,6 +200,40 @@ impl From<RoomError> for Fault {
         match error {
             RoomError::SeatCount => Fault::ClientCount,
             RoomError::NoPlace | RoomError::Memory => Fault::Memory,
+        }
+    }
+}
+
+impl From<canvas_care::Fault> for Fault {
+    ghost use Rattle.canvas_host.specs.Faults.{fault_of_care};
+
+    ghost from_gives = { λ error fault. fault ≡ fault_of_care error };
+
+    fn from(error: canvas_care::Fault) -> Fault {
+        match error {
+            canvas_care::Fault::InUse => Fault::FolderInUse,
+            canvas_care::Fault::Damaged { segment, offset } => Fault::Damaged { segment, offset },
+            canvas_care::Fault::TooLarge => Fault::TooLarge,
+            canvas_care::Fault::Memory => Fault::Memory,
+            canvas_care::Fault::Stream
+            | canvas_care::Fault::Device
+            | canvas_care::Fault::Taken
+            | canvas_care::Fault::NoSegment
+            | canvas_care::Fault::BadLine { .. }
+            | canvas_care::Fault::NoDocument => Fault::NoFolder,
+        }
+    }
+}
+
+impl From<ShelfError> for Fault {
+    ghost use Rattle.canvas_host.specs.Faults.{fault_of_shelf};
+
+    ghost from_gives = { λ error fault. fault ≡ fault_of_shelf error };
+
+    fn from(error: ShelfError) -> Fault {
+        match error {
+            ShelfError::Device => Fault::NoFolder,
+            ShelfError::Memory => Fault::Memory,
         }
     }
 }

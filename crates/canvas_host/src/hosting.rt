@@ -1,11 +1,11 @@
 // What `lugcurrant serve` does: a room over the journal of a folder, whose seats serve clients for as long as it runs.
 ghost use Rattle.std.specs.Prelude.{◌≡◌, IfErr};
-ghost use Rattle.canvas_host.specs.Faults.{IsPreparingFault, IsRunningFault, IsServeFault};
+ghost use Rattle.canvas_host.specs.Faults.{IsJournalFault, IsPreparingFault, IsRunningFault, IsServeFault};
 
 use crate::fault::Fault;
 use crate::figures::Figures;
 use crate::identity::identity;
-use crate::opening::{FolderJournal, listen, open_room, opened};
+use crate::opening::{FolderJournal, FolderRoom, listen, open_room, opened};
 use crate::options::{Limits, Options, Shared};
 use crate::permits::Permits;
 use crate::tasks::{DoorTask, SeatTask, begin_task};
@@ -35,8 +35,8 @@ const DOORS: u32 = 16;
 /// The folder is made where it is missing, and nobody else can open it to write meanwhile. A `kill` at any moment is safe.
 ///
 /// The faults: `ClientCount`, only for fewer clients than 1 or more than 64; `PortInUse` and `NoPort`, where the port can't be had,
-/// and then the folder is left alone; `FolderInUse`, `NoFolder`, `Damaged` and `TooLarge`, where the document isn't opened;
-/// `NoThread`, where not all threads can be made; `Memory`; and `JournalFailed` later, once the device of the journal has failed.
+/// and then the folder is left alone; `FolderInUse`, `NoFolder`, `NoIdentity`, `Damaged`, `Lost`, `NotKept` and `TooLarge`, where the document
+/// isn't opened; `NoThread`, where not all threads can be made; `Memory`; and `JournalFailed` later, once the device of the journal has failed.
 pub fn serve<R>(rt: &R, files: HostRuntime, options: Options) -> Fault
 where
     R: Net<Listener = TcpListener, Stream = TcpStream>
@@ -77,10 +77,16 @@ where
         message_bytes,
         origins,
         page,
+        accept_loss,
         quiet,
     } = options;
     let listener = listen(rt, port)?;
-    let (room, removed) = open_room(files, &dir, clients as usize)?;
+    let FolderRoom {
+        room,
+        removed,
+        meter,
+        notes,
+    } = open_room(files, &dir, clients as usize, accept_loss)?;
     let site = Site {
         origins,
         identity: identity(&files, &dir)?,
@@ -90,7 +96,7 @@ where
         listener,
         site,
         page,
-        figures: Figures::new(),
+        figures: Figures::new(meter, notes),
         copies: Permits::new(rt, MOST_COPIES)?,
         removed,
         limits: Limits {
@@ -226,12 +232,13 @@ where
     N: RoomName,
     K: Keeper + Drop,
     R: Wait + Clock + Drop,
-    ensures { result ≡ Fault.JournalFailed }
+    ensures { IsJournalFault result }
 {
     for _ in rt.forever() {
         if glance(rt, room, shared) {
             sleep(rt, Duration::from_secs(GRACE_SECONDS));
-            return Fault::JournalFailed;
+            let call = shared.figures.failed_call();
+            return Fault::JournalFailed { call };
         }
         sleep(rt, Duration::from_millis(GLANCE_MILLIS));
     }

@@ -3,22 +3,25 @@
 
 mod answers;
 mod caring;
+mod causes;
 mod connections;
 mod doors;
 mod fault;
 mod figures;
 mod hosting;
 mod identity;
+mod losing;
+mod noes;
 mod opening;
 mod options;
 mod permits;
 mod running;
 mod seated;
+mod shelf;
 mod tasks;
 mod words;
 
 pub use fault::{Fault, Told};
-pub use figures::{Figures, Numbers};
 pub use hosting::serve;
 pub use options::Options;
 pub use running::run;

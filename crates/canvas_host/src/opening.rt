@@ -3,13 +3,18 @@ ghost use Rattle.std.specs.Prelude.{◌≡◌, IfErr, IfOk, length};
 ghost use Rattle.canvas_host.specs.Faults.{IsOpeningFault, IsPortFault};
 
 use crate::fault::Fault;
+use crate::losing::guard;
+use crate::shelf::FolderShelf;
 use canvas_board::{Opening, RoomName};
-use canvas_folder::{DirShelf, OsFolder, Removed};
+use canvas_folder::{DirShelf, Removed};
 use canvas_journal::{Journal, Keeper, open};
+use canvas_meter::{Meter, Metered};
 use canvas_room::{BlankRoom, Lock, Room, Seat, blank_room};
+use canvas_watch::{Notes, SumFiles, Watched};
+use std::alloc::Global;
 use std::io::ErrorKind;
 use std::net::{Ipv4Addr, Net, SocketAddr, TcpListener};
-use std::sync::Wait;
+use std::sync::{Arc, Wait};
 
 /// Listens at a port of the own machine, or at any free one for 0.
 pub(crate) fn listen<R: Net>(rt: &R, port: u16) -> Result<R::Listener, Fault>
@@ -26,29 +31,55 @@ pub(crate) fn listen<R: Net>(rt: &R, port: u16) -> Result<R::Listener, Fault>
     }
 }
 
-/// The journal of a folder.
-pub(crate) type FolderJournal = Journal<DirShelf<OsFolder<HostRuntime>>>;
+/// The journal of a folder, which is counted.
+pub(crate) type FolderJournal = Metered<Journal<FolderShelf>, HostRuntime>;
 
-/// The room of a folder's document, without a name yet, with so many seats; and the files that the folder removes. The folder is made where
-/// it is missing, and locked.
+/// The room of a folder's document, without a name yet, and what others see of the folder meanwhile.
+pub(crate) struct FolderRoom {
+    /// The room.
+    pub(crate) room: BlankRoom<FolderJournal>,
+    /// The files that the folder removes.
+    pub(crate) removed: Removed,
+    /// What its journal counts.
+    pub(crate) meter: Arc<Meter, Global>,
+    /// What is noted of its calls.
+    pub(crate) notes: Notes,
+}
+
+/// Opens the room of a folder's document, with so many seats. The folder is made where it is missing, and locked. Where opening it would
+/// lose something, nothing is opened, unless that is accepted.
 pub(crate) fn open_room(
     files: HostRuntime,
     dir: &str,
     seats: usize,
-) -> Result<(BlankRoom<FolderJournal>, Removed), Fault>
-    ensures seats { IfOk result (λ opened. opened.0.seats ≡ seats) }
+    accept_loss: bool,
+) -> Result<FolderRoom, Fault>
+    ensures seats { IfOk result (λ opened. opened.room.seats ≡ seats) }
     ensures faults { IfErr result (IsOpeningFault seats) }
 {
     let alloc = files.alloc();
-    let shelf = DirShelf::new(files, dir)?;
+    let mut shelf = DirShelf::new(files, dir)?;
+    if let Err(fault) = guard(&files, dir, &mut shelf, accept_loss) {
+        return Err(fault);
+    }
     let removed = shelf.folder().removed().share()?;
+    let shelf = Watched::new(alloc, shelf, SumFiles::new(files, dir)?)?;
+    let notes = shelf.notes().share()?;
+    let shelf = FolderShelf { shelf };
     let (journal, state, version) = match open(alloc, shelf) {
         Ok(opened) => opened,
         Err((_shelf, error)) => return Err(Fault::from(error)),
     };
-    match blank_room(alloc, journal, Opening { state, version }, seats) {
-        Ok(room) => Ok((room, removed)),
-        Err((_journal, error)) => Err(Fault::from(error)),
+    let meter = Arc::new(alloc, Meter::new(version))?;
+    let keeper = Metered::new(journal, files, Arc::try_clone(&meter)?);
+    match blank_room(alloc, keeper, Opening { state, version }, seats) {
+        Ok(room) => Ok(FolderRoom {
+            room,
+            removed,
+            meter,
+            notes,
+        }),
+        Err((_keeper, error)) => Err(Fault::from(error)),
     }
 }
 

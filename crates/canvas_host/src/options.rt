@@ -17,12 +17,14 @@ pub struct Options {
     pub clients: u32,
     /// After how many seconds of silence a connection ends.
     pub idle_seconds: u64,
-    /// The most bytes that a message of a client may have.
+    /// The most bytes that the text of an edit may have. A message of more than twice as many ends its connection.
     pub message_bytes: usize,
     /// The origins whose pages may connect, beside the server's own.
     pub origins: Vec<String>,
     /// The folder of the page's files, where there is a page.
     pub page: Option<String>,
+    /// Whether the folder is opened although that loses something, which is copied to its folder `lost` first.
+    pub accept_loss: bool,
     /// Whether faults alone are told.
     pub quiet: bool,
 }

@@ -1,6 +1,7 @@
 // The program: its words, and the status that it ends with.
 ghost use Rattle.std.specs.Prelude.{string_bytes};
 ghost use Rattle.canvas_host.specs.Faults.{IsEnd, IsServed};
+ghost use Rattle.canvas_host.specs.Runs.{Does, IsRun};
 
 use crate::caring::{run_check, run_import, run_log, run_restore, run_rows, run_tree};
 use crate::fault::{Fault, Told};
@@ -41,6 +42,10 @@ where
     I: Read,
     W: Write,
     F: Write,
+    ensures { IsRun result
+        (I.remaining input.old) (I.remaining input.new)
+        (W.contents output.old) (W.contents output.new)
+        (F.contents faults.old) (F.contents faults.new) }
 {
     let asked = match read_words(rt.alloc(), words) {
         Ok(asked) => asked,
@@ -49,6 +54,38 @@ where
             Err(_) => 4,
         },
     };
+    carry_out(rt, files, asked, input, output, faults)
+}
+
+// Does what is asked for.
+fn carry_out<R, I, W, F>(
+    rt: &R,
+    files: HostRuntime,
+    asked: Asked,
+    input: &mut I,
+    output: &mut W,
+    faults: &mut F,
+) -> u8
+where
+    R: Net<Listener = TcpListener, Stream = TcpStream>
+        + Threads
+        + Wait
+        + Clock
+        + Eprint
+        + AllocGlobal
+        + Clone
+        + Send
+        + Sync
+        + Drop
+        + 'static,
+    I: Read,
+    W: Write,
+    F: Write,
+    ensures { Does asked result
+        (I.remaining input.old) (I.remaining input.new)
+        (W.contents output.old) (W.contents output.new)
+        (F.contents faults.old) (F.contents faults.new) }
+{
     match asked {
         Asked::Serve(options) => run_server(rt, files, options, faults),
         Asked::Show { dir, layout } => match layout {

@@ -1,14 +1,15 @@
 // A seat as a server that goes on has it.
 ghost use Rattle.std.specs.Prelude.{◌≡◌, IfOk, map};
 ghost use Rattle.canvas_judge.specs.Seen.{seen_message};
-ghost use Rattle.canvas_nodes.specs.Answers.{IsAnswer};
-ghost use Rattle.canvas_front.specs.Table.{Gives};
+ghost use Rattle.canvas_nodes.specs.Answers.{IsAnswer, refused};
+ghost use Rattle.canvas_host.specs.Seats.{SeatGives};
 
 use crate::options::Shared;
 use canvas_board::RoomName;
 use canvas_front::SeatAnswerer;
 use canvas_journal::Keeper;
-use canvas_judge::Message;
+use canvas_judge::{Message, NoReason};
+use canvas_limit::is_too_large;
 use canvas_nodes::Answerer;
 use canvas_room::{Lock, Seat};
 use std::alloc::{AllocError, Global};
@@ -16,40 +17,43 @@ use std::marker::Model;
 use std::sync::Wait;
 use std::time::Clock;
 
-/// A seat that answers clients, makes checkpoints at the pace of its document, and copies the document only with a permit. Contracts
-/// see it as its seat.
+/// A seat that answers clients, refuses edits that are too large, makes checkpoints at the pace of its document, copies the document only
+/// with a permit, and counts its Noes. Contracts see what its seat has seen, and the limit of an edit's text.
 ///
 /// It has its permit until the copy has left, or its connection has ended. Once an answer has left, it closes a file that the folder has
 /// removed, if there is one.
 pub(crate) struct Seated<'a, N: RoomName, D: Drop, W: Drop> {
+    alloc: Global,
     answerer: SeatAnswerer<N, D, W>,
     rt: W,
     shared: &'a Shared,
     has_permit: bool,
+    has_answered: bool,
 }
 
 impl<N: RoomName, D: Drop, W: Drop> Drop for Seated<'_, N, D, W> {
     fn drop(self) {
         let Seated {
+            alloc: _,
             answerer: _,
             rt: _,
             shared: _,
             has_permit: _,
+            has_answered: _,
         } = self;
     }
 }
 
 impl<'a, N: RoomName, D: Drop, W: Drop> Model for Seated<'a, N, D, W> {
-    ghost use Rattle.std.specs.Prelude.{List};
     ghost use Rattle.std.specs.Coded.{codes};
     ghost use Rattle.canvas_model.specs.Codes.{value_code};
-    ghost use Rattle.canvas_board.specs.Marks.{Mark};
+    ghost use Rattle.canvas_host.specs.Seats.{SeatedValue};
 
-    ghost Value = { List Mark };
+    ghost Value = { SeatedValue };
 
     ghost coded = { Prim.hlevel (codes, value_code) };
 
-    ghost view = { λ a. a.answerer };
+    ghost view = { λ s. record { seen = s.answerer; limit = s.shared.now.limits.message_bytes } };
 }
 
 impl<'a, N: RoomName, D: Drop, W: Wait + Clock + Clone + Drop> Seated<'a, N, D, W> {
@@ -60,20 +64,23 @@ impl<'a, N: RoomName, D: Drop, W: Wait + Clock + Clone + Drop> Seated<'a, N, D, 
         seat: Seat<N, D>,
         shared: &'a Shared,
     ) -> Result<Seated<'a, N, D, W>, AllocError>
-        ensures { IfOk result (λ seated. seated ≡ seat) }
+        ensures { IfOk result (λ seated. seated ≡ record { seen = seat; limit = shared.now.limits.message_bytes }) }
     {
         Ok(Seated {
+            alloc,
             answerer: SeatAnswerer::new(alloc, rt.clone()?, seat),
             rt,
             shared,
             has_permit: false,
+            has_answered: false,
         })
     }
 
-    /// Gives its permit back, if it has one.
+    /// Gives its permit back, if it has one, and forgets what it has answered.
     pub(crate) fn rest(&mut self)
         ensures { self.new ≡ self.old }
     {
+        self.has_answered = false;
         if self.has_permit {
             self.shared.copies.give(&self.rt);
             self.has_permit = false;
@@ -97,6 +104,50 @@ impl<'a, N: RoomName, D: Drop, W: Wait + Clock + Clone + Drop> Seated<'a, N, D, 
             Err(AllocError)
         }
     }
+
+    // Counts an answer that is a No.
+    fn count(&mut self, answer: &Result<Vec<Message>, AllocError>)
+        ensures { self.new ≡ self.old }
+    {
+        self.has_answered = true;
+        match answer {
+            Ok(messages) => if let Some(Message::No(reason)) = messages.last() {
+                self.shared.figures.refuse(*reason);
+            },
+            Err(_) => self.shared.figures.refuse(NoReason::Memory),
+        }
+    }
+
+    // An answer that refuses an edit as too large.
+    fn too_large(&self) -> Result<Vec<Message>, AllocError>
+        ensures { IfOk result (λ answer. map seen_message answer.items ≡ refused NoReason.TooLarge) }
+    {
+        let mut answer = Vec::with_capacity(self.alloc, 1)?;
+        answer.push_reserved(Message::No(NoReason::TooLarge));
+        Ok(answer)
+    }
+}
+
+impl<'a, K, N, R, W> Seated<'a, N, Lock<K, N, R>, W>
+where
+    K: Keeper + Drop,
+    N: RoomName,
+    R: Wait + Drop,
+    W: Wait + Clock + Clone + Drop,
+{
+    // What is answered a message. Fails only where memory is refused.
+    fn answered(&mut self, message: &Message) -> Result<Vec<Message>, AllocError>
+        ensures gives { IfOk result (λ answer. SeatGives N.opening self.old (seen_message message.now) (map seen_message answer.items) self.new) }
+        ensures whole { IfOk result (λ answer. IsAnswer (map seen_message answer.items)) }
+    {
+        if is_too_large(self.alloc, message, self.shared.limits.message_bytes)? {
+            return self.too_large();
+        }
+        self.prepare(message)?;
+        self.answerer
+            .checkpoint_at(self.shared.figures.checkpoint_at());
+        self.answerer.answer(message)
+    }
 }
 
 impl<'a, K, N, R, W> Answerer for Seated<'a, N, Lock<K, N, R>, W>
@@ -106,18 +157,21 @@ where
     R: Wait + Drop,
     W: Wait + Clock + Clone + Drop,
 {
-    ghost use Rattle.canvas_front.specs.Table.{Gives};
+    ghost use Rattle.canvas_host.specs.Seats.{SeatGives};
 
-    ghost gives = { Gives N.opening };
+    ghost gives = { SeatGives N.opening };
 
     fn answer(&mut self, message: &Message) -> Result<Vec<Message>, AllocError> {
-        self.prepare(message)?;
-        self.answerer
-            .checkpoint_at(self.shared.figures.checkpoint_at());
-        self.answerer.answer(message)
+        let answer = self.answered(message);
+        self.count(&answer);
+        answer
     }
 
+    // Where it wasn't asked for an answer, the message couldn't be read.
     fn sent(&mut self) {
+        if !self.has_answered {
+            self.shared.figures.refuse(NoReason::NotRead);
+        }
         self.rest();
         self.shared.removed.close();
     }

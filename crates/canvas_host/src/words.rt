@@ -185,6 +185,14 @@ fn serve_command<'a>(alloc: Global) -> Result<Command<'a>, AllocError> {
                 .help("The folder of a page to serve at /"),
         )?
         .arg(
+            Arg::new(alloc, "accept-loss")
+                .long("accept-loss")
+                .action(ArgAction::SetTrue)
+                .help(
+                    "Open a folder that has lost something, once its segments are copied to its folder lost",
+                ),
+        )?
+        .arg(
             Arg::new(alloc, "quiet")
                 .long("quiet")
                 .action(ArgAction::SetTrue)
@@ -280,6 +288,7 @@ fn options_of(alloc: Global, matches: &ArgMatches<'_>) -> Result<Options, AllocE
         message_bytes: matches.get_one("message-bytes").unwrap_or(1 << 20),
         origins,
         page,
+        accept_loss: matches.get_flag("accept-loss"),
         quiet: matches.get_flag("quiet"),
     })
 }

@@ -16,7 +16,10 @@ returns-in_ok-line-in-Health g c =
 
 pub returns-in_ok-text-in-Metrics : goal.returns-in_ok-text-in-Metrics
 returns-in_ok-text-in-Metrics g c =
-    rw c.in-Metrics.is (IfOk-weaker c.write_answer-in-Metrics.result _ _ (λ answer h. (c.as_bytes-in-Metrics.result.now, h)) c.write_answer-in-Metrics.ensures)
+    let text = λ (body : List ℕ). answer_text (seen_site c.args.shared.now.site) status.Ok kind.Metrics body c.args.request.now.wants_body in
+    rw c.in-Metrics.is (IfOk-weaker c.write_answer-in-Metrics.result _ _
+    (λ answer h. (c.numbers-in-Metrics.result, h ∙ ap text (c.as_bytes-in-Metrics.ensures.value ∙ c.in_ok-text-in-Metrics.ensures)))
+    c.write_answer-in-Metrics.ensures)
 
 pub returns-in_ok-line-in-Document : goal.returns-in_ok-line-in-Document
 returns-in_ok-line-in-Document g c =

@@ -1,7 +1,7 @@
 use denote.Exit.{no}
 use denote.Param.{param}
 use denote.Param.Send.{param_send, arg_send}
-use Rattle.canvas_room.proofs.Sends.{Room-seat-send, lock}
+use Rattle.canvas_room.proofs.Sends.{Room-seat-send}
 use Rattle.canvas_host.proofs.Sends.{SeatTask-send}
 use Rattle.canvas_host.proofs.hosting.begin_seats.Goals as goal
 

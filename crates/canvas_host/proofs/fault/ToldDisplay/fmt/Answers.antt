@@ -9,4 +9,7 @@ pub returns-in-TooLarge-clause-writes : goal.returns-in-TooLarge-clause-writes
 returns-in-TooLarge-clause-writes g c = λ plain ok. rw c.in-TooLarge.is (c.write-in-TooLarge.ensures.writes plain ok)
 
 pub returns-in-JournalFailed-clause-writes : goal.returns-in-JournalFailed-clause-writes
-returns-in-JournalFailed-clause-writes g c = λ plain ok. rw c.in-JournalFailed.is (c.write-in-JournalFailed.ensures.writes plain ok)
+returns-in-JournalFailed-clause-writes g c = λ plain ok. rw c.in-JournalFailed.is (has_written_of_eq _ _ _ _ _ (simp append_assoc) (c.write-in-JournalFailed.ensures.writes plain ok))
+
+pub returns-in-NotKept-clause-writes : goal.returns-in-NotKept-clause-writes
+returns-in-NotKept-clause-writes g c = λ plain ok. rw c.in-NotKept.is (has_written_of_eq _ _ _ _ _ (simp append_assoc) (c.write-in-NotKept.ensures.writes plain ok))

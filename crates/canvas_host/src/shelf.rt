@@ -1,0 +1,62 @@
+// The shelf of a folder that a server has open.
+use canvas_folder::{DirShelf, OsFolder};
+use canvas_shelf::{CreateError, DeviceFailed, Shelf, ShelfError};
+use canvas_watch::{SumFiles, Watched};
+use std::alloc::Allocator;
+
+/// A folder of the process, which is watched.
+pub(crate) type WatchedFolder = Watched<DirShelf<OsFolder<HostRuntime>>, SumFiles<HostRuntime>>;
+
+/// The shelf of a folder of the process, which is watched: the sums of its segments are written, and the first call that fails is noted. It
+/// does what that shelf does, and has a name of its own, so that the types above it stay short.
+pub(crate) struct FolderShelf {
+    /// The shelf.
+    pub(crate) shelf: WatchedFolder,
+}
+
+impl Drop for FolderShelf {
+    fn drop(self) {
+        let FolderShelf { shelf: _ } = self;
+    }
+}
+
+impl Shelf for FolderShelf {
+    ghost disk = { λ s. ⟦<WatchedFolder as Shelf>⟧.disk s.shelf };
+
+    ghost past = { λ s. ⟦<WatchedFolder as Shelf>⟧.past s.shelf };
+
+    ghost honest = { λ s. ⟦<WatchedFolder as Shelf>⟧.honest s.shelf };
+
+    ghost failure_count = { λ s. ⟦<WatchedFolder as Shelf>⟧.failure_count s.shelf };
+
+    // Nothing is claimed of what a folder of the system holds (`OsFolder`).
+    ghost sound = { λ s h. record { falls = tt; segments = tt } };
+
+    fn list<A: Allocator>(&mut self, alloc: A) -> Result<Vec<u32, A>, ShelfError> {
+        self.shelf.list(alloc)
+    }
+
+    fn read<A: Allocator>(&mut self, alloc: A, number: u32) -> Result<Vec<u8, A>, ShelfError> {
+        self.shelf.read(alloc, number)
+    }
+
+    fn create(&mut self, number: u32) -> Result<(), CreateError> {
+        self.shelf.create(number)
+    }
+
+    fn append(&mut self, number: u32, bytes: &[u8]) -> Result<(), DeviceFailed> {
+        self.shelf.append(number, bytes)
+    }
+
+    fn sync(&mut self, number: u32) -> Result<(), DeviceFailed> {
+        self.shelf.sync(number)
+    }
+
+    fn retire(&mut self, number: u32) -> Result<(), DeviceFailed> {
+        self.shelf.retire(number)
+    }
+
+    fn failures(&self) -> u64 {
+        self.shelf.failures()
+    }
+}
