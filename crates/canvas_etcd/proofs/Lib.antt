@@ -1,0 +1,9 @@
+pub mod Results
+pub mod Held
+pub mod Images
+pub mod Sounds
+pub mod Lookups
+pub mod Safety
+pub mod Readiness
+pub mod Committing
+pub mod Fresh

@@ -1,0 +1,7 @@
+pub mod Opened
+pub mod Stores
+pub mod Listed
+pub mod Safe
+pub mod Rows
+pub mod Shelves
+pub mod Laws

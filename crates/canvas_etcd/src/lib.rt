@@ -1,0 +1,22 @@
+//! A document's segments in a replicated store of keys, as etcd, by a trait of store calls, and the shelf that it is: which calls in
+//! which order make it an honest one for as long as it owns the document.
+#![tactic(auto)]
+
+mod change;
+mod error;
+mod laws;
+mod opening;
+mod row;
+mod segments;
+mod shelf;
+mod state;
+mod store;
+mod writing;
+
+pub use change::Change;
+pub use error::EtcdError;
+pub use laws::{
+    every_note_keeps_a_shelf_sound, every_takeover_is_a_crash, every_takeover_of_what_stands,
+};
+pub use shelf::EtcdShelf;
+pub use store::{CHUNK, Standing, Store};

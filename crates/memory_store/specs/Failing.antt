@@ -1,0 +1,10 @@
+-- Which of the calls to come fail.
+use Rattle.std.specs.Prelude.{ℕ, ◌+◌, Bool, false, nat_le, ◌==◌}
+use Rattle.memory_store.specs.declared.failing.Failing.{Failing}
+use Rattle.memory_store.specs.declared.failing.Failing.TheVariants.{Never, After, Only}
+
+-- whether the call after so many others fails
+abbrev pub fails : Failing → ℕ → Bool
+fails Never n = false
+fails (After calls) n = nat_le calls n
+fails (Only call) n = n + 1 == call

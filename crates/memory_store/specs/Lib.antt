@@ -1,0 +1,4 @@
+pub mod Failing
+pub mod Held
+pub mod Shown
+pub mod Sound
