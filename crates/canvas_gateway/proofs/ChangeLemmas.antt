@@ -1,0 +1,29 @@
+-- The trees of changes have no floats, and are shallow.
+use Rattle.std.proofs.Common.{◌≡◌, ℕ, ◌≤◌, false, List, [], ◌∷◌, refl, arith}
+use Rattle.serde_json.specs.Data.{depth, items_depth}
+use Rattle.serde_json.specs.Written.{has_float, items_have_float}
+use Rattle.canvas_gateway.specs.declared.requests.Change.{Change}
+use Rattle.canvas_gateway.specs.declared.requests.Change.TheVariants.{Put, Remove}
+use Rattle.canvas_gateway.specs.Trees.{change_items, change_tree, commit_tree}
+
+no_float : (change : Change) → has_float (change_tree change) ≡ false
+no_float (Put key value lease) = refl
+no_float (Remove keys) = refl
+
+no_floats : (changes : List Change) → items_have_float (change_items changes) ≡ false
+no_floats [] = refl
+no_floats (change ∷ changes) = rw (no_float change) (no_floats changes)
+
+shallow : (change : Change) → depth (change_tree change) ≤ 2
+shallow (Put key value lease) = omega arith
+shallow (Remove keys) = omega arith
+
+all_shallow : (changes : List Change) → items_depth (change_items changes) ≤ 2
+all_shallow [] = omega arith
+all_shallow (change ∷ changes) = omega (arith, shallow change, all_shallow changes)
+
+pub commit_has_no_float : (key : List ℕ) (revision : ℕ) (changes : List Change) → has_float (commit_tree key revision changes) ≡ false
+commit_has_no_float key revision changes = rw (no_floats changes) refl
+
+pub commit_is_shallow : (key : List ℕ) (revision : ℕ) (changes : List Change) → depth (commit_tree key revision changes) ≤ 127
+commit_is_shallow key revision changes = omega (arith, all_shallow changes)

@@ -1,0 +1,6 @@
+pub mod AnswerLemmas
+pub mod BodyLemmas
+pub mod ChangeLemmas
+pub mod Decimals
+pub mod FieldLemmas
+pub mod PostLemmas

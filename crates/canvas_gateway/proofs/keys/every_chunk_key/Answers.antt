@@ -1,0 +1,5 @@
+use Rattle.canvas_gateway.proofs.Decimals.{every_key}
+use Rattle.canvas_gateway.proofs.keys.every_chunk_key.Goals as goal
+
+pub returns : goal.returns
+returns c = every_key

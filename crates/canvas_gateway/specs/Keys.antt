@@ -1,0 +1,55 @@
+-- The keys of a document in the store.
+use Rattle.std.specs.Prelude.{◌≡◌, ℕ, zero, suc, ◌+◌, ◌/◌, ◌%◌, ◌^◌, ◌<◌, Bool, ◌&&◌, ◌||◌, ◌==◌, nat_lt, nat_le, List, [], ◌∷◌, ◌++◌, length, codes}
+use Rattle.std.specs.List.{list_all}
+use Rattle.std.specs.Char.{is_ascii_alphanumeric}
+
+-- the last so many decimal digits of a number, the highest first
+abbrev pub digits : ℕ → ℕ → List ℕ
+digits zero n = []
+digits (suc count) n = digits count (n / 10) ++ (48 + n % 10) ∷ []
+
+-- the last ten decimal digits of a number
+unfoldable pub ten_digits : ℕ → List ℕ
+ten_digits n = digits 10 n
+
+-- a letter, a digit, `-`, `.` or `_`
+abbrev pub is_name_byte : ℕ → Bool
+is_name_byte b = is_ascii_alphanumeric b || (b == 45 || (b == 46 || b == 95))
+
+-- a document's name: 1 to 64 such bytes
+abbrev pub is_name : List ℕ → Bool
+is_name name = (nat_lt 0 (length name) && nat_le (length name) 64) && list_all is_name_byte name
+
+-- what the keys of a document begin with
+abbrev pub document_keys : List ℕ → List ℕ
+document_keys name = codes "lugcurrant/" ++ name
+
+-- the key of the document's owner
+abbrev pub owner_key : List ℕ → List ℕ
+owner_key name = document_keys name ++ codes "/owner"
+
+-- what the keys of all chunks begin with
+abbrev pub segments_key : List ℕ → List ℕ
+segments_key name = document_keys name ++ codes "/segment"
+
+-- what the keys of a segment's chunks begin with
+abbrev pub segment_key : List ℕ → ℕ → List ℕ
+segment_key name segment = segments_key name ++ codes "/" ++ ten_digits segment
+
+-- the key of a segment's chunk
+abbrev pub chunk_key : List ℕ → ℕ → ℕ → List ℕ
+chunk_key name segment chunk = segment_key name segment ++ codes "/" ++ ten_digits chunk
+
+-- different chunks of a document have different keys
+abbrev pub EachKeyIsOneChunk : Type 0
+EachKeyIsOneChunk = (name : List ℕ) (segment chunk other_segment other_chunk : ℕ)
+    → segment < 10 ^ 10 → chunk < 10 ^ 10 → other_segment < 10 ^ 10 → other_chunk < 10 ^ 10
+    → chunk_key name segment chunk ≡ chunk_key name other_segment other_chunk → (segment ≡ other_segment) × (chunk ≡ other_chunk)
+
+-- the first key of all that begin with these bytes and a slash
+abbrev pub first_below : List ℕ → List ℕ
+first_below key = key ++ codes "/"
+
+-- the first key behind these bytes and all that begin with them and a slash: `0` is the byte behind a slash
+abbrev pub first_behind : List ℕ → List ℕ
+first_behind key = key ++ codes "0"

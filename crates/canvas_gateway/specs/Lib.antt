@@ -1,0 +1,9 @@
+pub mod Answers
+pub mod Bodies
+pub mod Faults
+pub mod Heads
+pub mod Hosts
+pub mod Keys
+pub mod Numbers
+pub mod Posts
+pub mod Trees

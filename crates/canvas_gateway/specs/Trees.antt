@@ -1,0 +1,72 @@
+-- The JSON trees of what is asked of an etcd's gateway. Its keys and values are base64; where a number is 0, etcd takes it as absent.
+use Rattle.std.specs.Prelude.{ℕ, Bool, List, map, codes}
+use Rattle.base64.specs.Engines.{standard}
+use Rattle.base64.specs.GeneralPurpose.{encode_of}
+use Rattle.serde_json.specs.Data.{Data, boolean, number, unsigned, string, array, object, Items, no_items, item, no_members, member}
+use Rattle.serde_json.specs.View.{items_of}
+use Rattle.canvas_gateway.specs.declared.requests.Change.{Change}
+use Rattle.canvas_gateway.specs.declared.requests.Change.TheVariants.{Put, Remove}
+
+-- bytes in base64, as a text
+abbrev pub base64_text : List ℕ → Data
+base64_text bytes = string (encode_of standard bytes)
+
+-- a whole number
+abbrev pub whole : ℕ → Data
+whole n = number (unsigned n)
+
+-- the keys from one on up to another, which isn't one of them, with their values or without, at most so many where the limit isn't 0, and as they
+-- stood at a revision where that isn't 0
+abbrev pub range_tree : List ℕ → List ℕ → ℕ → Bool → ℕ → Data
+range_tree from to limit keys_only revision =
+    object (member (codes "key") (base64_text from)
+    (member (codes "keys_only") (boolean keys_only)
+    (member (codes "limit") (whole limit)
+    (member (codes "range_end") (base64_text to)
+    (member (codes "revision") (whole revision) no_members)))))
+
+-- that a key was written last at this revision, or that it isn't there where the revision is 0
+abbrev pub compare_tree : List ℕ → ℕ → Data
+compare_tree key revision =
+    object (member (codes "key") (base64_text key)
+    (member (codes "mod_revision") (whole revision)
+    (member (codes "result") (string (codes "EQUAL"))
+    (member (codes "target") (string (codes "MOD")) no_members))))
+
+-- that a key gets a value, and goes with a lease where that isn't 0
+abbrev pub put_tree : List ℕ → List ℕ → ℕ → Data
+put_tree key value lease =
+    object (member (codes "request_put")
+    (object (member (codes "key") (base64_text key)
+    (member (codes "lease") (whole lease)
+    (member (codes "value") (base64_text value) no_members)))) no_members)
+
+-- that keys go, from one on up to another, which isn't one of them
+abbrev pub remove_tree : List ℕ → List ℕ → Data
+remove_tree from to =
+    object (member (codes "request_delete_range")
+    (object (member (codes "key") (base64_text from)
+    (member (codes "range_end") (base64_text to) no_members))) no_members)
+
+-- a change
+abbrev pub change_tree : Change → Data
+change_tree (Put key value lease) = put_tree key.now value.now lease
+change_tree (Remove keys) = remove_tree keys.now.from.items keys.now.to.items
+
+-- changes, in order
+abbrev pub change_items : List Change → Items
+change_items changes = items_of (map change_tree changes)
+
+-- changes that are made together, where a key was written last at this revision
+abbrev pub commit_tree : List ℕ → ℕ → List Change → Data
+commit_tree key revision changes =
+    object (member (codes "compare") (array (item (compare_tree key revision) no_items))
+    (member (codes "success") (array (change_items changes)) no_members))
+
+-- a new lease of so many seconds, whose number etcd chooses
+abbrev pub grant_tree : ℕ → Data
+grant_tree seconds = object (member (codes "TTL") (whole seconds) no_members)
+
+-- a lease, by its number
+abbrev pub lease_tree : ℕ → Data
+lease_tree lease = object (member (codes "ID") (whole lease) no_members)

@@ -1,0 +1,61 @@
+// The fields of an answer's head.
+ghost use Rattle.std.specs.Prelude.{◌≡◌, ℕ, List, [], ◌∷◌, ◌++◌, length, All};
+ghost use Rattle.httparse.specs.Spans.{IsHeaderWithin};
+ghost use Rattle.canvas_gateway.specs.Heads.{IsFound, is_same_word, seen_fields, values_named};
+
+use httparse::spans::HeaderSpan;
+
+/// The fields of an answer's head: where each stands in these bytes.
+#[derive(Clone, Copy)]
+pub(crate) struct Fields<'a> {
+    /// The bytes that begin with the head.
+    pub bytes: &'a [u8],
+    /// Where the fields stand.
+    pub spans: &'a [HeaderSpan],
+}
+
+/// What stands under a name.
+#[derive(Clone, Copy, PartialEq, Eq)]
+pub(crate) enum Values<'a> {
+    /// No field has the name.
+    Nothing,
+    /// One field has the name, with this value.
+    One(&'a [u8]),
+    /// Several fields have the name.
+    Several,
+}
+
+impl<'a> Values<'a> {
+    // What stands there with one value more.
+    fn with(self, value: &'a [u8]) -> Values<'a>
+        ensures { (values : List (List ℕ)) → IsFound self.entry values → IsFound result (values ++ value.now ∷ []) }
+    {
+        match self {
+            Values::Nothing => Values::One(value),
+            Values::One(_) | Values::Several => Values::Several,
+        }
+    }
+}
+
+impl<'a> Fields<'a> {
+    /// What stands under this name.
+    pub fn find(&self, name: &[u8]) -> Values<'a>
+        requires { All (IsHeaderWithin (length self.now.bytes.now)) self.now.spans.now }
+        ensures { IsFound result (values_named name.now (seen_fields self.now)) }
+    {
+        let mut found = Values::Nothing;
+        for span in self.spans {
+            if is_same_word(span.name.of(self.bytes), name) {
+                found = found.with(span.value.of(self.bytes));
+            }
+        }
+        found
+    }
+}
+
+/// Whether two words are the same, without case.
+pub(crate) fn is_same_word(a: &[u8], b: &[u8]) -> bool
+    ensures { result ≡ is_same_word a.now b.now }
+{
+    a.eq_ignore_ascii_case(b)
+}

@@ -1,0 +1,248 @@
+// The keys of a document in the store.
+ghost use Rattle.std.specs.Prelude.{◌≡◌, ◌≢◌, ◌+◌, ◌%◌, ◌^◌, ◌<◌, ◌≤◌, ◌++◌, ℕ, List, codes, length, IfOk, IfSome, IfNone};
+ghost use Rattle.std.specs.List.{list_all};
+ghost use Rattle.canvas_gateway.specs.Keys.{EachKeyIsOneChunk, chunk_key, document_keys, first_behind, first_below, is_name, is_name_byte, owner_key, segment_key, segments_key, ten_digits};
+
+use crate::numbers::value_of;
+use std::alloc::{AllocError, Global};
+
+/// Keys in the order of their bytes: those from `from` on, up to `to`, which isn't one of them.
+#[derive(Debug, Drop)]
+pub struct Keys {
+    /// The first key.
+    pub from: Vec<u8>,
+    /// The first key behind them.
+    pub to: Vec<u8>,
+}
+
+/// A chunk of a segment, by its numbers.
+#[derive(Clone, Copy, Debug, PartialEq, Eq)]
+pub struct Place {
+    /// The segment's number.
+    pub segment: u32,
+    /// The chunk's number in the segment, below 10000000000.
+    pub chunk: u64,
+}
+
+/// Whether a document may have this name in the store: 1 to 64 bytes, each a letter or digit of ASCII, `-`, `.` or `_`. So no
+/// document's keys lie among another's.
+pub fn is_name(name: &[u8]) -> bool
+    ensures { result ≡ is_name name.now }
+{
+    !name.is_empty() && name.len() <= 64 && are_name_bytes(name)
+}
+
+// Whether each byte may stand in a name.
+fn are_name_bytes(name: &[u8]) -> bool
+    ensures { result ≡ list_all is_name_byte name.now }
+{
+    name.iter().all(|b| is_name_byte(*b))
+}
+
+// Whether the byte may stand in a name.
+fn is_name_byte(b: u8) -> bool
+    ensures { result ≡ is_name_byte b }
+{
+    b.is_ascii_alphanumeric() || b == b'-' || b == b'.' || b == b'_'
+}
+
+/// The key of the owner of the document of this name.
+///
+/// Fails only where memory is refused.
+pub fn owner_key(alloc: Global, name: &[u8]) -> Result<Vec<u8>, AllocError>
+    ensures { IfOk result (λ key. key.items ≡ owner_key name.now) }
+{
+    let mut key = document_key(alloc, name)?;
+    key.extend_from_slice(b"/owner")?;
+    Ok(key)
+}
+
+/// The key of this chunk of the document of this name. Each number stands in ten decimal digits, so the order of the keys is that of
+/// the segments, and in a segment that of the chunks.
+///
+/// Fails only where memory is refused.
+pub fn chunk_key(alloc: Global, name: &[u8], place: Place) -> Result<Vec<u8>, AllocError>
+    requires { place.chunk < 10 ^ 10 }
+    ensures { IfOk result (λ key. key.items ≡ chunk_key name.now place.segment place.chunk) }
+{
+    let mut key = segment_key(alloc, name, place.segment)?;
+    key.extend_from_slice(b"/")?;
+    key.extend_from_slice(&ten_digits(place.chunk))?;
+    Ok(key)
+}
+
+/// The keys of all chunks of the document of this name.
+///
+/// Fails only where memory is refused.
+pub fn all_chunks(alloc: Global, name: &[u8]) -> Result<Keys, AllocError>
+    ensures from { IfOk result (λ keys. keys.from.items ≡ first_below (segments_key name.now)) }
+    ensures to { IfOk result (λ keys. keys.to.items ≡ first_behind (segments_key name.now)) }
+{
+    let key = segments_key(alloc, name)?;
+    below(alloc, key)
+}
+
+/// The keys of all chunks of this segment of the document of this name.
+///
+/// Fails only where memory is refused.
+pub fn chunks_of(alloc: Global, name: &[u8], segment: u32) -> Result<Keys, AllocError>
+    ensures from { IfOk result (λ keys. keys.from.items ≡ first_below (segment_key name.now segment)) }
+    ensures to { IfOk result (λ keys. keys.to.items ≡ first_behind (segment_key name.now segment)) }
+{
+    let key = segment_key(alloc, name, segment)?;
+    below(alloc, key)
+}
+
+/// This key alone, of those of documents: the keys from it on up to the same bytes with a `0` behind them.
+///
+/// Fails only where memory is refused.
+pub fn one_key(alloc: Global, key: Vec<u8>) -> Result<Keys, AllocError>
+    ensures from { IfOk result (λ keys. keys.from.items ≡ key.items) }
+    ensures to { IfOk result (λ keys. keys.to.items ≡ first_behind key.items) }
+{
+    let mut to = Vec::from_slice(alloc, &key)?;
+    to.extend_from_slice(b"0")?;
+    Ok(Keys { from: key, to })
+}
+
+// The keys that begin with this key and a slash.
+fn below(alloc: Global, key: Vec<u8>) -> Result<Keys, AllocError>
+    ensures from { IfOk result (λ keys. keys.from.items ≡ first_below key.items) }
+    ensures to { IfOk result (λ keys. keys.to.items ≡ first_behind key.items) }
+{
+    let Keys { mut from, to } = one_key(alloc, key)?;
+    from.extend_from_slice(b"/")?;
+    Ok(Keys { from, to })
+}
+
+// What the keys of a document begin with. It has room for what follows.
+fn document_key(alloc: Global, name: &[u8]) -> Result<Vec<u8>, AllocError>
+    ensures { IfOk result (λ key. key.items ≡ document_keys name.now) }
+{
+    let mut key = Vec::from_slice(alloc, b"lugcurrant/")?;
+    key.extend_from_slice(name)?;
+    Ok(key)
+}
+
+// What the keys of a document's chunks begin with.
+fn segments_key(alloc: Global, name: &[u8]) -> Result<Vec<u8>, AllocError>
+    ensures { IfOk result (λ key. key.items ≡ segments_key name.now) }
+{
+    let mut key = document_key(alloc, name)?;
+    key.extend_from_slice(b"/segment")?;
+    Ok(key)
+}
+
+// What the keys of a segment's chunks begin with.
+fn segment_key(alloc: Global, name: &[u8], segment: u32) -> Result<Vec<u8>, AllocError>
+    ensures { IfOk result (λ key. key.items ≡ segment_key name.now segment) }
+{
+    let mut key = segments_key(alloc, name)?;
+    key.extend_from_slice(b"/")?;
+    key.extend_from_slice(&ten_digits(u64::from(segment)))?;
+    Ok(key)
+}
+
+/// The chunk of which this is the key, if it is one of a chunk of the document of this name.
+pub fn place_of(name: &[u8], key: &[u8]) -> Option<Place>
+    ensures some { IfSome result (λ place. key.now ≡ chunk_key name.now place.segment place.chunk) }
+    ensures none { IfNone result ((segment : ℕ) (chunk : ℕ) → segment < 2 ^ 32 → chunk < 10 ^ 10 → key.now ≢ chunk_key name.now segment chunk) }
+{
+    let digits = behind_segments(name, key)?;
+    place_in(digits)
+}
+
+// The chunk whose numbers stand here, with a slash between.
+fn place_in(digits: &[u8]) -> Option<Place>
+    ensures some { IfSome result (λ place. digits.now ≡ ten_digits place.segment ++ codes "/" ++ ten_digits place.chunk) }
+    ensures none { IfNone result ((segment : ℕ) (chunk : ℕ) → segment < 2 ^ 32 → chunk < 10 ^ 10 → digits.now ≢ ten_digits segment ++ codes "/" ++ ten_digits chunk) }
+{
+    if digits.len() != 21 {
+        return None;
+    }
+    let (segment, rest) = digits.split_at(10);
+    let chunk = rest.strip_prefix(b"/")?;
+    let segment = segment_of(segment)?;
+    let chunk = number_of(chunk)?;
+    Some(Place { segment, chunk })
+}
+
+// What stands behind `lugcurrant/NAME/segment/`.
+fn behind_segments<'a>(name: &[u8], key: &'a [u8]) -> Option<&'a [u8]>
+    ensures some { IfSome result (λ rest. key.now ≡ segments_key name.now ++ codes "/" ++ rest.now) }
+    ensures none { IfNone result ((rest : List ℕ) → key.now ≢ segments_key name.now ++ codes "/" ++ rest) }
+{
+    let named = key.strip_prefix(b"lugcurrant/")?;
+    let behind = named.strip_prefix(name)?;
+    let rest = behind.strip_prefix(b"/segment/")?;
+    Some(rest)
+}
+
+// The last decimal digit of a number.
+fn last_digit(number: u64) -> u8
+    ensures { result ≡ 48 + number % 10 }
+{
+    b'0' + (number % 10) as u8
+}
+
+// The last ten decimal digits of a number.
+fn ten_digits(number: u64) -> [u8; 10]
+    ensures { result ≡ ten_digits number }
+{
+    let n9 = number;
+    let n8 = n9 / 10;
+    let n7 = n8 / 10;
+    let n6 = n7 / 10;
+    let n5 = n6 / 10;
+    let n4 = n5 / 10;
+    let n3 = n4 / 10;
+    let n2 = n3 / 10;
+    let n1 = n2 / 10;
+    let n0 = n1 / 10;
+    [
+        last_digit(n0),
+        last_digit(n1),
+        last_digit(n2),
+        last_digit(n3),
+        last_digit(n4),
+        last_digit(n5),
+        last_digit(n6),
+        last_digit(n7),
+        last_digit(n8),
+        last_digit(n9),
+    ]
+}
+
+// The number of 32 bits whose ten digits these bytes are.
+fn segment_of(text: &[u8]) -> Option<u32>
+    ensures some { IfSome result (λ number. text.now ≡ ten_digits number) }
+    ensures none { IfNone result ((number : ℕ) → number < 2 ^ 32 → text.now ≢ ten_digits number) }
+{
+    let number = number_of(text)?;
+    if number > 4294967295 {
+        return None;
+    }
+    Some(number as u32)
+}
+
+// The number whose ten digits these bytes are.
+fn number_of(text: &[u8]) -> Option<u64>
+    ensures some { IfSome result (λ number. text.now ≡ ten_digits number) }
+    ensures small { IfSome result (λ number. number < 10 ^ 10) }
+    ensures none { IfNone result ((number : ℕ) → number < 10 ^ 10 → text.now ≢ ten_digits number) }
+{
+    let number = value_of(text)?;
+    if number > 9999999999 {
+        return None;
+    }
+    if ten_digits(number).as_slice() == text {
+        Some(number)
+    } else {
+        None
+    }
+}
+
+/// A law: different chunks of a document have different keys, while their numbers are below 10000000000.
+pub fn every_chunk_key()
+    ensures { EachKeyIsOneChunk }
+{}

@@ -1,0 +1,30 @@
+//! What is said to an etcd by its gateway, which takes JSON over HTTP/1.1: requests as bytes, and answers from bytes. This crate knows no
+//! sockets.
+#![tactic(auto)]
+
+mod answers;
+mod chunk;
+mod error;
+mod fields;
+mod head;
+mod host;
+mod keys;
+mod numbers;
+mod posts;
+mod reader;
+mod requests;
+
+pub use answers::{
+    Committed, Found, KeyValue, Lease, read_committed, read_found, read_granted, read_kept,
+    read_refused,
+};
+pub use error::GatewayError;
+pub use head::MAX_HEAD;
+pub use host::Host;
+pub use keys::{
+    Keys, Place, all_chunks, chunk_key, chunks_of, every_chunk_key, is_name, one_key, owner_key,
+    place_of,
+};
+pub use posts::Call;
+pub use reader::{Answer, AnswerReader};
+pub use requests::{Change, ask_commit, ask_grant, ask_keep_alive, ask_range, ask_revoke};

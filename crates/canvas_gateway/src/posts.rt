@@ -1,0 +1,74 @@
+// Requests of HTTP.
+ghost use Rattle.std.specs.Prelude.{◌≡◌, ◌≤◌, IfOk, false, string_bytes};
+ghost use Rattle.serde_json.specs.Data.{depth};
+ghost use Rattle.serde_json.specs.Read.{max_depth};
+ghost use Rattle.serde_json.specs.View.{view};
+ghost use Rattle.serde_json.specs.Written.{has_float};
+ghost use Rattle.canvas_gateway.specs.Posts.{Asks, head_text, path_of};
+
+use crate::host::Host;
+use serde_json::Value as Json;
+use std::alloc::{AllocError, Global};
+
+/// What is asked.
+#[derive(Clone, Copy, Debug, PartialEq, Eq)]
+pub enum Call {
+    /// Keys, and their values.
+    Range,
+    /// Changes that are made together, under a comparison.
+    Commit,
+    /// A new lease.
+    Grant,
+    /// That a lease goes on.
+    KeepAlive,
+    /// That a lease ends.
+    Revoke,
+}
+
+impl Call {
+    // Where it is asked.
+    fn path(self) -> &'static str
+        ensures { result.now ≡ path_of self }
+    {
+        match self {
+            Call::Range => "/v3/kv/range",
+            Call::Commit => "/v3/kv/txn",
+            Call::Grant => "/v3/lease/grant",
+            Call::KeepAlive => "/v3/lease/keepalive",
+            Call::Revoke => "/v3/lease/revoke",
+        }
+    }
+}
+
+// A request: a head, and the tree's text.
+pub(crate) fn post(
+    alloc: Global,
+    host: &Host,
+    asked: Call,
+    tree: &Json,
+) -> Result<Vec<u8>, AllocError>
+    requires whole { has_float (view tree.now) ≡ false }
+    requires shallow { depth (view tree.now) ≤ max_depth }
+    ensures { IfOk result (λ bytes. Asks bytes.items (string_bytes host.now.text) asked (view tree.now)) }
+{
+    let body = tree.to_vec(alloc)?;
+    let head = head_text(alloc, host, asked, body.len())?;
+    let mut bytes = head.into_bytes();
+    bytes.extend_from_slice(&body)?;
+    Ok(bytes)
+}
+
+// The head of a request, as text.
+fn head_text(alloc: Global, host: &Host, asked: Call, length: usize) -> Result<String, AllocError>
+    ensures { IfOk result (λ head. string_bytes head ≡ head_text (string_bytes host.now.text) asked length) }
+{
+    let path = asked.path();
+    let host = host.text.as_str();
+    format!(in alloc;
+        "POST {path} HTTP/1.1\r\n\
+        Host: {host}\r\n\
+        Content-Type: application/json\r\n\
+        Content-Length: {length}\r\n\
+        \r\n"
+    )
+}
