@@ -1,0 +1,269 @@
+// A document in an etcd, and what is made of its answers.
+use crate::asked::Asked;
+use crate::keeper::Keeper;
+use crate::wire::{StoreError, Wire};
+use canvas_etcd::Standing;
+use canvas_gateway::{
+    Change, Found, Host, KeyValue, Keys, Place, all_chunks, chunk_key, chunks_of, one_key,
+    owner_key, place_of, read_committed, read_found, read_granted,
+};
+use std::alloc::{AllocError, Allocator};
+use std::net::{Net, TcpStream};
+
+/// The seconds after which a lease ends that isn't kept alive.
+pub const LEASE_SECONDS: u64 = 10;
+
+// How many names of keys are asked for at once.
+const NAMES: u64 = 1000;
+
+// How many chunks are asked for at once: with more an etcd's own gateway may refuse its etcd's answer, which may have 4 MiB there.
+const CHUNKS: u64 = 4;
+
+// The least number that no chunk's key can have.
+const CHUNKS_END: u64 = 10000000000;
+
+// A document in an etcd.
+#[derive(Drop)]
+pub(crate) struct Document<R: Net<Stream = TcpStream> + AllocGlobal + Clone + Drop> {
+    wire: Wire<R>,
+    name: Vec<u8>,
+    // The lease under which the document was taken over.
+    lease: u64,
+    // The revision at which it was, or 0.
+    owner: u64,
+    // The revision at which it was looked.
+    looked: u64,
+    // The segments that stand, the highest number first.
+    segments: Vec<Standing>,
+}
+
+impl<R: Net<Stream = TcpStream> + AllocGlobal + Clone + Drop> Document<R> {
+    // Nothing is asked yet.
+    pub(crate) fn new(net: R, hosts: Vec<Host>, name: &[u8]) -> Result<Self, AllocError> {
+        let alloc = net.alloc();
+        Ok(Document {
+            name: Vec::from_slice(alloc, name)?,
+            wire: Wire::new(net, hosts),
+            lease: 0,
+            owner: 0,
+            looked: 0,
+            segments: Vec::new(alloc),
+        })
+    }
+
+    pub(crate) fn keeper(&self) -> Result<Keeper<R>, AllocError> {
+        Ok(Keeper::new(self.wire.another()?, self.lease))
+    }
+
+    pub(crate) fn segments(&self) -> &[Standing] {
+        &self.segments
+    }
+
+    // Writes the owner's key under a new lease, where nobody has it.
+    pub(crate) fn take_over(&mut self) -> Result<bool, StoreError> {
+        if self.owner_now()? != 0 {
+            return Ok(false);
+        }
+        let alloc = self.wire.alloc();
+        let key = owner_key(alloc, &self.name)?;
+        let body = self.wire.ask(&Asked::Grant(LEASE_SECONDS))?;
+        let lease = read_granted(alloc, &body)?.number;
+        let changes = [Change::Put {
+            key: &key,
+            value: &self.name,
+            lease,
+        }];
+        let body = self.wire.ask(&Asked::Commit(&key, 0, &changes))?;
+        let committed = read_committed(alloc, &body)?;
+        if committed.done {
+            self.lease = lease;
+            self.owner = committed.revision;
+        } else {
+            let _ = self.wire.ask(&Asked::Revoke(lease));
+        }
+        Ok(committed.done)
+    }
+
+    // The revision at which the owner's key was written, or 0 where nobody has it.
+    fn owner_now(&mut self) -> Result<u64, StoreError> {
+        let alloc = self.wire.alloc();
+        let keys = one_key(alloc, owner_key(alloc, &self.name)?)?;
+        let found = self.names(&keys, 0)?;
+        Ok(found.pairs.first().map_or(0, |pair| pair.revision))
+    }
+
+    // Lists the segments that stand, all at one revision.
+    pub(crate) fn look(&mut self) -> Result<(), StoreError> {
+        let alloc = self.wire.alloc();
+        let mut keys = all_chunks(alloc, &self.name)?;
+        let mut last: Vec<Place> = Vec::new(alloc);
+        let mut revision = 0;
+        for _ in 0..u64::MAX {
+            let found = self.names(&keys, revision)?;
+            if revision == 0 {
+                revision = found.revision;
+            }
+            self.note_places(&found.pairs, &mut last)?;
+            if !step(&mut keys, &found)? {
+                break;
+            }
+        }
+        self.looked = revision;
+        self.segments.clear();
+        for place in last.iter().rev() {
+            let size = self.size_of(*place)?;
+            self.segments.push(Standing {
+                number: place.segment,
+                size,
+            })?;
+        }
+        Ok(())
+    }
+
+    // Notes the last chunk of each segment, of these keys in their order.
+    fn note_places(&self, pairs: &[KeyValue], last: &mut Vec<Place>) -> Result<(), StoreError> {
+        for pair in pairs {
+            let Some(place) = place_of(&self.name, &pair.key) else {
+                return Err(StoreError::Unanswered);
+            };
+            let again = last.last().is_some_and(|it| it.segment == place.segment);
+            if again {
+                last.pop();
+            }
+            last.push(place)?;
+        }
+        Ok(())
+    }
+
+    // How many bytes a segment has whose last chunk this is.
+    fn size_of(&mut self, place: Place) -> Result<u64, StoreError> {
+        let alloc = self.wire.alloc();
+        let keys = one_key(alloc, self.key_of(place)?)?;
+        let found = self.values(&keys, self.looked)?;
+        let Some(chunk) = found.pairs.first() else {
+            return Err(StoreError::Unanswered);
+        };
+        Ok(place.chunk.saturating_add(chunk.value.len() as u64))
+    }
+
+    // Reads the bytes of a segment, chunk by chunk.
+    pub(crate) fn read<A: Allocator>(
+        &mut self,
+        number: u32,
+        bytes: &mut Vec<u8, A>,
+    ) -> Result<(), StoreError> {
+        let alloc = self.wire.alloc();
+        let mut keys = chunks_of(alloc, &self.name, number)?;
+        let revision = if self.owner == 0 { self.looked } else { 0 };
+        for _ in 0..u64::MAX {
+            let found = self.values(&keys, revision)?;
+            self.join(number, &found.pairs, bytes)?;
+            if !step(&mut keys, &found)? {
+                break;
+            }
+        }
+        if self.owner != 0 && self.owner_now()? != self.owner {
+            return Err(StoreError::Lost);
+        }
+        Ok(())
+    }
+
+    // Puts chunks behind the bytes of a segment, where they follow these.
+    fn join<A: Allocator>(
+        &self,
+        number: u32,
+        pairs: &[KeyValue],
+        bytes: &mut Vec<u8, A>,
+    ) -> Result<(), StoreError> {
+        for pair in pairs {
+            let chunk = bytes.len() as u64;
+            let here = Place {
+                segment: number,
+                chunk,
+            };
+            if place_of(&self.name, &pair.key) != Some(here) {
+                return Err(StoreError::Unanswered);
+            }
+            bytes.extend_from_slice(&pair.value)?;
+        }
+        Ok(())
+    }
+
+    // Puts a chunk behind the others of a segment.
+    pub(crate) fn put(&mut self, number: u32, at: u64, bytes: &[u8]) -> Result<(), StoreError> {
+        let place = Place {
+            segment: number,
+            chunk: at,
+        };
+        let key = self.key_of(place)?;
+        let changes = [Change::Put {
+            key: &key,
+            value: bytes,
+            lease: 0,
+        }];
+        self.commit(&changes)?;
+        let size = at.saturating_add(bytes.len() as u64);
+        let standing = Standing { number, size };
+        let i = self.segments.iter().position(|it| it.number <= number);
+        match i {
+            Some(i) if self.segments[i].number == number => self.segments[i] = standing,
+            Some(i) => self.segments.insert(i, standing)?,
+            None => self.segments.push(standing)?,
+        }
+        Ok(())
+    }
+
+    // Deletes a segment's chunks.
+    pub(crate) fn remove(&mut self, number: u32) -> Result<(), StoreError> {
+        let keys = chunks_of(self.wire.alloc(), &self.name, number)?;
+        self.commit(&[Change::Remove(&keys)])?;
+        self.segments.retain(|it| it.number != number);
+        Ok(())
+    }
+
+    // Makes changes, where the document is still owned.
+    fn commit(&mut self, changes: &[Change<'_>]) -> Result<(), StoreError> {
+        let alloc = self.wire.alloc();
+        let key = owner_key(alloc, &self.name)?;
+        if self.owner == 0 {
+            return Err(StoreError::Lost);
+        }
+        let body = self.wire.ask(&Asked::Commit(&key, self.owner, changes))?;
+        if read_committed(alloc, &body)?.done {
+            Ok(())
+        } else {
+            Err(StoreError::Lost)
+        }
+    }
+
+    // The key of a chunk.
+    fn key_of(&self, place: Place) -> Result<Vec<u8>, StoreError> {
+        if place.chunk >= CHUNKS_END {
+            return Err(StoreError::Unanswered);
+        }
+        Ok(chunk_key(self.wire.alloc(), &self.name, place)?)
+    }
+
+    // The names of these keys, as they stood at this revision.
+    fn names(&mut self, keys: &Keys, revision: u64) -> Result<Found, StoreError> {
+        let body = self.wire.ask(&Asked::Names(keys, NAMES, revision))?;
+        Ok(read_found(self.wire.alloc(), &body)?)
+    }
+
+    // The same with their values.
+    fn values(&mut self, keys: &Keys, revision: u64) -> Result<Found, StoreError> {
+        let body = self.wire.ask(&Asked::Values(keys, CHUNKS, revision))?;
+        Ok(read_found(self.wire.alloc(), &body)?)
+    }
+}
+
+// Goes on behind what was found, and tells whether there is more.
+fn step(keys: &mut Keys, found: &Found) -> Result<bool, AllocError> {
+    let Some(last) = found.pairs.last() else {
+        return Ok(false);
+    };
+    keys.from.clear();
+    keys.from.extend_from_slice(&last.key)?;
+    keys.from.push(0)?;
+    Ok(found.more)
+}

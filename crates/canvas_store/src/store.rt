@@ -1,0 +1,151 @@
+// An etcd as a store: the one part that claims nothing.
+ghost use Rattle.std.specs.Prelude.{◌≡◌, [], false, None, IsErr, IfOk};
+ghost use Rattle.canvas_shelf.specs.Moments.{CountsFailure};
+
+use crate::document::Document;
+use crate::keeper::Keeper;
+use crate::wire::StoreError;
+use canvas_etcd::{Change, Standing, Store};
+use canvas_gateway::Host;
+use canvas_shelf::{DeviceFailed, ShelfError};
+use std::alloc::{AllocError, Allocator, Global};
+use std::marker::Model;
+use std::net::{Net, TcpStream};
+
+/// A document's segments in an etcd, by its gateway (JSON over HTTP/1.1, without TLS). No contract says what a network does, so it claims
+/// nothing. Contracts see it as how many of its calls have failed.
+///
+/// The endpoints are members of one etcd. Where one takes no connection within 2 seconds, or is silent for 5, the next one is asked; a
+/// transaction alone is never asked twice once it was sent, since it may have been done.
+///
+/// Who owns a document holds the key `lugcurrant/NAME/owner`, which goes with a lease of 10 seconds. Keep that alive by [`Self::keeper`].
+/// The number of an owner is the revision at which that key was written: etcd's revisions only rise. Each transaction compares it.
+/// Reading a segment asks afterwards whether the key still has it. A store that never took over reads what stood at the revision at which
+/// it looked, so an etcd that forgets old revisions must keep them for as long as that takes.
+#[derive(Drop)]
+pub struct EtcdStore<R: Net<Stream = TcpStream> + AllocGlobal + Clone + Drop> {
+    document: Document<R>,
+    failures: u64,
+}
+
+impl<R: Net<Stream = TcpStream> + AllocGlobal + Clone + Drop> Model for EtcdStore<R> {
+    ghost use Rattle.std.specs.Prelude.{ℕ};
+    ghost use Rattle.std.specs.Coded.{codes};
+
+    ghost Value = { ℕ };
+
+    ghost coded = { Prim.hlevel codes };
+
+    ghost view = { λ s. s.failures };
+}
+
+impl<R: Net<Stream = TcpStream> + AllocGlobal + Clone + Drop> EtcdStore<R> {
+    /// The store of the document of this name, which `is_name` of `canvas_gateway` allows, by these endpoints. Nothing is asked yet.
+    ///
+    /// Fails where memory is refused.
+    pub fn new(net: R, hosts: Vec<Host>, name: &[u8]) -> Result<Self, AllocError>
+        ensures failures { IfOk result (λ s. ⟦<EtcdStore<R> as Store>⟧.failure_count s ≡ 0) }
+    {
+        Ok(EtcdStore {
+            document: Document::new(net, hosts, name)?,
+            failures: 0,
+        })
+    }
+
+    /// Who keeps the lease alive, once the document was taken over.
+    ///
+    /// Fails where memory is refused.
+    pub fn keeper(&self) -> Result<Keeper<R>, AllocError> {
+        self.document.keeper()
+    }
+
+    // Counts a failure.
+    fn fail(&mut self) -> DeviceFailed
+        ensures { CountsFailure self.old self.new (Unit {0}) }
+    {
+        self.failures = self.failures.saturating_add(1);
+        DeviceFailed
+    }
+
+    // A failure without its cause.
+    fn told<T: Drop>(&mut self, done: Result<T, StoreError>) -> Result<T, DeviceFailed>
+        ensures { CountsFailure self.old self.new (IsErr result) }
+    {
+        match done {
+            Ok(value) => Ok(value),
+            Err(_) => Err(self.fail()),
+        }
+    }
+
+    // Want of memory is told as such, and all else is a failure.
+    fn tell(&mut self, error: StoreError) -> ShelfError
+        ensures { CountsFailure self.old self.new (result ≡ ShelfError.Device) }
+    {
+        if error == StoreError::Memory {
+            ShelfError::Memory
+        } else {
+            self.fail();
+            ShelfError::Device
+        }
+    }
+}
+
+impl<R: Net<Stream = TcpStream> + AllocGlobal + Clone + Drop> Store for EtcdStore<R> {
+    ghost use Rattle.std.proofs.lemmas.Bool.{false≢true};
+    ghost use Rattle.canvas_etcd.specs.Stores.{Stored};
+
+    ghost value = { λ s. record { held = []; unanswered = None; disk = [] } };
+
+    ghost past = { λ s. [] };
+
+    ghost honest = { λ s. false };
+
+    ghost owner = { λ s. false };
+
+    ghost failure_count = { λ s. s };
+
+    ghost sound = { λ s h. absurd (false≢true h) };
+
+    fn take_over(&mut self) -> Result<bool, DeviceFailed> {
+        let done = self.document.take_over();
+        self.told(done)
+    }
+
+    fn look(&mut self) -> Result<(), DeviceFailed> {
+        let done = self.document.look();
+        self.told(done)
+    }
+
+    fn list(&mut self, alloc: Global) -> Result<Vec<Standing>, ShelfError> {
+        match Vec::from_slice(alloc, self.document.segments()) {
+            Ok(segments) => Ok(segments),
+            Err(_) => Err(ShelfError::Memory),
+        }
+    }
+
+    fn read<A: Allocator>(&mut self, alloc: A, number: u32) -> Result<Vec<u8, A>, ShelfError> {
+        let mut bytes = Vec::new(alloc);
+        match self.document.read(number, &mut bytes) {
+            Ok(()) => Ok(bytes),
+            Err(e) => Err(self.tell(e)),
+        }
+    }
+
+    fn put(&mut self, number: u32, at: u64, bytes: &[u8]) -> Result<(), DeviceFailed> {
+        let done = self.document.put(number, at, bytes);
+        self.told(done)
+    }
+
+    fn remove(&mut self, number: u32) -> Result<(), DeviceFailed> {
+        let done = self.document.remove(number);
+        self.told(done)
+    }
+
+    fn note(&mut self, _change: Change, _number: u32, _bytes: &[u8]) -> Result<(), DeviceFailed> {
+        Ok(())
+    }
+
+    fn failures(&self) -> u64 {
+        self.failures
+    }
+}
