@@ -1,4 +1,4 @@
-//! The care of a folder while no server runs: its document as rows of JSON, its entries as messages, what stands in its segments, and
+//! The care of a folder while no server runs: its document as a tree or as rows of JSON, its entries as messages, what stands in its segments, and
 //! new folders for the document of rows or of a backup.
 #![tactic(auto)]
 
@@ -26,4 +26,4 @@ pub use losing::{FolderSums, SumSource, find_loss};
 pub use planting::plant;
 pub use restoring::{import, import_folder, read_backup};
 pub use rows::{Layout, rows_text};
-pub use showing::{show_rows, show_rows_of};
+pub use showing::{show_rows, show_rows_of, show_tree, show_tree_of};

@@ -1,14 +1,16 @@
-// The document in a folder, as rows.
+// The document in a folder, as rows or as a tree.
 ghost use Rattle.std.specs.Prelude.{◌≡◌, ℕ, IfErr, IfOk, IsErrOf, IsTrue, OnOk};
 ghost use Rattle.canvas_journal.specs.Found.{Finds, IsDamaged};
 ghost use Rattle.canvas_shelf.specs.Disk.{seen};
-ghost use Rattle.canvas_care.specs.Shown.{WritesRows, WritesRowsOf};
+ghost use Rattle.canvas_report.specs.Reports.{WritesReport};
+ghost use Rattle.canvas_care.specs.Shown.{WritesRows, WritesRowsOf, WritesTreeOf};
 
 use crate::fault::Fault;
 use crate::folders::existing;
 use crate::rows::{Layout, rows_text};
 use canvas_journal::look;
 use canvas_lines::write_out;
+use canvas_report::report_text;
 use canvas_shelf::Shelf;
 use std::alloc::Global;
 use std::fs::File;
@@ -53,4 +55,41 @@ pub fn show_rows<R: Files<File = File> + AllocGlobal + Clone + Drop, W: Write>(
     let alloc = files.alloc();
     let mut shelf = existing(files, dir)?;
     show_rows_of(alloc, &mut shelf, layout, output)
+}
+
+/// Writes the version and the tree of the document that a shelf holds, as `report_text` says it. Writes nothing to the shelf.
+///
+/// The errors are those of `show_rows_of`.
+pub fn show_tree_of<S: Shelf, W: Write>(
+    alloc: Global,
+    shelf: &mut S,
+    output: &mut W,
+) -> Result<(), Fault>
+    ensures found { IsTrue (S.honest shelf.old) → OnOk result (WritesTreeOf (S.disk shelf.old) (W.contents output.old) (W.contents output.new)) }
+    ensures form { OnOk result (WritesReport (W.contents output.old) (W.contents output.new)) }
+    ensures damaged { IsTrue (S.honest shelf.old) → (n : ℕ) (at : ℕ) → IsErrOf result (Fault.Damaged n at) → Finds (seen (S.disk shelf.old)) (IsDamaged n at) }
+    ensures unwritten { IfErr result (λ fault. (fault ≡ Fault.Stream → ⊥) → W.contents output.new ≡ W.contents output.old) }
+    ensures disk { IsTrue (S.honest shelf.old) → (S.disk shelf.new ≡ S.disk shelf.old) × (S.past shelf.new ≡ S.past shelf.old) }
+    ensures honest { S.honest shelf.new ≡ S.honest shelf.old }
+{
+    let (state, version) = look(alloc, shelf)?;
+    let text = report_text(alloc, version, state.doc())?;
+    write_out(output, &text)?;
+    Ok(())
+}
+
+/// Writes the version and the tree of the document in a folder. Writes nothing to the folder, which a server may have meanwhile.
+///
+/// The errors are those of `show_rows`.
+pub fn show_tree<R: Files<File = File> + AllocGlobal + Clone + Drop, W: Write>(
+    files: R,
+    dir: &str,
+    output: &mut W,
+) -> Result<(), Fault>
+    ensures form { OnOk result (WritesReport (W.contents output.old) (W.contents output.new)) }
+    ensures unwritten { IfErr result (λ fault. (fault ≡ Fault.Stream → ⊥) → W.contents output.new ≡ W.contents output.old) }
+{
+    let alloc = files.alloc();
+    let mut shelf = existing(files, dir)?;
+    show_tree_of(alloc, &mut shelf, output)
 }

@@ -5,7 +5,8 @@ use Rattle.canvas_daemon.specs.declared.fault.Fault.TheVariants.{Usage, Device}
 use Rattle.canvas_daemon.specs.Faults.{IsEnd}
 use Rattle.canvas_daemon.specs.Words.{Asked, AsksServe, AsksEdit, AsksShow, AsksTrial, AskFor}
 use Rattle.canvas_daemon.specs.Served.{BeginsServing, IsServeFault, WritesServed}
-use Rattle.canvas_daemon.specs.Shown.{IsShowFault, WritesReport}
+use Rattle.canvas_daemon.specs.Shown.{IsShowFault}
+use Rattle.canvas_report.specs.Reports.{WritesReport}
 use Rattle.canvas_daemon.specs.Trials.{WritesTrial}
 use Rattle.canvas_daemon.specs.Edited.{IsLeftBy, IsPlayed}
 

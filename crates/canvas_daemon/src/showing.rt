@@ -3,17 +3,16 @@ ghost use Rattle.std.specs.Prelude.{◌≡◌, ℕ, IfErr, IfOk, IsErrOf, IsTrue
 ghost use Rattle.canvas_journal.specs.Found.{Finds, IsDamaged};
 ghost use Rattle.canvas_shelf.specs.Disk.{seen};
 ghost use Rattle.canvas_shelf.specs.Moments.{CountsFailure};
-ghost use Rattle.canvas_daemon.specs.Shown.{IsReport, IsReportOf, IsReportText, IsShowFault, WritesReport, WritesReportOf};
+ghost use Rattle.canvas_report.specs.Reports.{IsReport, WritesReport};
+ghost use Rattle.canvas_daemon.specs.Shown.{IsReportOf, IsShowFault, WritesReportOf};
 
 use crate::fault::Fault;
-use bumpalo::Bump;
-use canvas_doc::Doc;
 use canvas_folder::DirShelf;
 use canvas_journal::look;
 use canvas_lines::write_out;
+use canvas_report::report_text;
 use canvas_shelf::Shelf;
-use canvas_tree::grow;
-use std::alloc::{AllocError, Global};
+use std::alloc::Global;
 use std::fs::File;
 use std::io::Write;
 use std::rt::Files;
@@ -34,18 +33,6 @@ pub fn report<S: Shelf>(alloc: Global, shelf: &mut S) -> Result<Vec<u8>, Fault>
 {
     let (state, version) = look(alloc, shelf)?;
     let text = report_text(alloc, version, state.doc())?;
-    Ok(text)
-}
-
-/// The text of a document at a version. The tree is grown in an arena, which ends with it. Fails only where memory is refused.
-pub(crate) fn report_text(alloc: Global, version: u64, doc: &Doc) -> Result<Vec<u8>, AllocError>
-    ensures { IfOk result (λ text. IsReportText version doc.now text.items) }
-{
-    let arena = Bump::new(alloc);
-    let tree = grow(&arena, doc)?;
-    let head = format!(in alloc; "version {version}\n")?;
-    let mut text = Vec::from_slice(alloc, head.as_bytes())?;
-    tree.text(alloc, 0, &mut text)?;
     Ok(text)
 }
 

@@ -3,5 +3,4 @@ pub mod Faults
 pub mod Figures
 pub mod Answers
 pub mod Seats
-pub mod Shown
 pub mod Runs

@@ -5,17 +5,18 @@ use Rattle.canvas_care.specs.Checks.{WritesCheck}
 use Rattle.canvas_care.specs.Faults.{Ends}
 use Rattle.canvas_care.specs.Logs.{WritesLog}
 use Rattle.canvas_care.specs.Shown.{WritesRows}
+use Rattle.canvas_report.specs.Reports.{WritesReport}
 use Rattle.canvas_host.specs.declared.words.Asked.{Asked}
 use Rattle.canvas_host.specs.declared.words.Asked.TheVariants.{Serve, Show, Import, Restore, Check, Log}
 use Rattle.canvas_host.specs.Faults.{IsServed}
-use Rattle.canvas_host.specs.Shown.{IsShown}
 
 -- What was asked for was done to its end, and the status is 0; or a fault ended it, which was told. A server is always ended by one, and
 -- writes no output. Only an import reads its input.
 abbrev pub Does : Asked → ℕ → (read left written after faults told : Option (List ℕ)) → Type 0
 Does (Serve options) status read left written after faults told =
     (left ≡ read) × (after ≡ written) × IsServed (string_bytes options.dir) options.port options.clients status faults told
-Does (Show dir None) status read left written after faults told = (left ≡ read) × IsShown status written after faults told
+Does (Show dir None) status read left written after faults told =
+    (left ≡ read) × Ends (WritesReport written after) (string_bytes dir) status faults told
 Does (Show dir (Some layout)) status read left written after faults told =
     (left ≡ read) × Ends (WritesRows layout written after) (string_bytes dir) status faults told
 Does (Import dir) status read left written after faults told =

@@ -5,12 +5,11 @@ ghost use Rattle.canvas_care.specs.Checks.{WritesCheck};
 ghost use Rattle.canvas_care.specs.Faults.{Ends};
 ghost use Rattle.canvas_care.specs.Logs.{WritesLog};
 ghost use Rattle.canvas_care.specs.Shown.{WritesRows};
-ghost use Rattle.canvas_host.specs.Shown.{IsShown};
+ghost use Rattle.canvas_report.specs.Reports.{WritesReport};
 
 use canvas_care::{
-    Layout, begin_folder, check, finish, import_folder, log, read_backup, show_rows,
+    Layout, begin_folder, check, finish, import_folder, log, read_backup, show_rows, show_tree,
 };
-use canvas_daemon::{end, show};
 use std::io::{Read, Write};
 
 /// Writes the tree of a folder's document.
@@ -20,12 +19,9 @@ pub(crate) fn run_tree<W: Write, F: Write>(
     output: &mut W,
     faults: &mut F,
 ) -> u8
-    ensures { IsShown result (W.contents output.old) (W.contents output.new) (F.contents faults.old) (F.contents faults.new) }
+    ensures { Ends (WritesReport (W.contents output.old) (W.contents output.new)) dir.now result (F.contents faults.old) (F.contents faults.new) }
 {
-    match show(files, dir, output) {
-        Ok(()) => 0,
-        Err(fault) => end(&fault, faults),
-    }
+    finish(show_tree(files, dir, output), dir, faults)
 }
 
 /// Writes the rows of a folder's document.
