@@ -1,5 +1,6 @@
 #!/usr/bin/env python3
-"""run.py LUGCURRANT [SECONDS] [KILLS]: tries `lugcurrant serve` as its users and its attackers would, each group on a folder of its own.
+"""run.py LUGCURRANT [SECONDS [KILLS]] [GROUP..]: tries `lugcurrant serve` as its users and its attackers would, each group on a folder of its
+own; only the named groups, where some are named.
 
 - reuse: 1,000 clients one after the other over 4 seats; each joins, edits and is answered.
 - full: 64 clients at once, and the 65th is answered 503; once one has left, the next is served.
@@ -27,184 +28,45 @@
 
 Prints a line for each group, and exits with 1 where one went wrong. Needs no package."""
 
-import base64
+import functools
 import json
 import os
 import random
 import re
 import shutil
-import signal
 import socket
 import struct
 import subprocess
 import sys
-import tempfile
 import threading
 import time
+from pathlib import Path
+
+sys.path.insert(0, str(Path(__file__).resolve().parents[1]))
+
+import shared  # noqa: E402
+from shared import Client, Wrong, draw, numbers_and_names, page, read_answer, require, text_of, try_groups  # noqa: E402
 
 PROGRAM = os.path.abspath(sys.argv[1])
-SECONDS = float(sys.argv[2]) if len(sys.argv) > 2 else 30.0
-KILLS = int(sys.argv[3]) if len(sys.argv) > 3 else 40
-LAST = {"welcome", "idle", "no"}
+NUMBERS, NAMES = numbers_and_names(sys.argv[2:])
+SECONDS = NUMBERS[0] if NUMBERS else 30.0
+KILLS = int(NUMBERS[1]) if len(NUMBERS) > 1 else 40
 
 
-class Wrong(Exception):
-    """Something is not as it should be."""
-
-
-def require(holds, *words):
-    if not holds:
-        raise Wrong(" ".join(str(word) for word in words))
-
-
-class Client:
-    """A WebSocket client that waits for each answer."""
-
-    def __init__(self, port, path="/", origin=None, timeout=30):
-        self.socket = socket.create_connection(("127.0.0.1", port), timeout=timeout)
-        lines = [f"GET {path} HTTP/1.1", f"Host: 127.0.0.1:{port}", "Upgrade: websocket", "Connection: Upgrade",
-                 "Sec-WebSocket-Key: " + base64.b64encode(os.urandom(16)).decode(), "Sec-WebSocket-Version: 13"]
-        if origin is not None:
-            lines.append(f"Origin: {origin}")
-        self.socket.sendall(("\r\n".join(lines) + "\r\n\r\n").encode())
-        self.rest = b""
-        while b"\r\n\r\n" not in self.rest:
-            part = self.socket.recv(65536)
-            if not part:
-                break
-            self.rest += part
-        head, _, self.rest = self.rest.partition(b"\r\n\r\n")
-        self.head = head.decode()
-        self.status = int(self.head.split()[1]) if self.head else 0
-
-    def send(self, payload, opcode=2):
-        mask = os.urandom(4)
-        size = len(payload)
-        if size < 126:
-            head = struct.pack("!BB", 128 | opcode, 128 | size)
-        elif size < 65536:
-            head = struct.pack("!BBH", 128 | opcode, 128 | 126, size)
-        else:
-            head = struct.pack("!BBQ", 128 | opcode, 128 | 127, size)
-        key = (mask * (size // 4 + 1))[:size]
-        masked = (int.from_bytes(payload, "big") ^ int.from_bytes(key, "big")).to_bytes(size, "big") if size else b""
-        self.socket.sendall(head + mask + masked)
-
-    def take(self, count):
-        while len(self.rest) < count:
-            part = self.socket.recv(1 << 20)
-            if not part:
-                raise ConnectionError("the server closed the connection")
-            self.rest += part
-        taken, self.rest = self.rest[:count], self.rest[count:]
-        return taken
-
-    def frame(self):
-        first, second = self.take(2)
-        size = second & 127
-        if size == 126:
-            size = struct.unpack("!H", self.take(2))[0]
-        elif size == 127:
-            size = struct.unpack("!Q", self.take(8))[0]
-        return first & 15, self.take(size)
-
-    def ask(self, *message):
-        """Sends a message. The messages of its answer, in order."""
-        self.send(json.dumps(list(message), separators=(",", ":")).encode())
-        answer = []
-        while not answer or answer[-1][0] not in LAST:
-            opcode, payload = self.frame()
-            if opcode == 8:
-                raise ConnectionError(f"the server closed: {payload!r}")
-            answer.append(json.loads(payload))
-        return answer
-
-    def join(self):
-        answer = self.ask("join", 2)
-        require(answer[0][0] == "welcome", "a join is answered", answer)
-        return answer[0][1]
-
-    def leave(self):
-        self.send(struct.pack("!H", 1000), opcode=8)
-        try:
-            self.frame()
-        except (ConnectionError, OSError):
-            pass
-        self.socket.close()
-
-    def drop(self):
-        self.socket.close()
-
-
-class Server:
+class Server(shared.Server):
     """A server on a folder, at a port of its own."""
 
-    running = []
-
     def __init__(self, folder, *options, log=None):
-        self.folder, self.options = folder, options
-        self.told = log or os.path.join(os.path.dirname(folder), "log")
-        self.port = free_port()
-        self.start()
-
-    def start(self):
-        self.log = open(self.told, "ab")
-        self.process = subprocess.Popen([PROGRAM, "serve", self.folder, "--port", str(self.port), *self.options],
-                                        stdin=subprocess.DEVNULL, stdout=self.log, stderr=self.log)
-        Server.running.append(self.process)
-        for _ in range(600):
-            try:
-                socket.create_connection(("127.0.0.1", self.port), timeout=5).close()
-                return
-            except OSError:
-                require(self.process.poll() is None, "the server ended at once with", self.process.returncode)
-                time.sleep(0.02)
-        raise Wrong("the server doesn't listen")
-
-    def kill(self):
-        self.process.send_signal(signal.SIGKILL)
-        self.process.wait()
-        self.log.close()
-
-    def memory(self):
-        with open(f"/proc/{self.process.pid}/status") as status:
-            return int(re.search(r"VmRSS:\s+(\d+)", status.read()).group(1))
-
-    def get(self, path, method="GET", *fields, host=None):
-        """Status, head and body of an answer."""
-        with socket.create_connection(("127.0.0.1", self.port), timeout=30) as peer:
-            host = host or f"127.0.0.1:{self.port}"
-            lines = [f"{method} {path} HTTP/1.1", f"Host: {host}", *fields]
-            peer.sendall(("\r\n".join(lines) + "\r\n\r\n").encode())
-            return read_answer(peer)
+        super().__init__([PROGRAM, "serve", folder, *options], log or os.path.join(os.path.dirname(folder), "log"))
 
 
-def read_answer(peer):
-    data = b""
-    while True:
-        part = peer.recv(1 << 20)
-        if not part:
-            break
-        data += part
-    head, _, body = data.partition(b"\r\n\r\n")
-    head = head.decode()
-    return (int(head.split()[1]) if head else 0), head, body
-
-
-def free_port():
-    with socket.socket() as probe:
-        probe.bind(("127.0.0.1", 0))
-        return probe.getsockname()[1]
+call = functools.partial(shared.call, PROGRAM)
 
 
 def shown(folder):
     done = subprocess.run([PROGRAM, "show", folder], capture_output=True)
     require(done.returncode == 0, "show ended with", done.returncode, done.stderr)
     return done.stdout.decode()
-
-
-def page(client, number):
-    return ["create", [client, number], "page", [[0, 0], f"{number:06d}O"]]
 
 
 def reuse(room):
@@ -322,8 +184,7 @@ def origins(room):
 
 def identity(room):
     server = Server(room, "--quiet")
-    name = server.get("/document")[2].decode().strip()
-    require(re.fullmatch("[0-9a-f]{32}", name), "the identity is", name)
+    name = server.identity()
     client = Client(server.port, f"/document/{name}")
     require(client.status == 101 and f"lugcurrant-document: {name}" in client.head.lower(), client.head)
     other = ("0" if name[0] != "0" else "1") + name[1:]
@@ -331,7 +192,7 @@ def identity(room):
     require(Client(server.port, "/elsewhere").status == 404, "another path is served")
     server.kill()
     server.start()
-    require(server.get("/document")[2].decode().strip() == name, "the identity changes with a restart")
+    require(server.identity() == name, "the identity changes with a restart")
     server.kill()
     return "the document's own identity, and no other"
 
@@ -477,10 +338,6 @@ def figures(room):
     return "every number after 300 edits, of which 11 were refused, 6 Noes, a checkpoint and a restart"
 
 
-def text_of(message):
-    return json.dumps(message, separators=(",", ":"))
-
-
 def sizes(room):
     server = Server(room, "--message-bytes", "100000", "--quiet")
     client = Client(server.port)
@@ -593,31 +450,15 @@ def sentences(room):
     return "each fault has its sentence and its status"
 
 
-def call(*words, text=b"", status=0, told=""):
-    """What the program writes, once it has ended with this status and told this."""
-    done = subprocess.run([PROGRAM, *words], input=text, capture_output=True, timeout=120)
-    require(done.returncode == status and told in done.stderr.decode(), words, "end with", done.returncode, done.stderr)
-    return done.stdout
-
-
 def files_of(folder):
     return {name: open(os.path.join(folder, name), "rb").read() for name in sorted(os.listdir(folder))}
 
 
 def drawn(room, edits):
-    """The folder of a document that a client has edited so often, with its identity; nobody serves it any more."""
+    """The identity of a folder whose document a client has edited so often. Nobody serves it any more."""
     server = Server(room, "--quiet")
-    client = Client(server.port)
-    name, number = client.join(), 0
-    for number in range(1, edits + 1):
-        change = page(name, number)
-        if number % 3 == 2:
-            change = ["set", [name, number - 1], "text", f"line {number}\nand \"another\"\t\u00e9"]
-        if number % 3 == 0:
-            change = ["set", [name, number - 2], "fill", ["list", 1, True, ["rgba", 255], -number]]
-        require(client.ask("edit", name, number, change) == [["idle"]], "an edit isn't judged")
-    client.drop()
-    known = server.get("/document")[2].decode().strip()
+    draw(server, edits)
+    known = server.identity()
     server.kill()
     return known
 
@@ -675,8 +516,8 @@ def restored(room):
     require(os.listdir(new) == ["segment-0000000001"], "a restore makes", os.listdir(new))
     require(call("show", new) == call("show", backup) and files_of(backup) == before, "another document is restored, or the backup is written")
     server = Server(new, "--quiet")
-    fresh = server.get("/document")[2].decode().strip()
-    require(re.fullmatch("[0-9a-f]{32}", fresh) and fresh != known, "the identity of a restored folder is", fresh)
+    fresh = server.identity()
+    require(fresh != known, "a restored folder has the identity of its backup")
     require(Client(server.port, f"/document/{known}").status == 404, "a client of the old document goes on over the restored one")
     require(Client(server.port, f"/document/{fresh}").status == 101, "the new identity isn't served")
     server.kill()
@@ -855,23 +696,6 @@ def coming(room):
     return f"{served[0]} clients in {SECONDS:.0f} s, none refused, memory {before} kB after a third, {after} kB at the end"
 
 
-def main():
-    wrong = 0
-    for group in (reuse, full, quiet, pages, origins, identity, kills, figures, sizes, large, disk, sentences, rows, restored, lost, checked, coming):
-        above = tempfile.mkdtemp()
-        try:
-            print(f"{group.__name__}: {group(os.path.join(above, 'room'))}", flush=True)
-        except Exception as error:  # every group is tried
-            wrong += 1
-            print(f"{group.__name__}: WRONG: {type(error).__name__}: {error}", flush=True)
-        finally:
-            for process in Server.running:
-                if process.poll() is None:
-                    process.kill()
-                    process.wait()
-            Server.running.clear()
-            shutil.rmtree(above, ignore_errors=True)
-    return 1 if wrong else 0
+GROUPS = (reuse, full, quiet, pages, origins, identity, kills, figures, sizes, large, disk, sentences, rows, restored, lost, checked, coming)
 
-
-sys.exit(main())
+sys.exit(try_groups(GROUPS, NAMES))
