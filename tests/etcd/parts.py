@@ -133,12 +133,15 @@ class Served(shared.Server):
 
     def await_serving(self, seconds=60):
         """Waits until it serves. It may have to wait for the lease of the one before."""
-        until(self.serves, seconds, "a standby doesn't serve", self.told)
+        until(self.serves, seconds, "a standby doesn't serve", tend=self.require_running)
         return self
 
     def await_waiting(self):
-        until(self.waits, 30, "a standby doesn't tell that it waits", self.told)
+        until(self.waits, 30, "a standby doesn't tell that it waits", tend=self.require_running)
         return self
+
+    def require_running(self):
+        require(self.process.poll() is None, "a standby ended with", self.process.returncode, self.text()[-300:])
 
     def kill(self):
         self.is_killed = True

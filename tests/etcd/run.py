@@ -31,9 +31,9 @@ import sys
 import threading
 import time
 
-from parts import (ENDINGS, LEASE, NAME, PROGRAM, TOP, Crowd, Editor, Etcd, Pair, Served, call, never_together, read_all, require, shared,
+from parts import (ENDINGS, LEASE, NAME, PROGRAM, Crowd, Editor, Etcd, Pair, Served, call, never_together, read_all, require, shared,
                    served, until)
-from shared import Client, draw, free_port, numbers_and_names, page, text_of, try_groups
+from shared import Client, draw, numbers_and_names, page, text_of, try_groups
 
 NUMBERS, NAMES = numbers_and_names(sys.argv[2:])
 KILLS = int(NUMBERS[0]) if NUMBERS else 50
@@ -144,7 +144,7 @@ def move(room):
         server.kill()
     call("move", os.path.join(room, "none"), *etcd.words("other"), status=4)
     call("move", os.path.join(room, "none"), *etcd.words("other"), "--back", status=4, told="there is no document other")
-    return "300 edits in and back, with the identity and a client; four moves over something are refused"
+    return "300 edits in and back, with the identity and a client; six that can't be made are refused"
 
 
 def rows(room):
