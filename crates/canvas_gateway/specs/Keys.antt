@@ -28,6 +28,10 @@ document_keys name = codes "lugcurrant/" ++ name
 abbrev pub owner_key : List ℕ → List ℕ
 owner_key name = document_keys name ++ codes "/owner"
 
+-- the key of the document's identity
+abbrev pub identity_key : List ℕ → List ℕ
+identity_key name = document_keys name ++ codes "/identity"
+
 -- what the keys of all chunks begin with
 abbrev pub segments_key : List ℕ → List ℕ
 segments_key name = document_keys name ++ codes "/segment"

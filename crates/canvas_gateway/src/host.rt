@@ -1,7 +1,9 @@
 // Hosts as requests name them.
-ghost use Rattle.std.specs.Prelude.{◌≡◌, ◌↔◌, IfSome, IsSome, string_bytes, true};
+ghost use Rattle.std.specs.Prelude.{◌≡◌, ◌↔◌, IfOk, IfSome, IsSome, map, string_bytes, true};
 ghost use Rattle.std.specs.List.{list_all};
-ghost use Rattle.canvas_gateway.specs.Hosts.{is_host, is_host_byte};
+ghost use Rattle.canvas_gateway.specs.Hosts.{IsUrlOf, is_host, is_host_byte};
+
+use std::alloc::{AllocError, Global};
 
 /// A host as requests name it: `127.0.0.1:2379`, `[::1]:2379`, `etcd.example.org`.
 #[derive(Debug, Drop)]
@@ -12,6 +14,14 @@ pub struct Host {
 }
 
 impl Host {
+    /// The same host once more. Fails only where memory is refused.
+    pub fn copy(&self, alloc: Global) -> Result<Host, AllocError>
+        ensures { IfOk result (λ copy. string_bytes copy.text ≡ string_bytes self.now.text) }
+    {
+        let text = String::from_str(alloc, &self.text)?;
+        Ok(Host { text })
+    }
+
     /// The host of this text. `None` where a byte may not stand in one, or there are none or more than 255.
     pub fn new(text: String) -> Option<Host>
         ensures some { IfSome result (λ host. string_bytes host.text ≡ string_bytes text) }
@@ -23,6 +33,32 @@ impl Host {
             None
         }
     }
+}
+
+/// The host of a URL as `http://127.0.0.1:2379`. `None` where it is none: with another scheme, a path, or a byte that may not stand in a host.
+///
+/// Fails only where memory is refused.
+pub fn host_of(alloc: Global, url: &str) -> Result<Option<Host>, AllocError>
+    ensures { IfOk result (λ found. IfSome found (λ host. IsUrlOf (string_bytes host.text) url.now)) }
+{
+    let Some(rest) = url.as_bytes().strip_prefix(b"http://") else {
+        return Ok(None);
+    };
+    let Ok(text) = str::from_utf8(rest) else {
+        return Ok(None);
+    };
+    Ok(Host::new(String::from_str(alloc, text)?))
+}
+
+/// The same hosts once more. Fails only where memory is refused.
+pub fn copy_hosts(alloc: Global, hosts: &[Host]) -> Result<Vec<Host>, AllocError>
+    ensures { IfOk result (λ copies. map (λ h. string_bytes h.text) copies.items ≡ map (λ h. string_bytes h.text) hosts.now) }
+{
+    let mut copies = Vec::new(alloc);
+    for host in hosts {
+        copies.push(host.copy(alloc)?)?;
+    }
+    Ok(copies)
 }
 
 // Whether these bytes name a host.

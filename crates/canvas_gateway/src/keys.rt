@@ -1,7 +1,7 @@
 // The keys of a document in the store.
 ghost use Rattle.std.specs.Prelude.{◌≡◌, ◌≢◌, ◌+◌, ◌%◌, ◌^◌, ◌<◌, ◌≤◌, ◌++◌, ℕ, List, codes, length, IfOk, IfSome, IfNone};
 ghost use Rattle.std.specs.List.{list_all};
-ghost use Rattle.canvas_gateway.specs.Keys.{EachKeyIsOneChunk, chunk_key, document_keys, first_behind, first_below, is_name, is_name_byte, owner_key, segment_key, segments_key, ten_digits};
+ghost use Rattle.canvas_gateway.specs.Keys.{EachKeyIsOneChunk, chunk_key, document_keys, first_behind, first_below, identity_key, is_name, is_name_byte, owner_key, segment_key, segments_key, ten_digits};
 
 use crate::numbers::value_of;
 use std::alloc::{AllocError, Global};
@@ -54,6 +54,17 @@ pub fn owner_key(alloc: Global, name: &[u8]) -> Result<Vec<u8>, AllocError>
 {
     let mut key = document_key(alloc, name)?;
     key.extend_from_slice(b"/owner")?;
+    Ok(key)
+}
+
+/// The key of the identity of the document of this name.
+///
+/// Fails only where memory is refused.
+pub fn identity_key(alloc: Global, name: &[u8]) -> Result<Vec<u8>, AllocError>
+    ensures { IfOk result (λ key. key.items ≡ identity_key name.now) }
+{
+    let mut key = document_key(alloc, name)?;
+    key.extend_from_slice(b"/identity")?;
     Ok(key)
 }
 

@@ -20,10 +20,10 @@ pub use answers::{
 };
 pub use error::GatewayError;
 pub use head::MAX_HEAD;
-pub use host::Host;
+pub use host::{Host, copy_hosts, host_of};
 pub use keys::{
-    Keys, Place, all_chunks, chunk_key, chunks_of, every_chunk_key, is_name, one_key, owner_key,
-    place_of,
+    Keys, Place, all_chunks, chunk_key, chunks_of, every_chunk_key, identity_key, is_name, one_key,
+    owner_key, place_of,
 };
 pub use posts::Call;
 pub use reader::{Answer, AnswerReader};

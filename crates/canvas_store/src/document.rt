@@ -1,6 +1,6 @@
 // A document in an etcd, and what is made of its answers.
 use crate::asked::Asked;
-use crate::keeper::Keeper;
+use crate::lease::Lease;
 use crate::wire::{StoreError, Wire};
 use canvas_etcd::Standing;
 use canvas_gateway::{
@@ -9,9 +9,6 @@ use canvas_gateway::{
 };
 use std::alloc::{AllocError, Allocator};
 use std::net::{Net, TcpStream};
-
-/// The seconds after which a lease ends that isn't kept alive.
-pub const LEASE_SECONDS: u64 = 10;
 
 // How many names of keys are asked for at once.
 const NAMES: u64 = 1000;
@@ -23,10 +20,11 @@ const CHUNKS: u64 = 4;
 const CHUNKS_END: u64 = 10000000000;
 
 // A document in an etcd.
-#[derive(Drop)]
 pub(crate) struct Document<R: Net<Stream = TcpStream> + AllocGlobal + Clone + Drop> {
     wire: Wire<R>,
     name: Vec<u8>,
+    // After how many seconds a lease ends that isn't kept alive.
+    lease_seconds: u64,
     // The lease under which the document was taken over.
     lease: u64,
     // The revision at which it was, or 0.
@@ -37,13 +35,33 @@ pub(crate) struct Document<R: Net<Stream = TcpStream> + AllocGlobal + Clone + Dr
     segments: Vec<Standing>,
 }
 
+impl<R: Net<Stream = TcpStream> + AllocGlobal + Clone + Drop> Drop for Document<R> {
+    fn drop(self) {
+        let Document {
+            wire: _,
+            name: _,
+            lease_seconds: _,
+            lease: _,
+            owner: _,
+            looked: _,
+            segments: _,
+        } = self;
+    }
+}
+
 impl<R: Net<Stream = TcpStream> + AllocGlobal + Clone + Drop> Document<R> {
     // Nothing is asked yet.
-    pub(crate) fn new(net: R, hosts: Vec<Host>, name: &[u8]) -> Result<Self, AllocError> {
+    pub(crate) fn new(
+        net: R,
+        hosts: Vec<Host>,
+        name: &[u8],
+        lease_seconds: u64,
+    ) -> Result<Self, AllocError> {
         let alloc = net.alloc();
         Ok(Document {
             name: Vec::from_slice(alloc, name)?,
             wire: Wire::new(net, hosts),
+            lease_seconds,
             lease: 0,
             owner: 0,
             looked: 0,
@@ -51,8 +69,9 @@ impl<R: Net<Stream = TcpStream> + AllocGlobal + Clone + Drop> Document<R> {
         })
     }
 
-    pub(crate) fn keeper(&self) -> Result<Keeper<R>, AllocError> {
-        Ok(Keeper::new(self.wire.another()?, self.lease))
+    // The lease under which the document was taken over.
+    pub(crate) fn lease(&self) -> Result<Lease<R>, AllocError> {
+        Lease::new(self.wire.another()?, &self.name, self.lease, self.owner)
     }
 
     pub(crate) fn segments(&self) -> &[Standing] {
@@ -66,7 +85,7 @@ impl<R: Net<Stream = TcpStream> + AllocGlobal + Clone + Drop> Document<R> {
         }
         let alloc = self.wire.alloc();
         let key = owner_key(alloc, &self.name)?;
-        let body = self.wire.ask(&Asked::Grant(LEASE_SECONDS))?;
+        let body = self.wire.ask(&Asked::Grant(self.lease_seconds))?;
         let lease = read_granted(alloc, &body)?.number;
         let changes = [Change::Put {
             key: &key,
@@ -85,7 +104,7 @@ impl<R: Net<Stream = TcpStream> + AllocGlobal + Clone + Drop> Document<R> {
     }
 
     // The revision at which the owner's key was written, or 0 where nobody has it.
-    fn owner_now(&mut self) -> Result<u64, StoreError> {
+    pub(crate) fn owner_now(&mut self) -> Result<u64, StoreError> {
         let alloc = self.wire.alloc();
         let keys = one_key(alloc, owner_key(alloc, &self.name)?)?;
         let found = self.names(&keys, 0)?;

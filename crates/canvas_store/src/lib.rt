@@ -3,11 +3,10 @@
 
 mod asked;
 mod document;
-mod keeper;
+mod lease;
 mod store;
 mod wire;
 
-pub use document::LEASE_SECONDS;
-pub use keeper::Keeper;
+pub use lease::Lease;
 pub use store::EtcdStore;
 pub use wire::StoreError;

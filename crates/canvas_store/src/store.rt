@@ -3,7 +3,7 @@ ghost use Rattle.std.specs.Prelude.{◌≡◌, [], false, None, IsErr, IfOk};
 ghost use Rattle.canvas_shelf.specs.Moments.{CountsFailure};
 
 use crate::document::Document;
-use crate::keeper::Keeper;
+use crate::lease::Lease;
 use crate::wire::StoreError;
 use canvas_etcd::{Change, Standing, Store};
 use canvas_gateway::Host;
@@ -18,14 +18,23 @@ use std::net::{Net, TcpStream};
 /// The endpoints are members of one etcd. Where one takes no connection within 2 seconds, or is silent for 5, the next one is asked; a
 /// transaction alone is never asked twice once it was sent, since it may have been done.
 ///
-/// Who owns a document holds the key `lugcurrant/NAME/owner`, which goes with a lease of 10 seconds. Keep that alive by [`Self::keeper`].
+/// Who owns a document holds the key `lugcurrant/NAME/owner`, which goes with a lease of so many seconds as it was
+/// made with. Keep that alive by [`Self::lease`].
 /// The number of an owner is the revision at which that key was written: etcd's revisions only rise. Each transaction compares it.
 /// Reading a segment asks afterwards whether the key still has it. A store that never took over reads what stood at the revision at which
 /// it looked, so an etcd that forgets old revisions must keep them for as long as that takes.
-#[derive(Drop)]
 pub struct EtcdStore<R: Net<Stream = TcpStream> + AllocGlobal + Clone + Drop> {
     document: Document<R>,
     failures: u64,
+}
+
+impl<R: Net<Stream = TcpStream> + AllocGlobal + Clone + Drop> Drop for EtcdStore<R> {
+    fn drop(self) {
+        let EtcdStore {
+            document: _,
+            failures: _,
+        } = self;
+    }
 }
 
 impl<R: Net<Stream = TcpStream> + AllocGlobal + Clone + Drop> Model for EtcdStore<R> {
@@ -40,23 +49,38 @@ impl<R: Net<Stream = TcpStream> + AllocGlobal + Clone + Drop> Model for EtcdStor
 }
 
 impl<R: Net<Stream = TcpStream> + AllocGlobal + Clone + Drop> EtcdStore<R> {
-    /// The store of the document of this name, which `is_name` of `canvas_gateway` allows, by these endpoints. Nothing is asked yet.
+    /// The store of the document of this name, which `is_name` of `canvas_gateway` allows, by these endpoints. Where it takes the document
+    /// over, its lease ends after so many seconds in which nobody keeps it alive. Nothing is asked yet.
     ///
     /// Fails where memory is refused.
-    pub fn new(net: R, hosts: Vec<Host>, name: &[u8]) -> Result<Self, AllocError>
+    pub fn new(
+        net: R,
+        hosts: Vec<Host>,
+        name: &[u8],
+        lease_seconds: u64,
+    ) -> Result<Self, AllocError>
         ensures failures { IfOk result (λ s. ⟦<EtcdStore<R> as Store>⟧.failure_count s ≡ 0) }
     {
         Ok(EtcdStore {
-            document: Document::new(net, hosts, name)?,
+            document: Document::new(net, hosts, name, lease_seconds)?,
             failures: 0,
         })
     }
 
-    /// Who keeps the lease alive, once the document was taken over.
+    /// The lease, once the document was taken over, for a thread that keeps it alive.
     ///
     /// Fails where memory is refused.
-    pub fn keeper(&self) -> Result<Keeper<R>, AllocError> {
-        self.document.keeper()
+    pub fn lease(&self) -> Result<Lease<R>, AllocError> {
+        self.document.lease()
+    }
+
+    /// Whether somebody owns the document now.
+    ///
+    /// `Unreachable` or `Unanswered` where no endpoint told. `Memory` where memory was refused.
+    pub fn is_owned(&mut self) -> Result<bool, StoreError>
+        ensures { self.new ≡ self.old }
+    {
+        Ok(self.document.owner_now()? != 0)
     }
 
     // Counts a failure.

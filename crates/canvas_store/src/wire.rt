@@ -2,7 +2,7 @@
 ghost use Rattle.std.specs.Prelude.{◌≤◌, IfOk, length};
 
 use crate::asked::Asked;
-use canvas_gateway::{Answer, AnswerReader, GatewayError, Host};
+use canvas_gateway::{Answer, AnswerReader, GatewayError, Host, copy_hosts};
 use std::alloc::{AllocError, AllocFailed, Global};
 use std::io;
 use std::io::{ErrorKind, Read, Write};
@@ -68,13 +68,23 @@ impl From<io::Error> for StoreError {
 }
 
 // The endpoints of an etcd, and a connection to one of them.
-#[derive(Drop)]
 pub(crate) struct Wire<R: Net<Stream = TcpStream> + AllocGlobal + Clone + Drop> {
     net: R,
     hosts: Vec<Host>,
     // Which endpoint is asked first.
     at: usize,
     stream: Option<TcpStream>,
+}
+
+impl<R: Net<Stream = TcpStream> + AllocGlobal + Clone + Drop> Drop for Wire<R> {
+    fn drop(self) {
+        let Wire {
+            net: _,
+            hosts: _,
+            at: _,
+            stream: _,
+        } = self;
+    }
 }
 
 impl<R: Net<Stream = TcpStream> + AllocGlobal + Clone + Drop> Wire<R> {
@@ -94,14 +104,7 @@ impl<R: Net<Stream = TcpStream> + AllocGlobal + Clone + Drop> Wire<R> {
 
     // The same endpoints, by a connection of its own.
     pub(crate) fn another(&self) -> Result<Wire<R>, AllocError> {
-        let alloc = self.net.alloc();
-        let mut hosts = Vec::with_capacity(alloc, self.hosts.len())?;
-        for host in &self.hosts {
-            let text = String::from_str(alloc, host.text.as_str())?;
-            if let Some(host) = Host::new(text) {
-                hosts.push(host)?;
-            }
-        }
+        let hosts = copy_hosts(self.net.alloc(), &self.hosts)?;
         Ok(Wire::new(self.net.clone()?, hosts))
     }
 
