@@ -1,0 +1,27 @@
+//! Which document a folder holds: 128 random bits as 32 hex digits, in the file `identity` beside the segments.
+#![tactic(auto)]
+
+mod error;
+mod files;
+
+ghost use Rattle.std.specs.Prelude.{IfOk, string_bytes};
+ghost use Rattle.canvas_http.specs.Identities.{IsIdentity};
+
+use canvas_http::is_identity;
+pub use error::IdentityError;
+pub use files::{identity, keep_identity, made_identity, read_identity, remove_identity};
+use std::alloc::Global;
+
+/// The identity that a text is, without the end of its line.
+///
+/// The errors: `NotOne`, where it is none; `Memory`.
+pub fn identity_in(alloc: Global, text: &str) -> Result<String, IdentityError>
+    ensures { IfOk result (λ identity. IsIdentity (string_bytes identity)) }
+{
+    let digits = text.trim_ascii_end();
+    if is_identity(digits.as_bytes()) {
+        Ok(String::from_str(alloc, digits)?)
+    } else {
+        Err(IdentityError::NotOne)
+    }
+}
