@@ -1,0 +1,252 @@
+// A document that is moved from a folder into an etcd, and back.
+ghost use Rattle.std.specs.Prelude.{OnOk};
+ghost use Rattle.canvas_care.specs.Begun.{WritesBegun};
+
+use crate::carrying::carry;
+use crate::commands::tell_begun;
+use crate::opening::{Remote, fault_of_store, taken};
+use canvas_address::Address;
+use canvas_care::{Fault, check};
+use canvas_folder::{DirShelf, OsFolder};
+use canvas_identity::{IdentityError, identity_in, keep_identity, read_identity, remove_identity};
+use canvas_judge::State;
+use canvas_shelf::Shelf;
+use canvas_store::{Lease, StoreError};
+use std::alloc::{AllocError, Global};
+use std::fs::File;
+use std::io::Write;
+use std::net::{Net, TcpStream};
+use std::rt::Files;
+
+/// Why a document wasn't moved, or not wholly, and which of its places it is of.
+#[derive(Clone, Copy, Debug, PartialEq, Eq)]
+pub enum MoveFault {
+    /// It is of the folder.
+    Folder(Fault),
+    /// It is of the document in the etcd.
+    Document(Fault),
+}
+
+impl From<AllocError> for MoveFault {
+    fn from(_: AllocError) -> MoveFault {
+        MoveFault::Folder(Fault::Memory)
+    }
+}
+
+impl From<IdentityError> for MoveFault {
+    fn from(error: IdentityError) -> MoveFault {
+        MoveFault::Folder(match error {
+            IdentityError::Memory => Fault::Memory,
+            IdentityError::NotOne | IdentityError::Device => Fault::Device,
+        })
+    }
+}
+
+impl From<StoreError> for MoveFault {
+    fn from(error: StoreError) -> MoveFault {
+        MoveFault::Document(fault_of_store(error))
+    }
+}
+
+/// Moves the document of a folder into an etcd, where there is none of this name yet, and then writes its version and how many objects there
+/// are. Its identity goes with it, so that clients go on over it there; the segments stay in the folder, which gets another identity if it is
+/// ever served again. The folder is checked first, as `check` of `canvas_care` does.
+///
+/// The faults of the folder: `NoSegment`, `InUse`, `Damaged`, `Device`, `Memory`, and `Stream` where the output failed; of the document:
+/// `InUse`, `Taken`, `Device`, `TooLarge`, `Memory`. Where the etcd has failed, the document may be in both places, and its identity in one or
+/// in none: then clients begin anew.
+pub fn move_in<R, D, W>(
+    net: &R,
+    files: D,
+    dir: &str,
+    address: &Address,
+    output: &mut W,
+) -> Result<(), MoveFault>
+where
+    R: Net<Stream = TcpStream> + AllocGlobal + Clone + Drop,
+    D: Files<File = File> + AllocGlobal + Clone + Drop,
+    W: Write,
+    ensures { OnOk result (WritesBegun (W.contents output.old) (W.contents output.new)) }
+{
+    let alloc = net.alloc();
+    look_first(&files, dir)?;
+    let mut folder = locked(&files, dir)?;
+    let (mut shelf, mut lease) = document(net, address)?;
+    let done = match carry(alloc, &mut folder, &mut shelf) {
+        Ok(found) => hand_in(&files, dir, &mut lease, found),
+        Err(fault) => Err(fault_of_in(fault)),
+    };
+    // A lease that isn't released ends by itself.
+    let _ = lease.release();
+    let (state, version) = done?;
+    told(alloc, &state, version, output)
+}
+
+// Takes the identity out of the folder, and gives it to the document.
+fn hand_in<R, D>(
+    files: &D,
+    dir: &str,
+    lease: &mut Lease<R>,
+    found: (State, u64),
+) -> Result<(State, u64), MoveFault>
+where
+    R: Net<Stream = TcpStream> + AllocGlobal + Clone + Drop,
+    D: Files<File = File> + AllocGlobal,
+{
+    if let Some(identity) = read_identity(files, dir)? {
+        remove_identity(files, dir)?;
+        lease.set_identity(identity.as_bytes())?;
+    }
+    Ok(found)
+}
+
+// Of which place a fault of carrying a document into an etcd is.
+fn fault_of_in(fault: Fault) -> MoveFault {
+    match fault {
+        Fault::Damaged { segment, offset } => {
+            MoveFault::Folder(Fault::Damaged { segment, offset })
+        }
+        fault => MoveFault::Document(fault),
+    }
+}
+
+/// Moves a document out of an etcd into a new folder, and then writes its version and how many objects there are. Its identity goes with it;
+/// the segments stay in the etcd, where the document gets another identity if it is ever served again.
+///
+/// The faults of the folder: `Taken`, where it holds a segment or an identity, `InUse`, `Device`, `TooLarge`, `Memory`, and `Stream` where the
+/// output failed; of the document: `NoSegment`, `InUse`, `Damaged`, `Device`, `Memory`. Where a fault came late, the document may be in both
+/// places, and its identity in one or in none: then clients begin anew.
+pub fn move_out<R, D, W>(
+    net: &R,
+    files: D,
+    dir: &str,
+    address: &Address,
+    output: &mut W,
+) -> Result<(), MoveFault>
+where
+    R: Net<Stream = TcpStream> + AllocGlobal + Clone + Drop,
+    D: Files<File = File> + AllocGlobal + Clone + Drop,
+    W: Write,
+    ensures { OnOk result (WritesBegun (W.contents output.old) (W.contents output.new)) }
+{
+    let alloc = net.alloc();
+    let (mut shelf, mut lease) = document(net, address)?;
+    let done = take_out(&files, dir, &mut shelf, &mut lease);
+    // A lease that isn't released ends by itself.
+    let _ = lease.release();
+    let (state, version) = done?;
+    told(alloc, &state, version, output)
+}
+
+// Carries a document out of an etcd into a folder, with its identity.
+fn take_out<R, D>(
+    files: &D,
+    dir: &str,
+    shelf: &mut Remote<R>,
+    lease: &mut Lease<R>,
+) -> Result<(State, u64), MoveFault>
+where
+    R: Net<Stream = TcpStream> + AllocGlobal + Clone + Drop,
+    D: Files<File = File> + AllocGlobal + Clone + Drop,
+{
+    let alloc = files.alloc();
+    is_there(alloc, shelf)?;
+    let mut folder = locked(files, dir)?;
+    if read_identity(files, dir)?.is_some() {
+        return Err(MoveFault::Folder(Fault::Taken));
+    }
+    let found = match carry(alloc, shelf, &mut folder) {
+        Ok(found) => found,
+        Err(fault) => return Err(fault_of_out(fault)),
+    };
+    if let Some(text) = lease.identity()? {
+        lease.remove_identity()?;
+        keep_text(files, dir, &text)?;
+    }
+    Ok(found)
+}
+
+// Of which place a fault of carrying a document out of an etcd is.
+fn fault_of_out(fault: Fault) -> MoveFault {
+    match fault {
+        Fault::Damaged { segment, offset } => {
+            MoveFault::Document(Fault::Damaged { segment, offset })
+        }
+        fault => MoveFault::Folder(fault),
+    }
+}
+
+// Checks a folder that holds segments.
+fn look_first<D: Files<File = File> + AllocGlobal + Clone + Drop>(
+    files: &D,
+    dir: &str,
+) -> Result<(), MoveFault> {
+    let mut lines: Vec<u8> = Vec::new(files.alloc());
+    match check(files.clone()?, dir, &mut lines) {
+        Ok(()) => Ok(()),
+        Err(fault) => Err(MoveFault::Folder(fault)),
+    }
+}
+
+// The shelf of a folder, which is locked for as long as it is there. The folder is made where it is missing.
+fn locked<D: Files<File = File> + AllocGlobal + Clone + Drop>(
+    files: &D,
+    dir: &str,
+) -> Result<DirShelf<OsFolder<D>>, MoveFault> {
+    match DirShelf::new(files.clone()?, dir) {
+        Ok(shelf) => Ok(shelf),
+        Err(error) => Err(MoveFault::Folder(Fault::from(error))),
+    }
+}
+
+// The shelf of a document, and the lease under which it was taken over.
+fn document<R: Net<Stream = TcpStream> + AllocGlobal + Clone + Drop>(
+    net: &R,
+    address: &Address,
+) -> Result<(Remote<R>, Lease<R>), MoveFault> {
+    match taken(net, address) {
+        Ok(found) => Ok(found),
+        Err(fault) => Err(MoveFault::Document(fault)),
+    }
+}
+
+// Fails where there is no such document.
+fn is_there<R: Net<Stream = TcpStream> + AllocGlobal + Clone + Drop>(
+    alloc: Global,
+    shelf: &mut Remote<R>,
+) -> Result<(), MoveFault> {
+    match shelf.list(alloc) {
+        Ok(listed) if listed.is_empty() => Err(MoveFault::Document(Fault::NoSegment)),
+        Ok(_) => Ok(()),
+        Err(error) => Err(MoveFault::Document(Fault::from(error))),
+    }
+}
+
+// Keeps the text of an identity in the folder.
+fn keep_text<D: Files<File = File> + AllocGlobal>(
+    files: &D,
+    dir: &str,
+    text: &[u8],
+) -> Result<(), MoveFault> {
+    let Ok(text) = str::from_utf8(text) else {
+        return Err(MoveFault::Document(Fault::Device));
+    };
+    let identity = identity_in(files.alloc(), text)?;
+    keep_identity(files, dir, &identity)?;
+    Ok(())
+}
+
+// Writes the version of a document that was moved, and how many objects there are.
+fn told<W: Write>(
+    alloc: Global,
+    state: &State,
+    version: u64,
+    output: &mut W,
+) -> Result<(), MoveFault>
+    ensures { OnOk result (WritesBegun (W.contents output.old) (W.contents output.new)) }
+{
+    match tell_begun(alloc, state, version, output) {
+        Ok(()) => Ok(()),
+        Err(fault) => Err(MoveFault::Folder(fault)),
+    }
+}
