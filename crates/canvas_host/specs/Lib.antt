@@ -3,4 +3,3 @@ pub mod Faults
 pub mod Figures
 pub mod Answers
 pub mod Seats
-pub mod Runs

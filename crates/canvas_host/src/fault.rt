@@ -3,11 +3,14 @@ ghost use Rattle.std.specs.Prelude.{◌≡◌};
 ghost use Rattle.canvas_host.specs.Faults.{status_of};
 
 use crate::causes::{Cause, Lost};
+use canvas_etcd::EtcdError;
 use canvas_folder::FolderError;
+use canvas_identity::IdentityError;
 use canvas_journal::OpenError;
 use canvas_losses::Loss;
 use canvas_room::RoomError;
 use canvas_shelf::ShelfError;
+use canvas_store::StoreError;
 use canvas_watch::ShelfCall;
 use std::alloc::{AllocError, AllocFailed};
 use std::fmt;
@@ -27,6 +30,12 @@ pub enum Fault {
     NoFolder,
     /// The file `identity` of the folder holds no identity.
     NoIdentity,
+    /// Another server has the document in the etcd.
+    DocumentInUse,
+    /// The etcd can't be reached, or doesn't answer.
+    NoStore,
+    /// The key `identity` of the document in the etcd holds no identity.
+    NoKey,
     /// A record of the journal isn't what it has to be.
     Damaged {
         /// The number of the segment.
@@ -50,6 +59,13 @@ pub enum Fault {
         /// The first call of the folder that failed, where that is known.
         call: Option<ShelfCall>,
     },
+    /// The journal in the etcd failed while the server ran: it didn't answer, or another server has taken the document over.
+    StoreFailed {
+        /// The first call that failed, where that is known.
+        call: Option<ShelfCall>,
+    },
+    /// The lease of the document in the etcd has ended.
+    LeaseEnded,
     /// Memory was refused.
     Memory,
 }
@@ -66,10 +82,14 @@ impl Fault {
             | Fault::NoPort
             | Fault::FolderInUse
             | Fault::NoFolder
+            | Fault::DocumentInUse
+            | Fault::NoStore
             | Fault::NotKept
             | Fault::NoThread
-            | Fault::JournalFailed { .. } => 4,
-            Fault::NoIdentity | Fault::Damaged { .. } | Fault::Lost { .. } => 5,
+            | Fault::JournalFailed { .. }
+            | Fault::StoreFailed { .. }
+            | Fault::LeaseEnded => 4,
+            Fault::NoIdentity | Fault::NoKey | Fault::Damaged { .. } | Fault::Lost { .. } => 5,
             Fault::TooLarge => 6,
         }
     }
@@ -80,7 +100,7 @@ impl Fault {
 pub struct Told<'a> {
     /// What happened.
     pub fault: Fault,
-    /// The folder of the document.
+    /// The folder of the document, or its name in the etcd.
     pub dir: &'a str,
     /// The port.
     pub port: u16,
@@ -110,6 +130,15 @@ impl fmt::Display for Told<'_> {
                 f,
                 "the file identity in {dir} isn't 32 hex digits: put the one of a backup in its place"
             ),
+            Fault::DocumentInUse => write!(f, "another server has the document {dir}"),
+            Fault::NoStore => write!(
+                f,
+                "the etcd of the document {dir} can't be reached, or doesn't answer: look at its health"
+            ),
+            Fault::NoKey => write!(
+                f,
+                "the identity of the document {dir} isn't 32 hex digits: put the right one in its place"
+            ),
             Fault::Damaged { segment, offset } => write!(
                 f,
                 "the document in {dir} is damaged in segment {segment} at offset {offset}: put a backup in its place"
@@ -137,6 +166,17 @@ impl fmt::Display for Told<'_> {
                     "the disk of {dir} failed{cause}: what was acknowledged is kept; look at the disk, and start anew"
                 )
             }
+            Fault::StoreFailed { call } => {
+                let cause = Cause(call);
+                write!(
+                    f,
+                    "the store of {dir} failed{cause}: what was acknowledged is kept; another server may have the document by now"
+                )
+            }
+            Fault::LeaseEnded => write!(
+                f,
+                "the lease of the document {dir} has ended: another server may have it by now"
+            ),
             Fault::Memory => write!(f, "out of memory"),
         }
     }
@@ -172,6 +212,48 @@ impl From<FolderError> for Fault {
             FolderError::InUse => Fault::FolderInUse,
             FolderError::Device => Fault::NoFolder,
             FolderError::Memory => Fault::Memory,
+        }
+    }
+}
+
+impl From<IdentityError> for Fault {
+    ghost use Rattle.canvas_host.specs.Faults.{fault_of_identity};
+
+    ghost from_gives = { λ error fault. fault ≡ fault_of_identity error };
+
+    fn from(error: IdentityError) -> Fault {
+        match error {
+            IdentityError::NotOne => Fault::NoIdentity,
+            IdentityError::Device => Fault::NoFolder,
+            IdentityError::Memory => Fault::Memory,
+        }
+    }
+}
+
+impl From<EtcdError> for Fault {
+    ghost use Rattle.canvas_host.specs.Faults.{fault_of_etcd};
+
+    ghost from_gives = { λ error fault. fault ≡ fault_of_etcd error };
+
+    fn from(error: EtcdError) -> Fault {
+        match error {
+            EtcdError::InUse => Fault::DocumentInUse,
+            EtcdError::Device => Fault::NoStore,
+            EtcdError::Memory => Fault::Memory,
+        }
+    }
+}
+
+impl From<StoreError> for Fault {
+    ghost use Rattle.canvas_host.specs.Faults.{fault_of_store};
+
+    ghost from_gives = { λ error fault. fault ≡ fault_of_store error };
+
+    fn from(error: StoreError) -> Fault {
+        match error {
+            StoreError::Lost => Fault::DocumentInUse,
+            StoreError::Unreachable | StoreError::Unanswered => Fault::NoStore,
+            StoreError::Memory => Fault::Memory,
         }
     }
 }

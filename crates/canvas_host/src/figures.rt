@@ -27,11 +27,12 @@ pub(crate) struct Figures {
 }
 
 impl Figures {
-    /// Nothing is counted yet, but what the journal's meter says, and what is noted of its folder.
+    /// Nothing is counted yet, but what the journal's meter says, and what is noted of its folder. What the journal opened with is published.
     pub(crate) fn new(meter: Arc<Meter, Global>, notes: Notes) -> Figures {
+        let opened = meter.version();
         Figures {
             meter,
-            published: AtomicU64::new(0),
+            published: AtomicU64::new(opened),
             objects: AtomicU64::new(0),
             past_floor: AtomicU64::new(0),
             clients: AtomicU64::new(0),

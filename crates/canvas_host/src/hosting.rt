@@ -1,23 +1,32 @@
-// What `lugcurrant serve` does: a room over the journal of a folder, whose seats serve clients for as long as it runs.
-ghost use Rattle.std.specs.Prelude.{◌≡◌, IfErr};
+// What `lugcurrant serve` does: a room over the journal of a document, whose seats serve clients for as long as it runs.
+ghost use Rattle.std.specs.Prelude.{◌≡◌, IfErr, IfOk, string_bytes};
+ghost use Rattle.canvas_http.specs.Identities.{IsIdentity};
 ghost use Rattle.canvas_host.specs.Faults.{IsJournalFault, IsPreparingFault, IsRunningFault, IsServeFault};
 
+use crate::documents::{DocumentJournal, is_owned, open_document};
 use crate::fault::Fault;
 use crate::figures::Figures;
-use crate::identity::identity;
-use crate::opening::{FolderJournal, FolderRoom, listen, open_room, opened};
-use crate::options::{Limits, Options, Shared};
+use crate::opening::{FolderJournal, OpenRoom, listen, open_room, opened};
+use crate::options::{Limits, Shared};
 use crate::permits::Permits;
-use crate::tasks::{DoorTask, SeatTask, begin_task};
+use crate::shelf::DocumentShelf;
+use crate::tasks::{DoorTask, LeaseTask, SeatTask, begin_task};
+use canvas_address::Address;
 use canvas_board::RoomName;
+use canvas_folder::Removed;
 use canvas_http::Site;
+use canvas_identity::identity;
 use canvas_journal::Keeper;
 use canvas_room::{BlankRoom, Lock, Room, Seat};
+use canvas_shelf::Shelf;
+use canvas_store::Lease;
+use canvas_words::{Options, Place, Serving};
 use crossbeam_channel::{Receiver, Sender, bounded};
 use std::alloc::Global;
 use std::io::Eprint;
 use std::marker::Brand;
 use std::net::{Net, TcpListener, TcpStream};
+use std::sync::atomic::{AtomicBool, Ordering};
 use std::sync::{Arc, Wait};
 use std::thread::{Threads, sleep};
 use std::time::{Clock, Duration};
@@ -28,15 +37,20 @@ const MOST_COPIES: usize = 4;
 /// How many threads accept connections.
 const DOORS: u32 = 16;
 
-/// Serves the document of a folder to clients over WebSockets, for as long as nothing fails, and answers what ended it.
+// How often a document in an etcd is looked at that another server has.
+const WAIT_MILLIS: u64 = 500;
+
+/// Serves a document to clients over WebSockets, for as long as nothing fails, and answers what ended it.
 ///
 /// It listens at the own machine alone, at the port of the options. So many clients as they say are served at once; a seat whose
 /// connection has ended serves the next one. A client more is turned away, and other requests are answered as `canvas_http` says.
-/// The folder is made where it is missing, and nobody else can open it to write meanwhile. A `kill` at any moment is safe.
+/// A folder is made where it is missing, and nobody else can open it to write meanwhile. A document in an etcd is taken over, under a
+/// lease that a thread keeps alive; a standby waits until nobody has it, and doesn't listen before. A `kill` at any moment is safe.
 ///
 /// The faults: `ClientCount`, only for fewer clients than 1 or more than 64; `PortInUse` and `NoPort`, where the port can't be had,
-/// and then the folder is left alone; `FolderInUse`, `NoFolder`, `NoIdentity`, `Damaged`, `Lost`, `NotKept` and `TooLarge`, where the document
-/// isn't opened; `NoThread`, where not all threads can be made; `Memory`; and `JournalFailed` later, once the device of the journal has failed.
+/// and then the document is left alone; `FolderInUse`, `NoFolder`, `NoIdentity`, `Lost`, `NotKept` of a folder, `DocumentInUse`, `NoStore`,
+/// `NoKey` of a document in an etcd, and `Damaged` and `TooLarge`, where it isn't opened; `NoThread`, where not all threads can be made;
+/// `Memory`; and later `JournalFailed`, once the device of the journal has failed, or `StoreFailed` and `LeaseEnded` of an etcd.
 pub fn serve<R>(rt: &R, files: HostRuntime, options: Options) -> Fault
 where
     R: Net<Listener = TcpListener, Stream = TcpStream>
@@ -50,62 +64,230 @@ where
         + Sync
         + Drop
         + 'static,
-    ensures { IsServeFault options.clients result }
+    ensures { IsServeFault options.serving.clients result }
 {
-    let (room, shared) = match prepare(rt, files, options) {
+    let (place, serving) = options.apart();
+    match &place {
+        Place::Folder(dir) => serve_folder(rt, files, dir, serving),
+        Place::Document(address) => serve_document(rt, files, address, serving),
+    }
+}
+
+// Serves the document of a folder.
+fn serve_folder<R>(rt: &R, files: HostRuntime, dir: &str, serving: Serving) -> Fault
+where
+    R: Net<Listener = TcpListener, Stream = TcpStream>
+        + Threads
+        + Wait
+        + Clock
+        + Eprint
+        + AllocGlobal
+        + Clone
+        + Send
+        + Sync
+        + Drop
+        + 'static,
+    ensures { IsServeFault serving.clients result }
+{
+    let (room, shared) = match prepare_folder(rt, files, dir, serving) {
         Ok(prepared) => prepared,
         Err(fault) => return fault,
     };
     host::<Brand, _, _>(rt, files, room, &shared)
 }
 
+// Serves a document in an etcd.
+fn serve_document<R>(rt: &R, files: HostRuntime, address: &Address, serving: Serving) -> Fault
+where
+    R: Net<Listener = TcpListener, Stream = TcpStream>
+        + Threads
+        + Wait
+        + Clock
+        + Eprint
+        + AllocGlobal
+        + Clone
+        + Send
+        + Sync
+        + Drop
+        + 'static,
+    ensures { IsServeFault serving.clients result }
+{
+    let (room, shared, lease) = match prepare_document(rt, files, address, serving) {
+        Ok(prepared) => prepared,
+        Err(fault) => return fault,
+    };
+    let fault = host::<Brand, _, _>(rt, files, room, &shared);
+    // Nothing more can be written under it. One that isn't released ends by itself.
+    let _ = lease.release();
+    fault
+}
+
 // What a server has before it serves: the room of its document, and what its threads share.
-type Prepared = (BlankRoom<FolderJournal>, Arc<Shared, Global>);
+type Prepared<K> = (BlankRoom<K>, Arc<Shared, Global>);
 
 // Listens, and opens the folder.
-fn prepare<R>(rt: &R, files: HostRuntime, options: Options) -> Result<Prepared, Fault>
+fn prepare_folder<R>(
+    rt: &R,
+    files: HostRuntime,
+    dir: &str,
+    serving: Serving,
+) -> Result<Prepared<FolderJournal>, Fault>
 where
     R: Net<Listener = TcpListener, Stream = TcpStream> + Wait + AllocGlobal,
-    ensures { IfErr result (IsPreparingFault options.clients) }
+    ensures { IfErr result (IsPreparingFault serving.clients) }
 {
-    let alloc = rt.alloc();
-    let Options {
-        dir,
-        port,
-        clients,
-        idle_seconds,
-        message_bytes,
-        origins,
-        page,
-        accept_loss,
-        quiet,
-    } = options;
-    let listener = listen(rt, port)?;
-    let FolderRoom {
-        room,
-        removed,
-        meter,
-        notes,
-    } = open_room(files, &dir, clients as usize, accept_loss)?;
-    let site = Site {
-        origins,
-        identity: identity(&files, &dir)?,
-        has_page: page.is_some(),
+    let listener = listen(rt, serving.port)?;
+    let (opened, removed) = open_room(files, dir, serving.clients as usize, serving.accept_loss)?;
+    let OpenRoom { room, meter, notes } = opened;
+    let identity = identity(&files, dir)?;
+    let figures = Figures::new(meter, notes);
+    let shared = share(rt, listener, identity, figures, Some(removed), serving)?;
+    Ok((room, shared))
+}
+
+// Takes the document over, listens, and gives its lease a thread. Answers with the room a second hold of the lease, to release it in the end.
+fn prepare_document<R>(
+    rt: &R,
+    files: HostRuntime,
+    address: &Address,
+    serving: Serving,
+) -> Result<(BlankRoom<DocumentJournal<R>>, Arc<Shared, Global>, Lease<R>), Fault>
+where
+    R: Net<Listener = TcpListener, Stream = TcpStream>
+        + Threads
+        + Wait
+        + Clock
+        + Eprint
+        + AllocGlobal
+        + Clone
+        + Send
+        + Drop
+        + 'static,
+    ensures { IfErr result (IsServeFault serving.clients) }
+{
+    let taken = if serving.is_standby {
+        await_document(rt, files, address, &serving)?
+    } else {
+        take_document(rt, files, address, &serving)?
     };
+    let Taken {
+        listener,
+        opened,
+        lease,
+        identity,
+    } = taken;
+    let OpenRoom { room, meter, notes } = opened;
+    let figures = Figures::new(meter, notes);
+    let shared = share(rt, listener, identity, figures, None, serving)?;
+    let task = LeaseTask {
+        rt: rt.clone()?,
+        lease: lease.another()?,
+        shared: Arc::try_clone(&shared)?,
+    };
+    begin_task(rt, task)?;
+    Ok((room, shared, lease))
+}
+
+// A document that was taken over, under this lease, and the port that it is served at.
+struct Taken<S: Shelf, L> {
+    listener: TcpListener,
+    opened: OpenRoom<S>,
+    lease: L,
+    identity: String,
+}
+
+// Listens, and takes the document over.
+fn take_document<R>(
+    rt: &R,
+    files: HostRuntime,
+    address: &Address,
+    serving: &Serving,
+) -> Result<Taken<DocumentShelf<R>, Lease<R>>, Fault>
+where
+    R: Net<Listener = TcpListener, Stream = TcpStream> + AllocGlobal + Clone + Drop,
+    ensures named { IfOk result (λ taken. IsIdentity (string_bytes taken.identity)) }
+    ensures faults { IfErr result (IsPreparingFault serving.now.clients) }
+{
+    let listener = listen(rt, serving.port)?;
+    let (opened, lease, identity) = open_document(rt, files, address, serving.clients as usize)?;
+    Ok(Taken {
+        listener,
+        opened,
+        lease,
+        identity,
+    })
+}
+
+// Waits until nobody has the document, and then takes it over.
+fn await_document<R>(
+    rt: &R,
+    files: HostRuntime,
+    address: &Address,
+    serving: &Serving,
+) -> Result<Taken<DocumentShelf<R>, Lease<R>>, Fault>
+where
+    R: Net<Listener = TcpListener, Stream = TcpStream>
+        + Wait
+        + Clock
+        + Eprint
+        + AllocGlobal
+        + Clone
+        + Drop,
+    ensures named { IfOk result (λ taken. IsIdentity (string_bytes taken.identity)) }
+    ensures faults { IfErr result (IsPreparingFault serving.now.clients) }
+{
+    if !serving.quiet {
+        let name = address.name.as_str();
+        let _ = rt.eprintln(format_args!("waiting for the document {name}"));
+    }
+    for _ in rt.forever() {
+        if !is_owned(rt, files.alloc(), address)? {
+            match take_document(rt, files, address, serving) {
+                Err(Fault::DocumentInUse) => {}
+                done => return done,
+            }
+        }
+        sleep(rt, Duration::from_millis(WAIT_MILLIS));
+    }
+    unreachable!()
+}
+
+// What the threads of a server share.
+fn share<R>(
+    rt: &R,
+    listener: TcpListener,
+    identity: String,
+    figures: Figures,
+    removed: Option<Removed>,
+    serving: Serving,
+) -> Result<Arc<Shared, Global>, Fault>
+where
+    R: Wait + AllocGlobal,
+    requires { IsIdentity (string_bytes identity) }
+    ensures { IfErr result (λ fault. fault ≡ Fault.Memory) }
+{
+    let limits = Limits {
+        idle_seconds: serving.idle_seconds,
+        message_bytes: serving.message_bytes,
+    };
+    let quiet = serving.quiet;
+    let (origins, page) = serving.into_pages();
     let shared = Shared {
         listener,
-        site,
+        site: Site {
+            origins,
+            identity,
+            has_page: page.is_some(),
+        },
         page,
-        figures: Figures::new(meter, notes),
+        figures,
         copies: Permits::new(rt, MOST_COPIES)?,
         removed,
-        limits: Limits {
-            idle_seconds,
-            message_bytes,
-        },
+        has_ended: AtomicBool::new(false),
+        limits,
         quiet,
     };
-    Ok((room, Arc::new(alloc, shared)?))
+    Ok(Arc::new(rt.alloc(), shared)?)
 }
 
 // Serves a room's document.
@@ -226,7 +408,7 @@ const GLANCE_MILLIS: u64 = 100;
 // How long answers may be under way once the journal has failed.
 const GRACE_SECONDS: u64 = 1;
 
-// Keeps the figures up to date until the journal has failed.
+// Keeps the figures up to date until the journal has failed, or the lease has ended.
 fn watch<K, N, R>(rt: &R, room: &Room<K, N, R>, shared: &Shared) -> Fault
 where
     N: RoomName,
@@ -235,14 +417,28 @@ where
     ensures { IsJournalFault result }
 {
     for _ in rt.forever() {
+        if shared.has_ended.load(Ordering::SeqCst) {
+            return Fault::LeaseEnded;
+        }
         if glance(rt, room, shared) {
             sleep(rt, Duration::from_secs(GRACE_SECONDS));
-            let call = shared.figures.failed_call();
-            return Fault::JournalFailed { call };
+            return failed(shared);
         }
         sleep(rt, Duration::from_millis(GLANCE_MILLIS));
     }
     unreachable!()
+}
+
+// What it is that the journal has failed.
+fn failed(shared: &Shared) -> Fault
+    ensures { IsJournalFault result }
+{
+    let call = shared.figures.failed_call();
+    if shared.removed.is_some() {
+        Fault::JournalFailed { call }
+    } else {
+        Fault::StoreFailed { call }
+    }
 }
 
 // Notes how the document stands. Answers whether the journal has failed.

@@ -1,28 +1,23 @@
-//! What the program `lugcurrant` does: a server of one document that one leaves running.
+//! A server of one document that one leaves running, over the document of a folder or of an etcd.
 #![tactic(auto)]
 
 mod answers;
-mod caring;
 mod causes;
 mod connections;
+mod documents;
 mod doors;
 mod fault;
 mod figures;
 mod hosting;
-mod identity;
+mod leasing;
 mod losing;
 mod noes;
 mod opening;
 mod options;
 mod permits;
-mod running;
 mod seated;
 mod shelf;
 mod tasks;
-mod words;
 
 pub use fault::{Fault, Told};
 pub use hosting::serve;
-pub use options::Options;
-pub use running::run;
-pub use words::{Asked, read_words};

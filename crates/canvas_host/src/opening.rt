@@ -1,5 +1,5 @@
-// What a server has before it serves: its port, and the room of its folder's document.
-ghost use Rattle.std.specs.Prelude.{◌≡◌, IfErr, IfOk, length};
+// What a server has before it serves: its port, and the room of its document.
+ghost use Rattle.std.specs.Prelude.{◌≡◌, IfErr, IfOk, false, length};
 ghost use Rattle.canvas_host.specs.Faults.{IsOpeningFault, IsPortFault};
 
 use crate::fault::Fault;
@@ -10,6 +10,7 @@ use canvas_folder::{DirShelf, Removed};
 use canvas_journal::{Journal, Keeper, open};
 use canvas_meter::{Meter, Metered};
 use canvas_room::{BlankRoom, Lock, Room, Seat, blank_room};
+use canvas_shelf::Shelf;
 use canvas_watch::{Notes, SumFiles, Watched};
 use std::alloc::Global;
 use std::io::ErrorKind;
@@ -31,30 +32,31 @@ pub(crate) fn listen<R: Net>(rt: &R, port: u16) -> Result<R::Listener, Fault>
     }
 }
 
-/// The journal of a folder, which is counted.
-pub(crate) type FolderJournal = Metered<Journal<FolderShelf>, HostRuntime>;
+/// The journal of a shelf, which is counted.
+pub(crate) type Counted<S> = Metered<Journal<S>, HostRuntime>;
 
-/// The room of a folder's document, without a name yet, and what others see of the folder meanwhile.
-pub(crate) struct FolderRoom {
+/// The journal of a folder, which is counted.
+pub(crate) type FolderJournal = Counted<FolderShelf>;
+
+/// The room of a document, without a name yet, and what is counted and noted of its journal.
+pub(crate) struct OpenRoom<S: Shelf> {
     /// The room.
-    pub(crate) room: BlankRoom<FolderJournal>,
-    /// The files that the folder removes.
-    pub(crate) removed: Removed,
+    pub(crate) room: BlankRoom<Counted<S>>,
     /// What its journal counts.
     pub(crate) meter: Arc<Meter, Global>,
-    /// What is noted of its calls.
+    /// What is noted of its shelf's calls.
     pub(crate) notes: Notes,
 }
 
-/// Opens the room of a folder's document, with so many seats. The folder is made where it is missing, and locked. Where opening it would
-/// lose something, nothing is opened, unless that is accepted.
+/// Opens the room of a folder's document, with so many seats, and answers it with the files that the folder removes. The folder is made
+/// where it is missing, and locked. Where opening it would lose something, nothing is opened, unless that is accepted.
 pub(crate) fn open_room(
     files: HostRuntime,
     dir: &str,
     seats: usize,
     accept_loss: bool,
-) -> Result<FolderRoom, Fault>
-    ensures seats { IfOk result (λ opened. opened.room.seats ≡ seats) }
+) -> Result<(OpenRoom<FolderShelf>, Removed), Fault>
+    ensures seats { IfOk result (λ opened. opened.0.room.seats ≡ seats) }
     ensures faults { IfErr result (IsOpeningFault seats) }
 {
     let alloc = files.alloc();
@@ -65,7 +67,22 @@ pub(crate) fn open_room(
     let removed = shelf.folder().removed().share()?;
     let shelf = Watched::new(alloc, shelf, SumFiles::new(files, dir)?)?;
     let notes = shelf.notes().share()?;
-    let shelf = FolderShelf { shelf };
+    let opened = room_of(files, FolderShelf { shelf }, notes, seats)?;
+    Ok((opened, removed))
+}
+
+/// Opens the room of what a shelf of the system holds, of which nothing is claimed, with so many seats.
+pub(crate) fn room_of<S: Shelf + Drop>(
+    files: HostRuntime,
+    shelf: S,
+    notes: Notes,
+    seats: usize,
+) -> Result<OpenRoom<S>, Fault>
+    requires { S.honest shelf ≡ false }
+    ensures seats { IfOk result (λ opened. opened.room.seats ≡ seats) }
+    ensures faults { IfErr result (IsOpeningFault seats) }
+{
+    let alloc = files.alloc();
     let (journal, state, version) = match open(alloc, shelf) {
         Ok(opened) => opened,
         Err((_shelf, error)) => return Err(Fault::from(error)),
@@ -73,12 +90,7 @@ pub(crate) fn open_room(
     let meter = Arc::new(alloc, Meter::new(version))?;
     let keeper = Metered::new(journal, files, Arc::try_clone(&meter)?);
     match blank_room(alloc, keeper, Opening { state, version }, seats) {
-        Ok(room) => Ok(FolderRoom {
-            room,
-            removed,
-            meter,
-            notes,
-        }),
+        Ok(room) => Ok(OpenRoom { room, meter, notes }),
         Err((_keeper, error)) => Err(Fault::from(error)),
     }
 }

@@ -173,6 +173,8 @@ where
             self.shared.figures.refuse(NoReason::NotRead);
         }
         self.rest();
-        self.shared.removed.close();
+        if let Some(removed) = &self.shared.removed {
+            removed.close();
+        }
     }
 }

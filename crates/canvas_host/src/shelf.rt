@@ -1,8 +1,12 @@
-// The shelf of a folder that a server has open.
+// The shelves that a server has open: that of a folder, and that of a document in an etcd.
+use crate::documents::NoWitness;
+use canvas_etcd::EtcdShelf;
 use canvas_folder::{DirShelf, OsFolder};
 use canvas_shelf::{CreateError, DeviceFailed, Shelf, ShelfError};
+use canvas_store::EtcdStore;
 use canvas_watch::{SumFiles, Watched};
 use std::alloc::Allocator;
+use std::net::{Net, TcpStream};
 
 /// A folder of the process, which is watched.
 pub(crate) type WatchedFolder = Watched<DirShelf<OsFolder<HostRuntime>>, SumFiles<HostRuntime>>;
@@ -30,6 +34,63 @@ impl Shelf for FolderShelf {
     ghost failure_count = { λ s. ⟦<WatchedFolder as Shelf>⟧.failure_count s.shelf };
 
     // Nothing is claimed of what a folder of the system holds (`OsFolder`).
+    ghost sound = { λ s h. record { falls = tt; segments = tt } };
+
+    fn list<A: Allocator>(&mut self, alloc: A) -> Result<Vec<u32, A>, ShelfError> {
+        self.shelf.list(alloc)
+    }
+
+    fn read<A: Allocator>(&mut self, alloc: A, number: u32) -> Result<Vec<u8, A>, ShelfError> {
+        self.shelf.read(alloc, number)
+    }
+
+    fn create(&mut self, number: u32) -> Result<(), CreateError> {
+        self.shelf.create(number)
+    }
+
+    fn append(&mut self, number: u32, bytes: &[u8]) -> Result<(), DeviceFailed> {
+        self.shelf.append(number, bytes)
+    }
+
+    fn sync(&mut self, number: u32) -> Result<(), DeviceFailed> {
+        self.shelf.sync(number)
+    }
+
+    fn retire(&mut self, number: u32) -> Result<(), DeviceFailed> {
+        self.shelf.retire(number)
+    }
+
+    fn failures(&self) -> u64 {
+        self.shelf.failures()
+    }
+}
+
+/// A document in an etcd, which is watched.
+pub(crate) type WatchedDocument<R> = Watched<EtcdShelf<EtcdStore<R>>, NoWitness>;
+
+/// The shelf of a document in an etcd, which is watched: the first call that fails is noted. It does what that shelf does, and has a name of
+/// its own, so that the types above it stay short.
+pub(crate) struct DocumentShelf<R: Net<Stream = TcpStream> + AllocGlobal + Clone + Drop> {
+    /// The shelf.
+    pub(crate) shelf: WatchedDocument<R>,
+}
+
+impl<R: Net<Stream = TcpStream> + AllocGlobal + Clone + Drop> Drop for DocumentShelf<R> {
+    fn drop(self) {
+        let DocumentShelf { shelf: _ } = self;
+    }
+}
+
+impl<R: Net<Stream = TcpStream> + AllocGlobal + Clone + Drop> Shelf for DocumentShelf<R> {
+    ghost disk = { λ s. ⟦<WatchedDocument<R> as Shelf>⟧.disk s.shelf };
+
+    ghost past = { λ s. ⟦<WatchedDocument<R> as Shelf>⟧.past s.shelf };
+
+    ghost honest = { λ s. ⟦<WatchedDocument<R> as Shelf>⟧.honest s.shelf };
+
+    ghost failure_count = { λ s. ⟦<WatchedDocument<R> as Shelf>⟧.failure_count s.shelf };
+
+    // Nothing is claimed of what an etcd holds (`EtcdStore`).
     ghost sound = { λ s h. record { falls = tt; segments = tt } };
 
     fn list<A: Allocator>(&mut self, alloc: A) -> Result<Vec<u32, A>, ShelfError> {

@@ -4,15 +4,17 @@ ghost use Rattle.std.specs.Prelude.{◌≡◌, IfErr};
 use crate::connections::serve_each;
 use crate::doors::stand;
 use crate::fault::Fault;
+use crate::leasing::keep;
 use crate::options::Shared;
 use crate::seated::Seated;
 use canvas_board::RoomName;
 use canvas_journal::Keeper;
 use canvas_room::{Lock, Seat};
+use canvas_store::Lease;
 use crossbeam_channel::{Receiver, Sender};
 use std::alloc::Global;
 use std::io::Eprint;
-use std::net::TcpStream;
+use std::net::{Net, TcpStream};
 use std::sync::{Arc, Wait};
 use std::thread::{Threads, spawn};
 use std::time::Clock;
@@ -101,5 +103,37 @@ where
             seats,
         } = self;
         stand(&rt, files, &shared, &seats);
+    }
+}
+
+/// The lease of a document in an etcd, and who is told once it has ended.
+pub(crate) struct LeaseTask<R: Net<Stream = TcpStream> + AllocGlobal + Clone + Drop> {
+    pub(crate) rt: R,
+    pub(crate) lease: Lease<R>,
+    pub(crate) shared: Arc<Shared, Global>,
+}
+
+impl<R: Net<Stream = TcpStream> + AllocGlobal + Clone + Drop> Drop for LeaseTask<R> {
+    fn drop(self) {
+        let LeaseTask {
+            rt: _,
+            lease: _,
+            shared: _,
+        } = self;
+    }
+}
+
+impl<R> Task for LeaseTask<R>
+where
+    R: Net<Stream = TcpStream> + Wait + Clock + AllocGlobal + Clone + Drop,
+{
+    // Keeps it alive until it has ended.
+    fn run(self) {
+        let LeaseTask {
+            rt,
+            mut lease,
+            shared,
+        } = self;
+        keep(&rt, &mut lease, &shared);
     }
 }

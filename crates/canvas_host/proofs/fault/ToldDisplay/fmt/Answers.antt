@@ -13,3 +13,9 @@ returns-in-JournalFailed-clause-writes g c = λ plain ok. rw c.in-JournalFailed.
 
 pub returns-in-NotKept-clause-writes : goal.returns-in-NotKept-clause-writes
 returns-in-NotKept-clause-writes g c = λ plain ok. rw c.in-NotKept.is (has_written_of_eq _ _ _ _ _ (simp append_assoc) (c.write-in-NotKept.ensures.writes plain ok))
+
+pub returns-in-StoreFailed-clause-writes : goal.returns-in-StoreFailed-clause-writes
+returns-in-StoreFailed-clause-writes g c = λ plain ok. rw c.in-StoreFailed.is (has_written_of_eq _ _ _ _ _ (simp append_assoc) (c.write-in-StoreFailed.ensures.writes plain ok))
+
+pub returns-in-LeaseEnded-clause-writes : goal.returns-in-LeaseEnded-clause-writes
+returns-in-LeaseEnded-clause-writes g c = λ plain ok. rw c.in-LeaseEnded.is (c.write-in-LeaseEnded.ensures.writes plain ok)

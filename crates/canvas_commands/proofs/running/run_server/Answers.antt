@@ -1,0 +1,7 @@
+use Rattle.std.proofs.Common.{inl, inr}
+use Rattle.canvas_host.specs.declared.fault.Fault.TheVariants.{Memory}
+use Rattle.canvas_commands.proofs.running.run_server.Goals as goal
+
+-- the sentence of want of memory names no place
+pub returns-in-Err : goal.returns-in-Err
+returns-in-Err g c = (Memory, inl (inr tt), c.tell-in-Err.ensures)

@@ -1,0 +1,143 @@
+// The commands that care for a document in an etcd, each to its end: they answer the program's status, once a fault is told.
+ghost use Rattle.std.specs.Prelude.{◌⊎◌, OnOk, string_bytes};
+ghost use Rattle.canvas_care.specs.Begun.{WritesBegun, WritesImported};
+ghost use Rattle.canvas_care.specs.Checks.{WritesShelf};
+ghost use Rattle.canvas_care.specs.Faults as folder;
+ghost use Rattle.canvas_care.specs.Logs.{WritesLog};
+ghost use Rattle.canvas_care.specs.Shown.{WritesRows};
+ghost use Rattle.canvas_remote.specs.Faults.{Ends};
+ghost use Rattle.canvas_report.specs.Reports.{WritesReport};
+
+use canvas_address::Address;
+use canvas_care::Layout;
+use canvas_remote::{
+    MoveFault, check, finish, import_document, log, move_in, move_out, show_rows, show_tree,
+};
+use std::io::{Read, Write};
+use std::net::{Net, TcpStream};
+
+/// Writes the tree of a document.
+pub(crate) fn show_remote_tree<R, W, F>(
+    rt: &R,
+    address: &Address,
+    output: &mut W,
+    faults: &mut F,
+) -> u8
+where
+    R: Net<Stream = TcpStream> + AllocGlobal + Clone + Drop,
+    W: Write,
+    F: Write,
+    ensures { Ends (WritesReport (W.contents output.old) (W.contents output.new)) (string_bytes address.now.name) result (F.contents faults.old) (F.contents faults.new) }
+{
+    finish(show_tree(rt, address, output), &address.name, faults)
+}
+
+/// Writes the rows of a document.
+pub(crate) fn show_remote_rows<R, W, F>(
+    rt: &R,
+    address: &Address,
+    layout: Layout,
+    output: &mut W,
+    faults: &mut F,
+) -> u8
+where
+    R: Net<Stream = TcpStream> + AllocGlobal + Clone + Drop,
+    W: Write,
+    F: Write,
+    ensures { Ends (WritesRows layout (W.contents output.old) (W.contents output.new)) (string_bytes address.now.name) result (F.contents faults.old) (F.contents faults.new) }
+{
+    finish(
+        show_rows(rt, address, layout, output),
+        &address.name,
+        faults,
+    )
+}
+
+/// Makes a document of the rows of the input.
+pub(crate) fn import_remote<R, I, W, F>(
+    rt: &R,
+    address: &Address,
+    input: &mut I,
+    output: &mut W,
+    faults: &mut F,
+) -> u8
+where
+    R: Net<Stream = TcpStream> + AllocGlobal + Clone + Drop,
+    I: Read,
+    W: Write,
+    F: Write,
+    ensures { Ends (WritesImported (I.remaining input.old) (I.remaining input.new) (W.contents output.old) (W.contents output.new)) (string_bytes address.now.name) result (F.contents faults.old) (F.contents faults.new) }
+{
+    finish(
+        import_document(rt, address, input, output),
+        &address.name,
+        faults,
+    )
+}
+
+/// Tells what stands in a document's segments.
+pub(crate) fn check_remote<R, W, F>(rt: &R, address: &Address, output: &mut W, faults: &mut F) -> u8
+where
+    R: Net<Stream = TcpStream> + AllocGlobal + Clone + Drop,
+    W: Write,
+    F: Write,
+    ensures { Ends (WritesShelf (W.contents output.old) (W.contents output.new)) (string_bytes address.now.name) result (F.contents faults.old) (F.contents faults.new) }
+{
+    finish(check(rt, address, output), &address.name, faults)
+}
+
+/// Writes the entries past a document's checkpoint.
+pub(crate) fn log_remote<R, W, F>(rt: &R, address: &Address, output: &mut W, faults: &mut F) -> u8
+where
+    R: Net<Stream = TcpStream> + AllocGlobal + Clone + Drop,
+    W: Write,
+    F: Write,
+    ensures { Ends (WritesLog (W.contents output.old) (W.contents output.new)) (string_bytes address.now.name) result (F.contents faults.old) (F.contents faults.new) }
+{
+    finish(log(rt, address, output), &address.name, faults)
+}
+
+/// Moves a document from a folder into an etcd, or back. A fault is told with the place that it is of.
+pub(crate) fn run_move<R, W, F>(
+    rt: &R,
+    files: HostRuntime,
+    dir: &str,
+    address: &Address,
+    is_back: bool,
+    output: &mut W,
+    faults: &mut F,
+) -> u8
+where
+    R: Net<Stream = TcpStream> + AllocGlobal + Clone + Drop,
+    W: Write,
+    F: Write,
+    ensures { folder.Ends (WritesBegun (W.contents output.old) (W.contents output.new)) dir.now result (F.contents faults.old) (F.contents faults.new)
+        ⊎ Ends ⊥ (string_bytes address.now.name) result (F.contents faults.old) (F.contents faults.new) }
+{
+    match moved(rt, files, dir, address, is_back, output) {
+        Ok(()) => 0,
+        Err(MoveFault::Folder(fault)) => canvas_care::finish(Err(fault), dir, faults),
+        Err(MoveFault::Document(fault)) => finish(Err(fault), &address.name, faults),
+    }
+}
+
+// Moves a document.
+fn moved<R, W>(
+    rt: &R,
+    files: HostRuntime,
+    dir: &str,
+    address: &Address,
+    is_back: bool,
+    output: &mut W,
+) -> Result<(), MoveFault>
+where
+    R: Net<Stream = TcpStream> + AllocGlobal + Clone + Drop,
+    W: Write,
+    ensures { OnOk result (WritesBegun (W.contents output.old) (W.contents output.new)) }
+{
+    if is_back {
+        move_out(rt, files, dir, address, output)
+    } else {
+        move_in(rt, files, dir, address, output)
+    }
+}

@@ -1,0 +1,223 @@
+// The program: its words, and the status that it ends with.
+ghost use Rattle.std.specs.Prelude.{◌≡◌, IfOk, string_bytes};
+ghost use Rattle.canvas_host.specs.Faults.{IsEnd, IsServed};
+ghost use Rattle.canvas_commands.specs.Runs.{Does, IsRefused, IsRun, Shows, place_bytes};
+
+use crate::caring::{run_check, run_import, run_log, run_restore, run_rows, run_tree};
+use crate::remote::{
+    check_remote, import_remote, log_remote, run_move, show_remote_rows, show_remote_tree,
+};
+use canvas_address::AddressError;
+use canvas_care::Layout;
+use canvas_host::{Fault, Told, serve};
+use canvas_words::{Asked, Options, Place, WordsError, read_words};
+use std::alloc::{AllocError, Global};
+use std::io::{Eprint, Print, Read, Write};
+use std::net::{Net, TcpListener, TcpStream};
+use std::sync::Wait;
+use std::thread::Threads;
+use std::time::Clock;
+
+/// Does what the words ask for, of which the first is the program's name, and answers the program's status: 0, or that of the fault
+/// that ended it, which is told on `faults`.
+pub fn run<R, I, W, F>(
+    rt: &R,
+    files: HostRuntime,
+    words: &[String],
+    input: &mut I,
+    output: &mut W,
+    faults: &mut F,
+) -> u8
+where
+    R: Net<Listener = TcpListener, Stream = TcpStream>
+        + Threads
+        + Wait
+        + Clock
+        + Print
+        + Eprint
+        + AllocGlobal
+        + Clone
+        + Send
+        + Sync
+        + Drop
+        + 'static,
+    I: Read,
+    W: Write,
+    F: Write,
+    ensures { IsRun result
+        (I.remaining input.old) (I.remaining input.new)
+        (W.contents output.old) (W.contents output.new)
+        (F.contents faults.old) (F.contents faults.new) }
+{
+    match read_words(rt.alloc(), words) {
+        Ok(asked) => carry_out(rt, files, asked, input, output, faults),
+        Err(WordsError::Line(error)) => match error.print(rt) {
+            Ok(()) => error.exit_code() as u8,
+            Err(_) => 4,
+        },
+        Err(WordsError::Address(error)) => refuse(error, faults),
+    }
+}
+
+// Tells that the words don't say where a document in an etcd is.
+fn refuse<F: Write>(error: AddressError, faults: &mut F) -> u8
+    ensures { IsRefused error result (F.contents faults.old) (F.contents faults.new) }
+{
+    let told = match error {
+        AddressError::NotAUrl => writeln!(
+            faults,
+            "--etcd wants URLs as http://127.0.0.1:2379, with commas between them"
+        ),
+        AddressError::NotAName => writeln!(
+            faults,
+            "--document wants a name of 1 to 64 letters, digits, -, . and _"
+        ),
+        AddressError::Memory => writeln!(faults, "out of memory"),
+    };
+    if told.is_err() || faults.flush().is_err() {
+        return 4;
+    }
+    match error {
+        AddressError::NotAUrl | AddressError::NotAName => 2,
+        AddressError::Memory => 3,
+    }
+}
+
+// Does what is asked for.
+fn carry_out<R, I, W, F>(
+    rt: &R,
+    files: HostRuntime,
+    asked: Asked,
+    input: &mut I,
+    output: &mut W,
+    faults: &mut F,
+) -> u8
+where
+    R: Net<Listener = TcpListener, Stream = TcpStream>
+        + Threads
+        + Wait
+        + Clock
+        + Eprint
+        + AllocGlobal
+        + Clone
+        + Send
+        + Sync
+        + Drop
+        + 'static,
+    I: Read,
+    W: Write,
+    F: Write,
+    ensures { Does asked result
+        (I.remaining input.old) (I.remaining input.new)
+        (W.contents output.old) (W.contents output.new)
+        (F.contents faults.old) (F.contents faults.new) }
+{
+    match asked {
+        Asked::Serve(options) => run_server(rt, files, options, faults),
+        Asked::Show { place, layout } => show(rt, files, &place, layout, output, faults),
+        Asked::Import { place } => match &place {
+            Place::Folder(dir) => run_import(files, dir, input, output, faults),
+            Place::Document(address) => import_remote(rt, address, input, output, faults),
+        },
+        Asked::Restore { backup, dir } => run_restore(files, &backup, &dir, output, faults),
+        Asked::Move {
+            dir,
+            address,
+            is_back,
+        } => run_move(rt, files, &dir, &address, is_back, output, faults),
+        Asked::Check { place } => match &place {
+            Place::Folder(dir) => run_check(files, dir, output, faults),
+            Place::Document(address) => check_remote(rt, address, output, faults),
+        },
+        Asked::Log { place } => match &place {
+            Place::Folder(dir) => run_log(files, dir, output, faults),
+            Place::Document(address) => log_remote(rt, address, output, faults),
+        },
+    }
+}
+
+// Writes a document's tree, or its rows.
+fn show<R, W, F>(
+    rt: &R,
+    files: HostRuntime,
+    place: &Place,
+    layout: Option<Layout>,
+    output: &mut W,
+    faults: &mut F,
+) -> u8
+where
+    R: Net<Stream = TcpStream> + AllocGlobal + Clone + Drop,
+    W: Write,
+    F: Write,
+    ensures { Shows place.now layout result (W.contents output.old) (W.contents output.new) (F.contents faults.old) (F.contents faults.new) }
+{
+    match (place, layout) {
+        (Place::Folder(dir), None) => run_tree(files, dir, output, faults),
+        (Place::Folder(dir), Some(layout)) => run_rows(files, dir, layout, output, faults),
+        (Place::Document(address), None) => show_remote_tree(rt, address, output, faults),
+        (Place::Document(address), Some(layout)) => {
+            show_remote_rows(rt, address, layout, output, faults)
+        }
+    }
+}
+
+// Serves until a fault ends it, and tells of the fault.
+fn run_server<R, F>(rt: &R, files: HostRuntime, options: Options, faults: &mut F) -> u8
+where
+    R: Net<Listener = TcpListener, Stream = TcpStream>
+        + Threads
+        + Wait
+        + Clock
+        + Eprint
+        + AllocGlobal
+        + Clone
+        + Send
+        + Sync
+        + Drop
+        + 'static,
+    F: Write,
+    ensures { IsServed (place_bytes options.place) options.serving.port options.serving.clients result (F.contents faults.old) (F.contents faults.new) }
+{
+    let port = options.serving.port;
+    match place_text(rt.alloc(), &options.place) {
+        Ok(dir) => {
+            let fault = serve(rt, files, options);
+            tell(
+                &Told {
+                    fault,
+                    dir: &dir,
+                    port,
+                },
+                faults,
+            )
+        }
+        Err(_) => tell(
+            &Told {
+                fault: Fault::Memory,
+                dir: "",
+                port,
+            },
+            faults,
+        ),
+    }
+}
+
+// The folder of a document, or its name in an etcd.
+fn place_text(alloc: Global, place: &Place) -> Result<String, AllocError>
+    ensures { IfOk result (λ text. string_bytes text ≡ place_bytes place.now) }
+{
+    match place {
+        Place::Folder(dir) => String::from_str(alloc, dir),
+        Place::Document(address) => String::from_str(alloc, &address.name),
+    }
+}
+
+// Tells of a fault: its sentence and a line feed. The program's status: the fault's, or 4 where it can't be told.
+fn tell<F: Write>(told: &Told<'_>, faults: &mut F) -> u8
+    ensures { IsEnd told.now.fault told.now.dir.now told.now.port result (F.contents faults.old) (F.contents faults.new) }
+{
+    if writeln!(faults, "{told}").is_err() || faults.flush().is_err() {
+        return 4;
+    }
+    told.fault.status()
+}
