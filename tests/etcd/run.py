@@ -60,7 +60,7 @@ def words(room):
     for line in wrong:
         call(*line, status=2)
     require(not os.path.exists(room), "wrong words make a folder")
-    for command in (["serve", "--port", "0"], ["serve", "--port", "0", "--standby"], ["show"], ["check"], ["log"]):
+    for command in (["serve", "--port", "0"], ["show"], ["check"], ["log"]):
         call(*command, *url, *name, status=4, told=ENDINGS[2])
     call("import", *url, *name, text=ROOT.encode(), status=4, told=ENDINGS[2])
     for answer in (None, b"nonsense\r\n\r\n", b"HTTP/1.1 500 No\r\nContent-Length: 2\r\n\r\n{}", b"HTTP/1.1 200 OK\r\nContent-Length: 2\r\n\r\n[]"):
@@ -165,7 +165,7 @@ def rows(room):
     draw(server, 30)
     log = [json.loads(line) for line in call("log", *etcd.words("lines")).splitlines()]
     require([(entry[0], entry[1]) for entry in log] == [("entry", version) for version in range(2, 33)], "the log is", log[:3])
-    require(b"no loss" in call("check", *etcd.words("lines")), "a served document is checked otherwise")
+    require(b"recovery takes segment" in call("check", *etcd.words("lines")), "a served document is checked otherwise")
     server.kill()
     for text in ("", ROOT + "{}\n"):
         call("import", *etcd.words("wrong"), text=text.encode(), status=2)
