@@ -2,10 +2,12 @@
 ghost use Rattle.std.specs.Prelude.{◌≡◌, ◌<◌, ◌^◌, ◌++◌, IfOk, OnOk, string_bytes};
 ghost use Rattle.std.specs.FinMap as map;
 ghost use Rattle.serde_json.specs.Written.{comma_if, compact_text};
+ghost use Rattle.canvas_model.specs.Document as document;
+ghost use Rattle.canvas_model.specs.Messages as messages;
 ghost use Rattle.canvas_judge.specs.Seen.{seen_copy};
 ghost use Rattle.canvas_forms.specs.Rows.{rows_form};
 ghost use Rattle.canvas_wire.specs.Messages.{copy_start};
-ghost use Rattle.canvas_wire.specs.Text.{EncodesMessage, row_text};
+ghost use Rattle.canvas_wire.specs.Text.{EncodesMessage, EncodesRows, row_text};
 
 use canvas_doc::{Doc, ObjId, Object};
 use canvas_forms::rows::write_row;
@@ -25,6 +27,34 @@ pub(crate) fn encode_copy<A: Allocator>(
     push_rows(alloc, &copy.doc, &mut text)?;
     text.push_str("]")?;
     Ok(text.into_bytes())
+}
+
+/// The JSON text of a document's rows, as it stands in each copy of that document. The error is that memory was refused. The JSON tree of
+/// one row at a time stands in memory beside it.
+pub fn encode_rows<A: Allocator>(alloc: Global, doc: &Doc<A>) -> Result<Vec<u8>, AllocError>
+    ensures { IfOk result (λ b. EncodesRows b.items doc.now) }
+{
+    sound_doc(doc);
+    let mut text = String::new(alloc);
+    push_rows(alloc, doc, &mut text)?;
+    Ok(text.into_bytes())
+}
+
+/// The JSON text of the copy of a document at this version, for a client of which so many edits were judged by then, round the text of its
+/// rows, which [`encode_rows`] wrote. The error is that memory was refused.
+pub fn encode_copy_of(
+    alloc: Global,
+    version: u64,
+    done: u64,
+    rows: &[u8],
+) -> Result<Vec<u8>, AllocError>
+    ensures { (doc : document.Doc) → EncodesRows rows.now doc → IfOk result (λ b. EncodesMessage b.items (messages.Copy version done doc)) }
+{
+    let mut text = copy_start(alloc, version, done)?.into_bytes();
+    text.reserve(rows.len().saturating_add(1))?;
+    text.extend_from_slice(rows)?;
+    text.push(b']')?;
+    Ok(text)
 }
 
 // The text of a copy up to its rows.

@@ -14,6 +14,7 @@ mod rows;
 mod sound;
 
 pub use checkpoints::decode_checkpoint;
+pub use copies::{encode_copy_of, encode_rows};
 pub use entries::{decode_entry, encode_entry};
 pub use fault::WireError;
 pub use heads::{CheckpointHead, decode_head, encode_head};

@@ -1,0 +1,39 @@
+use Rattle.std.proofs.Common.{ℕ, zero, suc, List, [], ◌∷◌, ◌++◌, refl, ap, sym, subst, ◌∙◌, arith}
+use Rattle.std.specs.FinMap as map
+use Rattle.std.specs.Str.{IsAscii, IsUtf8}
+use Rattle.std.proofs.lemmas.Str.{IsUtf8-append, IsUtf8-from_ascii, IsUtf8-string_bytes}
+use Rattle.std.proofs.lemmas.Str.Ascii.{IsAscii-nil}
+use Rattle.serde_json.specs.Read.{read}
+use Rattle.canvas_model.specs.Messages as messages
+use Rattle.canvas_value.specs.Parts.{each_written}
+use Rattle.canvas_forms.specs.Version.{version_two}
+use Rattle.canvas_forms.specs.Rows.{row_form}
+use Rattle.canvas_forms.proofs.Plain.{plain_back}
+use Rattle.canvas_wire.specs.Messages.{message_json}
+use Rattle.canvas_wire.proofs.Texts.{message_nests}
+use Rattle.canvas_wire.proofs.CopyTexts.{copy_whole, copy_plain}
+use Rattle.canvas_wire.proofs.copies.encode_copy_of.Goals as goal
+
+bracket : IsAscii (93 ∷ [])
+bracket zero = omega arith
+bracket (suc i) = IsAscii-nil i
+
+pub returns : goal.returns
+returns c = λ doc rows.
+    let version = c.args.version in
+    let done = c.args.done in
+    let start = c.in_ok-reserve.ensures.items ∙ ap (λ v. v.items) c.into_bytes-text.ensures.value in
+    let most = c.in_ok-extend_from_slice.ensures.items in
+    let all = c.in_ok-push.ensures.items in
+    let text = copy_whole version done (each_written row_form.write (map.entries doc)) _ _ _ _ (start ∙ c.in_ok-copy_start.ensures.text)
+    (most ∙ ap (λ (bytes : List ℕ). c.reserve.new.self.items ++ bytes) rows.text) all refl in
+    let copy = messages.Copy version done doc in
+    let utf8_start = subst IsUtf8 (sym start) (IsUtf8-string_bytes c.in_ok-copy_start.field-0) in
+    let utf8_most = subst IsUtf8 (sym most) (IsUtf8-append c.reserve.new.self.items c.args.rows.now utf8_start rows.utf8) in
+    record {
+      text = text;
+      utf8 = subst IsUtf8 (sym all) (IsUtf8-append c.extend_from_slice.new.self.items (93 ∷ []) utf8_most (IsUtf8-from_ascii (93 ∷ []) bracket));
+      sound = rw rows.sound refl;
+      orderly = rows.orderly;
+      reads_back = λ small. ap read text ∙ plain_back (message_json version_two copy) (copy_plain version done doc c.copy_start.ensures.version c.copy_start.ensures.done rows.in_range) (message_nests version_two copy small);
+    }
