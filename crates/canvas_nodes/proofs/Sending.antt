@@ -1,6 +1,5 @@
 -- What a connection went through, one step more.
 use Rattle.std.proofs.Common.{◌≡◌, ℕ, suc, ◌+◌, ◌<◌, true, List, [], ◌∷◌, ◌++◌, length, get_or, map, take, drop, Option, refl, ap, sym, ◌∙◌, subst}
-use Rattle.std.specs.Prelude.{◌⊎◌}
 use mathlib.Core.Logic.{inl, inr}
 use Rattle.std.proofs.lemmas.List.{append_assoc, map-append, take-append-drop, take_more}
 use Rattle.tungstenite.specs.Connection.{write_step}
@@ -11,12 +10,7 @@ use Rattle.tungstenite.specs.declared.error.Error.{Error}
 use Rattle.tungstenite.specs.declared.error.Error.TheVariants.{OutOfMemory, WriteBufferFull}
 use Rattle.canvas_model.specs.Messages.{Message}
 use Rattle.canvas_nodes.specs.Served.{WritesEach, SendsAnswer, Handles, Turns, GoesThrough, RefusesText, StopsAnswer, StopsHandling, StopsWriting}
-use Rattle.canvas_judge.specs.declared.message.NoReason.TheVariants.{Memory}
-use Rattle.canvas_nodes.specs.Answers.{AreTexts, Replies, refused}
-
-as_one : (P : Type 0) → P ⊎ P → P
-as_one P (inl p) = p
-as_one P (inr p) = p
+use Rattle.canvas_nodes.specs.Answers.{AreTexts, Replies}
 
 module _ {S : Type 0} (contents : S → Option (List ℕ)) where
   pub wrote_one : (old mid new : Socket S) (ts : List (List ℕ)) (t : List ℕ) (content : Content) → WritesEach contents old ts mid → content ≡ binary t → Writes contents mid new (write_step mid.conn content) → WritesEach contents old (ts ++ t ∷ []) new
@@ -37,11 +31,7 @@ module _ {S : Type 0} (contents : S → Option (List ℕ)) where
   -- one text alone that was sent
   pub sends_one : (old mid new : Socket S) (t : List ℕ) (answer : List Message) → AreTexts (t ∷ []) answer → Writes contents old mid (write_step old.conn (binary t))
       → Flushed contents mid new → new.output ≡ [] → SendsAnswer contents old answer new
-  sends_one old mid new t answer are wrote flushed empty = (t ∷ [], inl are, (mid, (mid, wrote, refl), (flushed, empty)))
-
-  -- an answer in place of which a No for Memory was sent
-  pub sends_no : (old new : Socket S) (answer : List Message) → SendsAnswer contents old (refused Memory) new → SendsAnswer contents old answer new
-  sends_no old new answer h = (h.0, inr (as_one (AreTexts h.0 (refused Memory)) h.1), h.2)
+  sends_one old mid new t answer are wrote flushed empty = (t ∷ [], are, (mid, (mid, wrote, refl), (flushed, empty)))
 
   -- a text for which there was no memory
   pub no_memory : (s : Socket S) (t : List ℕ) → RefusesText contents s t OutOfMemory s
@@ -67,16 +57,12 @@ module _ {S : Type 0} (contents : S → Option (List ℕ)) where
 
   -- one text alone that didn't join the output
   pub refuses_one : (old new : Socket S) (t : List ℕ) (answer : List Message) (e : Error) → AreTexts (t ∷ []) answer → RefusesText contents old t e new → StopsAnswer contents old answer e new
-  refuses_one old new t answer e are refuses = (t ∷ [], inl are, inl (record { done = []; next = t; rest = []; mid = old; are = refl; wrote = refl; refuses = refuses }))
+  refuses_one old new t answer e are refuses = (t ∷ [], are, inl (record { done = []; next = t; rest = []; mid = old; are = refl; wrote = refl; refuses = refuses }))
 
   -- one text alone that didn't leave
   pub stops_one : (old mid new : Socket S) (t : List ℕ) (answer : List Message) (e : Error) → AreTexts (t ∷ []) answer → Writes contents old mid (write_step old.conn (binary t))
       → Flushed contents mid new → IsIo e → StopsAnswer contents old answer e new
-  stops_one old mid new t answer e are wrote flushed io = (t ∷ [], inl are, inr (mid, (mid, wrote, refl), flushed, io))
-
-  -- an answer in place of which a No for Memory didn't leave
-  pub stops_no : (old new : Socket S) (answer : List Message) (e : Error) → StopsAnswer contents old (refused Memory) e new → StopsAnswer contents old answer e new
-  stops_no old new answer e h = (h.0, inr (as_one (AreTexts h.0 (refused Memory)) h.1), h.2)
+  stops_one old mid new t answer e are wrote flushed io = (t ∷ [], are, inr (mid, (mid, wrote, refl), flushed, io))
 
 module _ {A S : Type 0} (Gives : A → Message → List Message → A → Type 0) (remaining contents : S → Option (List ℕ)) where
   pub one_turn : (n m : ℕ) (old : A) (before : Socket S) (a : A) (s : Socket S) (new : A) (after : Socket S) → m ≡ suc n → GoesThrough Gives remaining contents n old before a s → Turns Gives remaining contents true a s new after → GoesThrough Gives remaining contents m old before new after

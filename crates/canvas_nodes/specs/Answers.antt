@@ -86,3 +86,14 @@ AreTexts [] [] = Unit {0}
 AreTexts [] (m ∷ ms) = ⊥
 AreTexts (t ∷ ts) [] = ⊥
 AreTexts (t ∷ ts) (m ∷ ms) = EncodesMessage t m × AreTexts ts ms
+
+-- THE TEXTS OF AN ANSWER
+
+module _ {S : Type 0} (Gives : S → Message → List Message → S → Type 0) where
+  -- the texts of what is given to a message
+  abbrev pub GivesTexts : S → Message → List (List ℕ) → S → Type 0
+  GivesTexts old m texts new = (answer : List Message) × Gives old m answer new × IsAnswer answer × AreTexts texts answer
+
+  -- the texts of what is answered to bytes
+  abbrev pub RepliesTexts : S → List ℕ → List (List ℕ) → S → Type 0
+  RepliesTexts old bytes texts new = (answer : List Message) × Replies Gives old bytes answer new × AreTexts texts answer

@@ -8,7 +8,7 @@ use Rattle.tungstenite.specs.declared.error.Error.{Error}
 use Rattle.tungstenite.specs.declared.error.Error.TheVariants.{OutOfMemory, WriteBufferFull}
 use Rattle.tungstenite.specs.declared.message.Message.{Message as Frame}
 use Rattle.canvas_model.specs.Messages.{Message}
-use Rattle.canvas_judge.specs.declared.message.NoReason.TheVariants.{Memory, NotRead}
+use Rattle.canvas_judge.specs.declared.message.NoReason.TheVariants.{NotRead}
 use Rattle.canvas_nodes.specs.Answers.{AreTexts, Replies, refused}
 
 module _ {S : Type 0} (contents : S → Option (List ℕ)) where
@@ -25,9 +25,9 @@ module _ {S : Type 0} (contents : S → Option (List ℕ)) where
   abbrev pub SendsEach : Socket S → List (List ℕ) → Socket S → Type 0
   SendsEach old ts new = (mid : Socket S) × WritesEach old ts mid × Empties mid new
 
-  -- the texts of these messages have left, or, where there was no memory for them, that of a No for Memory
+  -- the texts of these messages have left
   abbrev pub SendsAnswer : Socket S → List Message → Socket S → Type 0
-  SendsAnswer old answer new = (ts : List (List ℕ)) × (AreTexts ts answer ⊎ AreTexts ts (refused Memory)) × SendsEach old ts new
+  SendsAnswer old answer new = (ts : List (List ℕ)) × AreTexts ts answer × SendsEach old ts new
 
   -- a text didn't leave as a binary message: nothing has changed where the output was full or memory was refused; where the stream failed, the
   -- message joined the output, and some of that may have left
@@ -50,9 +50,9 @@ module _ {S : Type 0} (contents : S → Option (List ℕ)) where
   abbrev pub StopsSending : Socket S → List (List ℕ) → Error → Socket S → Type 0
   StopsSending old ts e new = StopsWriting old ts e new ⊎ ((mid : Socket S) × WritesEach old ts mid × Flushed contents mid new × IsIo e)
 
-  -- the texts of these messages, or, where there was no memory for them, that of a No for Memory, didn't all leave
+  -- the texts of these messages didn't all leave
   abbrev pub StopsAnswer : Socket S → List Message → Error → Socket S → Type 0
-  StopsAnswer old answer e new = (ts : List (List ℕ)) × (AreTexts ts answer ⊎ AreTexts ts (refused Memory)) × StopsSending old ts e new
+  StopsAnswer old answer e new = (ts : List (List ℕ)) × AreTexts ts answer × StopsSending old ts e new
 
 module _ {A S : Type 0} (Gives : A → Message → List Message → A → Type 0) (remaining contents : S → Option (List ℕ)) where
   -- what a frame makes of the answerer and the socket, and whether the connection goes on: a binary message has its reply, a text is refused as

@@ -4,7 +4,7 @@ ghost use Rattle.canvas_model.specs.Messages.{No};
 ghost use Rattle.canvas_judge.specs.Reasons.{number_of};
 ghost use Rattle.canvas_judge.specs.Seen.{seen_message};
 ghost use Rattle.canvas_wire.specs.Text.{EncodesMessage};
-ghost use Rattle.canvas_nodes.specs.Answers.{AreTexts, IsAnswer, Replies, refused};
+ghost use Rattle.canvas_nodes.specs.Answers.{AreTexts, IsAnswer, Replies, RepliesTexts, refused};
 
 use crate::asked;
 use canvas_judge::{Message, NoReason};
@@ -15,6 +15,7 @@ use std::alloc::{AllocError, Global};
 pub trait Answerer {
     ghost use Rattle.std.specs.Prelude.{List};
     ghost use Rattle.canvas_model.specs.Messages as messages;
+    ghost use Rattle.canvas_nodes.specs.Answers.{GivesTexts};
 
     /// What it may answer a message, and how it may stand afterwards.
     ghost gives: { Self → messages.Message → List messages.Message → Self → Type 0 };
@@ -26,54 +27,44 @@ pub trait Answerer {
         ensures gives { IfOk result (λ answer. gives self.old (seen_message message.now) (map seen_message answer.items) self.new) }
         ensures whole { IfOk result (λ answer. IsAnswer (map seen_message answer.items)) };
 
+    /// The texts of such messages, in order. As a rule each is written anew; an answerer may have some ready that many are sent.
+    ///
+    /// Fails only where memory is refused.
+    fn texts(&mut self, alloc: Global, message: &Message) -> Result<Vec<Vec<u8>>, AllocError>
+        ensures { IfOk result (λ ts. GivesTexts gives self.old (seen_message message.now) (map (λ t. t.items) ts.items) self.new) }
+    {
+        let answer = self.answer(message)?;
+        texts_of(alloc, &answer)
+    }
+
     /// Called once what was answered has left. It is for what an answerer keeps that contracts don't see; as a rule it does nothing.
     fn sent(&mut self)
         ensures { self.new ≡ self.old }
     {}
 }
 
-/// What is answered to the bytes of a message: what the answerer gives; a No for NotRead, where they are a text of no message that a
-/// client sends; a No for Memory, where memory is refused meanwhile. Fails only where memory is refused for that No.
-pub fn reply<A: Answerer>(
-    alloc: Global,
-    answerer: &mut A,
-    bytes: &[u8],
-) -> Result<Vec<Message>, AllocError>
-    ensures replies { IfOk result (λ answer. Replies A.gives answerer.old bytes.now (map seen_message answer.items) answerer.new) }
-    ensures whole { IfOk result (λ answer. IsAnswer (map seen_message answer.items)) }
-{
-    match answered(alloc, answerer, bytes) {
-        Ok(answer) => Ok(answer),
-        Err(reason) => {
-            let mut answer = Vec::with_capacity(alloc, 1)?;
-            answer.push(Message::No(reason))?;
-            Ok(answer)
-        }
-    }
-}
-
-// The same, where a No that isn't the answerer's own is told by its reason. It takes no memory for that.
+// The texts of what is answered to the bytes of a message: of what the answerer gives; or the reason of a No, NotRead where they are a text
+// of no message that a client sends, and Memory where memory is refused meanwhile.
 pub(crate) fn answered<A: Answerer>(
     alloc: Global,
     answerer: &mut A,
     bytes: &[u8],
-) -> Result<Vec<Message>, NoReason>
-    ensures replies { MatchResult result
-        (λ answer. Replies A.gives answerer.old bytes.now (map seen_message answer.items) answerer.new)
+) -> Result<Vec<Vec<u8>>, NoReason>
+    ensures { MatchResult result
+        (λ ts. RepliesTexts A.gives answerer.old bytes.now (map (λ t. t.items) ts.items) answerer.new)
         (λ reason. Replies A.gives answerer.old bytes.now (refused reason) answerer.new) }
-    ensures whole { IfOk result (λ answer. IsAnswer (map seen_message answer.items)) }
 {
     match asked(alloc, bytes) {
-        Ok(message) => match answerer.answer(&message) {
-            Ok(answer) => Ok(answer),
+        Ok(message) => match answerer.texts(alloc, &message) {
+            Ok(texts) => Ok(texts),
             Err(_) => Err(NoReason::Memory),
         },
         Err(reason) => Err(reason),
     }
 }
 
-// The text of each of these messages. Fails only where memory is refused.
-pub(crate) fn texts(alloc: Global, messages: &[Message]) -> Result<Vec<Vec<u8>>, AllocError>
+/// The text of each of these messages. Fails only where memory is refused.
+pub fn texts_of(alloc: Global, messages: &[Message]) -> Result<Vec<Vec<u8>>, AllocError>
     ensures { IfOk result (λ texts. AreTexts (map (λ text. text.items) texts.items) (map seen_message messages.now)) }
 {
     let mut texts = Vec::with_capacity(alloc, messages.len())?;

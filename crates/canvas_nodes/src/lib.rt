@@ -10,7 +10,7 @@ mod rounds;
 mod serving;
 mod socket_link;
 
-pub use answering::{Answerer, reply};
+pub use answering::{Answerer, texts_of};
 pub use asking::asked;
 pub use laws::every_hearing;
 pub use link::{Link, LinkError};

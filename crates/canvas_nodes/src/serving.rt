@@ -4,13 +4,12 @@ ghost use Rattle.tungstenite.specs.Connection.{write_step};
 ghost use Rattle.tungstenite.specs.Content.{binary};
 ghost use Rattle.tungstenite.specs.Socket.{Writes, content_of};
 ghost use Rattle.canvas_model.specs.Messages as messages;
-ghost use Rattle.canvas_judge.specs.Seen.{seen_message};
 ghost use Rattle.canvas_nodes.specs.Answers.{Replies, refused};
 ghost use Rattle.canvas_nodes.specs.Served.{Handles, RefusesText, SendsAnswer, SendsEach, Serves, StopsAnswer, StopsHandling, StopsSending, StopsServing, StopsTurn, StopsWriting, Turns, WritesEach};
 
 use crate::Answerer;
-use crate::answering::{answered, no_text, texts};
-use canvas_judge::{Message, NoReason};
+use crate::answering::{answered, no_text};
+use canvas_judge::NoReason;
 use std::alloc::Global;
 use std::io::{Read, Write};
 use tungstenite::{Error, Message as Frame, NoMask, WebSocket};
@@ -95,23 +94,8 @@ fn answer_bytes<A: Answerer, S: Read + Write + Drop>(
     ensures stops { IfErr result (λ e. (answer : List messages.Message) × Replies A.gives answerer.old bytes.now answer answerer.new × StopsAnswer S.contents socket.old answer e socket.new) }
 {
     match answered(alloc, answerer, bytes) {
-        Ok(answer) => send(alloc, socket, &answer),
+        Ok(texts) => send_each(alloc, socket, texts),
         Err(reason) => refuse(alloc, socket, reason),
-    }
-}
-
-// Sends each message of an answer as a binary message; or, where there is no memory for their texts, a No for Memory.
-fn send<S: Read + Write + Drop>(
-    alloc: Global,
-    socket: &mut WebSocket<S, NoMask>,
-    answer: &[Message],
-) -> Result<(), Error>
-    ensures sends { OnOk result (SendsAnswer S.contents socket.old (map seen_message answer.now) socket.new) }
-    ensures stops { IfErr result (λ e. StopsAnswer S.contents socket.old (map seen_message answer.now) e socket.new) }
-{
-    match texts(alloc, answer) {
-        Ok(texts) => send_each(alloc, socket, &texts),
-        Err(_) => refuse(alloc, socket, NoReason::Memory),
     }
 }
 
@@ -128,16 +112,17 @@ fn refuse<S: Read + Write + Drop>(
     socket.flush()
 }
 
-// Sends each of these texts as a binary message, all of them with one flush.
+// Sends each of these texts as a binary message, all of them with one flush, before which the texts are let go.
 fn send_each<S: Read + Write + Drop>(
     alloc: Global,
     socket: &mut WebSocket<S, NoMask>,
-    texts: &[Vec<u8>],
+    texts: Vec<Vec<u8>>,
 ) -> Result<(), Error>
-    ensures sends { OnOk result (SendsEach S.contents socket.old (map (λ text. text.items) texts.now) socket.new) }
-    ensures stops { IfErr result (λ e. StopsSending S.contents socket.old (map (λ text. text.items) texts.now) e socket.new) }
+    ensures sends { OnOk result (SendsEach S.contents socket.old (map (λ text. text.items) texts.items) socket.new) }
+    ensures stops { IfErr result (λ e. StopsSending S.contents socket.old (map (λ text. text.items) texts.items) e socket.new) }
 {
-    write_each(alloc, socket, texts)?;
+    write_each(alloc, socket, &texts)?;
+    drop(texts);
     socket.flush()
 }
 

@@ -1,7 +1,7 @@
 use Rattle.std.proofs.Common.{ℕ, Vec, Global}
 use Rattle.canvas_judge.specs.Seen.{seen_message}
 use Rattle.canvas_nodes.proofs.Texts.{one_further}
-use Rattle.canvas_nodes.proofs.answering.texts.Goals as goal
+use Rattle.canvas_nodes.proofs.answering.texts_of.Goals as goal
 
 pub loop-message-preserved : goal.loop-message-preserved
 loop-message-preserved c =
