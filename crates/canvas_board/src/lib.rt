@@ -13,6 +13,7 @@ mod publisher;
 mod reader;
 mod receipt;
 mod rule;
+mod snapshot;
 
 pub use board::{Board, Step};
 pub use faults::SeatError;
@@ -26,3 +27,4 @@ pub use publisher::Publisher;
 pub use reader::Reader;
 pub use receipt::Receipt;
 pub use rule::Published;
+pub use snapshot::Snapshot;
