@@ -48,7 +48,7 @@ news_whole b client from (Some es) = entries_whole from es
 refused_whole : (reason : NoReason) (answer : List Message) → answer ≡ refused reason → IsAnswer answer
 refused_whole reason answer is = subst IsAnswer (sym is) tt
 
-ask_whole : (b : Served) (client from : ℕ) (answer : List Message) → AnswersAsk b client from answer → IsAnswer answer
+pub ask_whole : (b : Served) (client from : ℕ) (answer : List Message) → AnswersAsk b client from answer → IsAnswer answer
 ask_whole b client from answer h = ⊎_elim
     (λ (t : TellsNews b client from answer). subst IsAnswer (sym t.1) (news_whole b client from (tail_of b from 64)))
     (λ s. refused_whole no.Stranger answer s.1)

@@ -3,3 +3,4 @@ pub mod Judged
 pub mod News
 pub mod Ends
 pub mod SeesOn
+pub mod Shared

@@ -2,3 +2,4 @@ pub mod News
 pub mod Table
 pub mod Links
 pub mod Exchanges
+pub mod Copies

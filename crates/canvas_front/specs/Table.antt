@@ -17,7 +17,7 @@ use Rattle.canvas_desk.specs.declared.faults.Refusal.TheVariants as refusal
 use Rattle.canvas_desk.specs.declared.faults.SubmitError.{SubmitError}
 use Rattle.canvas_desk.specs.declared.faults.SubmitError.TheVariants as submit
 use Rattle.canvas_room.specs.Seats.{Answers, IsRefused, RefusesEdit}
-use Rattle.canvas_nodes.specs.Answers.{refused}
+use Rattle.canvas_nodes.specs.Answers.{AreTexts, refused}
 use Rattle.canvas_front.specs.News.{news_of}
 
 -- no more was seen, or a legal history that begins with what was seen
@@ -76,6 +76,10 @@ AnswersRequest o q old answer new = (m : Message) × (answer ≡ m ∷ []) × Sa
 -- a client that has joined by this board is told its news, and then Idle
 abbrev pub TellsNews : Served → ℕ → ℕ → List Message → Type 0
 TellsNews b client from answer = (joined b.state client ≡ true) × (answer ≡ news_of b client from ++ Idle ∷ [])
+
+-- the same, as texts
+abbrev pub TellsTexts : Served → ℕ → ℕ → List (List ℕ) → Type 0
+TellsTexts b client from texts = (answer : List Message) × TellsNews b client from answer × AreTexts texts answer
 
 -- what is answered an Ask: the news of the board that was seen, or a No to a client that hasn't joined by then
 abbrev pub AnswersAsk : Served → ℕ → ℕ → List Message → Type 0

@@ -1,14 +1,16 @@
 // A seat as what answers the clients of connections.
-ghost use Rattle.std.specs.Prelude.{◌≡◌, IfOk, map};
+ghost use Rattle.std.specs.Prelude.{◌≡◌, IfOk, IfSome, map};
+ghost use Rattle.canvas_model.specs.Messages as messages;
 ghost use Rattle.canvas_judge.specs.Seen.{seen_message};
-ghost use Rattle.canvas_nodes.specs.Answers.{IsAnswer};
+ghost use Rattle.canvas_nodes.specs.Answers.{GivesTexts, IsAnswer};
 ghost use Rattle.canvas_front.specs.Table.{Gives, SeesOn};
 
-use crate::{CHECKPOINT_AT, answer};
+use crate::asking::answer_ask;
+use crate::{CHECKPOINT_AT, SharedCopy, answer};
 use canvas_board::RoomName;
 use canvas_journal::Keeper;
 use canvas_judge::Message;
-use canvas_nodes::Answerer;
+use canvas_nodes::{Answerer, texts_of};
 use canvas_room::{Lock, Seat};
 use std::alloc::{AllocError, Global};
 use std::marker::Model;
@@ -99,6 +101,120 @@ impl<K: Keeper + Drop, N: RoomName, R: Wait + Drop, W: Wait + Drop> SeatAnswerer
             message,
             self.checkpoint_at,
         )
+    }
+}
+
+impl<N: RoomName, D: Drop, W: Drop> SeatAnswerer<N, D, W> {
+    /// The texts of what is answered an Ask, where a copy has to be sent out of a copy that many are sent. That is `held`, if it is of version
+    /// `least` or a later one, the client asks from below its floor, had joined by then, and the seat hasn't seen more; else one that is
+    /// made now, and held from then on. It waits for nobody. Fails only where memory is refused.
+    pub fn ask_texts(
+        &mut self,
+        held: &mut Option<SharedCopy<N>>,
+        least: u64,
+        client: u32,
+        version: u64,
+    ) -> Result<Vec<Vec<u8>>, AllocError>
+        ensures gives { IfOk result (λ ts. GivesTexts (Gives N.opening) self.old (messages.Ask client version) (map (λ t. t.items) ts.items) self.new) }
+        ensures sees { SeesOn N.opening self.old self.new }
+    {
+        match self.texts_held(held, least, client, version)? {
+            Some(texts) => Ok(texts),
+            None => self.texts_now(held, client, version),
+        }
+    }
+
+    // The texts of what is answered an Ask out of the copy that is held, if that is of version `least` or a later one. None where it has none
+    // for the client, or the seat has seen more.
+    fn texts_held(
+        &mut self,
+        held: &Option<SharedCopy<N>>,
+        least: u64,
+        client: u32,
+        version: u64,
+    ) -> Result<Option<Vec<Vec<u8>>>, AllocError>
+        ensures gives { IfOk result (λ given. IfSome given (λ ts. GivesTexts (Gives N.opening) self.old (messages.Ask client version) (map (λ t. t.items) ts.items) self.new)) }
+        ensures sees { SeesOn N.opening self.old self.new }
+    {
+        match held {
+            Some(copy) if copy.version() >= least => self.texts_from(copy, client, version),
+            _ => Ok(None),
+        }
+    }
+
+    // The texts of what is answered an Ask out of a copy that is made now, and held from then on. Where none is due, they are written anew.
+    fn texts_now(
+        &mut self,
+        held: &mut Option<SharedCopy<N>>,
+        client: u32,
+        version: u64,
+    ) -> Result<Vec<Vec<u8>>, AllocError>
+        ensures gives { IfOk result (λ ts. GivesTexts (Gives N.opening) self.old (messages.Ask client version) (map (λ t. t.items) ts.items) self.new) }
+        ensures sees { SeesOn N.opening self.old self.new }
+    {
+        if !self.wants_copy(client, version)? {
+            return self.texts_anew(client, version);
+        }
+        let copy = self.share()?;
+        let texts = self.texts_from(&copy, client, version)?;
+        *held = Some(copy);
+        match texts {
+            Some(texts) => Ok(texts),
+            None => self.texts_anew(client, version),
+        }
+    }
+
+    // The texts of what is answered an Ask out of this copy. None where it has none for the client, or the seat has seen more.
+    fn texts_from(
+        &mut self,
+        copy: &SharedCopy<N>,
+        client: u32,
+        version: u64,
+    ) -> Result<Option<Vec<Vec<u8>>>, AllocError>
+        ensures gives { IfOk result (λ given. IfSome given (λ ts. GivesTexts (Gives N.opening) self.old (messages.Ask client version) (map (λ t. t.items) ts.items) self.new)) }
+        ensures sees { SeesOn N.opening self.old self.new }
+    {
+        let Some(texts) = copy.texts(self.alloc, client, version)? else {
+            return Ok(None);
+        };
+        if !self.seat.go_to(copy.front()) {
+            return Ok(None);
+        }
+        Ok(Some(texts))
+    }
+
+    // Whether what is published has a copy for a client that asks from this version, and no entries.
+    fn wants_copy(&mut self, client: u32, version: u64) -> Result<bool, AllocError>
+        ensures { SeesOn N.opening self.old self.new }
+    {
+        let Ok(true) = self.seat.joined(client) else {
+            return Ok(false);
+        };
+        match self.seat.tail(self.alloc, version, 0) {
+            Ok(tail) => Ok(tail.is_none()),
+            // A seat keeps its room, so it is never closed.
+            Err(_) => Err(AllocError),
+        }
+    }
+
+    // A copy of what is published, for all that are sent it.
+    fn share(&mut self) -> Result<SharedCopy<N>, AllocError>
+        ensures { SeesOn N.opening self.old self.new }
+    {
+        match self.seat.snapshot(self.alloc) {
+            Ok(snapshot) => SharedCopy::of(self.alloc, &snapshot),
+            // A seat keeps its room, so it is never closed.
+            Err(_) => Err(AllocError),
+        }
+    }
+
+    // The texts of what is answered an Ask, each written anew.
+    fn texts_anew(&mut self, client: u32, version: u64) -> Result<Vec<Vec<u8>>, AllocError>
+        ensures gives { IfOk result (λ ts. GivesTexts (Gives N.opening) self.old (messages.Ask client version) (map (λ t. t.items) ts.items) self.new) }
+        ensures sees { SeesOn N.opening self.old self.new }
+    {
+        let answer = answer_ask(self.alloc, &mut self.seat, client, version)?;
+        texts_of(self.alloc, &answer)
     }
 }
 

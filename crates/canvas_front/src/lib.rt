@@ -7,8 +7,10 @@ mod laws;
 mod messages;
 mod requests;
 mod seat_link;
+mod shared_copy;
 
 pub use answerer::SeatAnswerer;
 pub use laws::every_exchange;
 pub use messages::{CHECKPOINT_AT, answer};
 pub use seat_link::SeatLink;
+pub use shared_copy::SharedCopy;
