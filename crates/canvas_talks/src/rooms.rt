@@ -2,8 +2,9 @@
 ghost use Rattle.std.specs.Prelude.{◌≡◌};
 
 use crate::frames::{Frame, Kind, sent};
+use crate::sharing::Sharing;
 use canvas_board::{Opening, RoomName};
-use canvas_front::{CHECKPOINT_AT, SeatAnswerer, answer};
+use canvas_front::{CHECKPOINT_AT, answer};
 use canvas_journal::{Journal, open};
 use canvas_judge::{Message, NoReason};
 use canvas_nodes::{asked, serve_one};
@@ -174,7 +175,7 @@ fn serve_seat<N: RoomName, R: Wait + Copy + Drop>(
     bytes: &[u8],
     texts: &mut Vec<u8>,
 ) -> Result<(), AllocError> {
-    let mut answerer = SeatAnswerer::new(alloc, rt, seat);
+    let mut answerer = Sharing::new(alloc, rt, seat);
     let mut server = socket(alloc, bytes, Role::Server);
     let _ = serve_one(alloc, &mut answerer, &mut server);
     let told = server.into_inner().writer;
