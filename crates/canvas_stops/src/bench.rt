@@ -2,7 +2,7 @@
 use canvas_shelf::record;
 use std::alloc::{AllocError, Global};
 
-/// Which calls of a shelf fail.
+/// Which calls of a shelf fail, or of the store that it is in.
 #[derive(Clone, Copy)]
 pub enum Failing {
     /// All of them after so many.
@@ -13,6 +13,8 @@ pub enum Failing {
 
 /// What stands on a shelf at first, and what a room over it is asked.
 pub struct Bench {
+    /// Whether the segments are in a store of keys.
+    pub in_store: bool,
     /// The bytes of segment 1; no such segment where there are none.
     pub start: Vec<u8>,
     /// The lines of the script, each with its line feed.
@@ -22,6 +24,7 @@ pub struct Bench {
 impl Drop for Bench {
     fn drop(self) {
         let Bench {
+            in_store: _,
             start: _,
             script: _,
         } = self;
@@ -29,9 +32,10 @@ impl Drop for Bench {
 }
 
 impl Bench {
-    /// An empty shelf, and no script.
+    /// An empty shelf in memory, and no script.
     pub fn new(alloc: Global) -> Bench {
         Bench {
+            in_store: false,
             start: Vec::new(alloc),
             script: Vec::new(alloc),
         }
@@ -39,6 +43,7 @@ impl Bench {
 
     /// Forgets all.
     pub fn clear(&mut self) {
+        self.in_store = false;
         self.start.clear();
         self.script.clear();
     }

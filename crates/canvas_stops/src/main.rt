@@ -2,20 +2,24 @@
 //!
 //! These lines say what a case is about:
 //!
-//! - `record TEXT` adds a record to segment 1 of the shelf. Where no line says so, the shelf has no segment.
+//! - `store` puts the room's segments into a store of keys. Where no line says so, they are on a shelf in memory.
+//! - `record TEXT` adds a record to segment 1. Where no line says so, there is no segment.
 //! - A message `["join",2]` or `["edit",..]` is submitted by the first of the room's two seats; several with ` & ` between are one batch of
 //!   the desk. `checkpoint` makes one. `read` tells what the second seat reads. These lines are the script.
 //!
 //! These ask:
 //!
 //! - `play`: what each line of the script is answered: the version of an entry, or why there is none. Then which version both seats read.
-//!   Then what is found after a crash that keeps of the bytes that aren't synced none, half, and all; and to which version the
-//!   script goes on there, from its first line whose entries aren't found.
-//! - `fuses` and `faults`: the same for each number of calls of the shelf that pass while all others fail, and for each call that fails
-//!   alone, up to the number at which none fails. Where the shelf isn't opened, also what opening it again comes to.
+//!   Then what is found later, and to which version the script goes on there, from its first line whose entries aren't found. On a shelf in
+//!   memory that is three times, after a crash that keeps of the bytes that aren't synced none, half, and all. In a store it is twice, by
+//!   another that takes the document over: where the transaction that wasn't answered isn't done, and where it is.
+//! - `fuses` and `faults`: the same for each number of calls of the shelf, or of the store, that pass while all others fail, and for each
+//!   call that fails alone, up to the number at which none fails. Where the shelf isn't opened, also what opening it again comes to. Where
+//!   the store doesn't become a shelf, the line says no more than that its device failed.
 #![tactic(auto)]
 
 mod bench;
+mod fragile;
 mod plays;
 mod shelves;
 mod steps;

@@ -1,11 +1,12 @@
 // Scripts that a room is asked.
 ghost use Rattle.std.specs.Prelude.{◌≡◌};
 
-use crate::shelves::{BlankMem, left_of};
-use crate::steps::{MemJournal, MemSeat, entries_of, write_reads, write_step};
+use crate::fragile::Fragile;
+use crate::shelves::{BlankOn, left_of};
+use crate::steps::{SeatOf, entries_of, write_reads, write_step};
 use canvas_board::RoomName;
+use canvas_journal::{Journal, Keeper};
 use canvas_room::Room;
-use canvas_shelf::{MemShelf, Shelf};
 use std::alloc::{AllocError, Global};
 use std::marker::Brand;
 use std::sync::Wait;
@@ -18,7 +19,7 @@ pub struct Play<'a> {
 }
 
 /// What came of a script.
-pub struct Played {
+pub struct Played<B> {
     /// What its lines were answered.
     pub text: String,
     /// The version at which the room opened, and the one at the end.
@@ -26,11 +27,11 @@ pub struct Played {
     pub ended: u64,
     /// How many calls of the shelf failed.
     pub failures: u64,
-    /// What crashes leave of the shelf at the end.
-    pub left: Vec<MemShelf>,
+    /// What may be found of the shelf at the end.
+    pub left: Vec<B>,
 }
 
-impl Drop for Played {
+impl<B: Drop> Drop for Played<B> {
     fn drop(self) {
         let Played {
             text: _,
@@ -55,12 +56,12 @@ fn passes(over: &mut u64, line: &[u8]) -> bool {
 
 impl<'a> Play<'a> {
     // Asks each line, but for those whose entries stand, in a room that opened at this version.
-    fn ask_lines<N: RoomName, Q: Wait + Drop, W: Wait>(
+    fn ask_lines<K: Keeper + Drop, N: RoomName, Q: Wait + Drop, W: Wait>(
         self,
         rt: &W,
         alloc: Global,
-        room: &Room<MemJournal, N, Q>,
-        seats: &mut [MemSeat<N, Q>],
+        room: &Room<K, N, Q>,
+        seats: &mut [SeatOf<K, N, Q>],
         opened: u64,
         text: &mut String,
     ) -> Result<(), AllocError> {
@@ -76,34 +77,40 @@ impl<'a> Play<'a> {
 }
 
 // The version that a room has published.
-fn version_of<N: RoomName, Q: Wait + Drop, W: Wait>(rt: &W, room: &Room<MemJournal, N, Q>) -> u64 {
+fn version_of<K: Keeper + Drop, N: RoomName, Q: Wait + Drop, W: Wait>(
+    rt: &W,
+    room: &Room<K, N, Q>,
+) -> u64 {
     room.desk(rt).version()
 }
 
 // How many calls of a room's shelf failed.
-fn failures_of<N: RoomName, Q: Wait + Drop, W: Wait>(rt: &W, room: &Room<MemJournal, N, Q>) -> u64 {
+fn failures_of<K: Keeper + Drop, N: RoomName, Q: Wait + Drop, W: Wait>(
+    rt: &W,
+    room: &Room<K, N, Q>,
+) -> u64 {
     let desk = room.desk(rt);
-    desk.keeper().shelf().failures()
+    desk.keeper().failures()
 }
 
-// What crashes leave of a room's shelf.
-fn left_by<N: RoomName, Q: Wait + Drop, W: Wait>(
+// What may be found of a room's shelf.
+fn left_by<B: Fragile, N: RoomName, Q: Wait + Drop, W: Wait>(
     rt: &W,
     alloc: Global,
-    room: &Room<MemJournal, N, Q>,
-) -> Result<Vec<MemShelf>, AllocError> {
+    room: &Room<Journal<B>, N, Q>,
+) -> Result<Vec<B>, AllocError> {
     let desk = room.desk(rt);
     left_of(alloc, desk.keeper().shelf())
 }
 
 // Asks a room with its seats.
-fn played_in<N: RoomName, Q: Wait + Drop, W: Wait>(
+fn played_in<B: Fragile, N: RoomName, Q: Wait + Drop, W: Wait>(
     rt: &W,
     alloc: Global,
-    room: &Room<MemJournal, N, Q>,
-    seats: &mut [MemSeat<N, Q>],
+    room: &Room<Journal<B>, N, Q>,
+    seats: &mut [SeatOf<Journal<B>, N, Q>],
     play: Play<'_>,
-) -> Result<Played, AllocError> {
+) -> Result<Played<B>, AllocError> {
     let opened = version_of(rt, room);
     let mut text = String::new(alloc);
     play.ask_lines(rt, alloc, room, seats, opened, &mut text)?;
@@ -120,12 +127,12 @@ fn played_in<N: RoomName, Q: Wait + Drop, W: Wait>(
 }
 
 // Asks this room, once it has its name.
-fn played_under<N: RoomName, R: Wait + Copy + Drop>(
+fn played_under<N: RoomName, B: Fragile, R: Wait + Copy + Drop>(
     rt: R,
     alloc: Global,
-    blank: BlankMem,
+    blank: BlankOn<B>,
     play: Play<'_>,
-) -> Result<Played, AllocError>
+) -> Result<Played<B>, AllocError>
     requires book { blank.book ≡ N.book }
     requires opening { blank.opening ≡ N.opening }
 {
@@ -136,11 +143,11 @@ fn played_under<N: RoomName, R: Wait + Copy + Drop>(
 }
 
 /// What comes of a script that this room is asked.
-pub fn played_by<R: Wait + Copy + Drop>(
+pub fn played_by<B: Fragile, R: Wait + Copy + Drop>(
     rt: R,
     alloc: Global,
-    blank: BlankMem,
+    blank: BlankOn<B>,
     play: Play<'_>,
-) -> Result<Played, AllocError> {
-    played_under::<Brand, R>(rt, alloc, blank, play)
+) -> Result<Played<B>, AllocError> {
+    played_under::<Brand, B, R>(rt, alloc, blank, play)
 }

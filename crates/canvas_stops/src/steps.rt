@@ -1,20 +1,16 @@
 // The lines of a script, and what they are answered.
 use canvas_board::{Receipt, RoomName};
 use canvas_desk::SubmitError;
-use canvas_journal::Journal;
+use canvas_journal::Keeper;
 use canvas_judge::Message;
 use canvas_room::{Lock, Room, Seat};
 use canvas_server::Request;
-use canvas_shelf::MemShelf;
 use canvas_wire::{WireError, decode};
 use std::alloc::{AllocError, Global};
 use std::sync::Wait;
 
-/// What keeps the entries of such a room.
-pub type MemJournal = Journal<MemShelf>;
-
-/// A seat of such a room.
-pub type MemSeat<N, Q> = Seat<N, Lock<MemJournal, N, Q>>;
+/// A seat of a room.
+pub type SeatOf<K, N, Q> = Seat<N, Lock<K, N, Q>>;
 
 // What a message asks, if it asks the server for something.
 fn request_in(message: Message) -> Option<Request> {
@@ -93,9 +89,9 @@ fn write_answers<N: RoomName>(
 }
 
 // Has requests judged as one batch, and adds what they are answered.
-fn write_batch<N: RoomName, Q: Wait + Drop, W: Wait>(
+fn write_batch<K: Keeper + Drop, N: RoomName, Q: Wait + Drop, W: Wait>(
     rt: &W,
-    room: &Room<MemJournal, N, Q>,
+    room: &Room<K, N, Q>,
     requests: &[Request],
     text: &mut String,
 ) -> Result<(), AllocError> {
@@ -110,10 +106,10 @@ fn write_batch<N: RoomName, Q: Wait + Drop, W: Wait>(
 }
 
 // Has requests judged, and adds what they are answered.
-fn write_requests<N: RoomName, Q: Wait + Drop, W: Wait>(
+fn write_requests<K: Keeper + Drop, N: RoomName, Q: Wait + Drop, W: Wait>(
     rt: &W,
-    room: &Room<MemJournal, N, Q>,
-    seat: &mut MemSeat<N, Q>,
+    room: &Room<K, N, Q>,
+    seat: &mut SeatOf<K, N, Q>,
     requests: &[Request],
     text: &mut String,
 ) -> Result<(), AllocError> {
@@ -125,9 +121,9 @@ fn write_requests<N: RoomName, Q: Wait + Drop, W: Wait>(
 }
 
 // Makes a checkpoint, and adds what that is answered.
-fn write_checkpoint<N: RoomName, Q: Wait + Drop, W: Wait>(
+fn write_checkpoint<K: Keeper + Drop, N: RoomName, Q: Wait + Drop, W: Wait>(
     rt: &W,
-    seat: &mut MemSeat<N, Q>,
+    seat: &mut SeatOf<K, N, Q>,
     text: &mut String,
 ) -> Result<(), AllocError> {
     match seat.tidy(rt, 0) {
@@ -165,11 +161,11 @@ pub fn write_reads<N: RoomName, D: Drop>(
 }
 
 /// Does what a line says, and adds what that is answered.
-pub fn write_step<N: RoomName, Q: Wait + Drop, W: Wait>(
+pub fn write_step<K: Keeper + Drop, N: RoomName, Q: Wait + Drop, W: Wait>(
     rt: &W,
     alloc: Global,
-    room: &Room<MemJournal, N, Q>,
-    seats: &mut [MemSeat<N, Q>],
+    room: &Room<K, N, Q>,
+    seats: &mut [SeatOf<K, N, Q>],
     line: &[u8],
     text: &mut String,
 ) -> Result<(), AllocError> {

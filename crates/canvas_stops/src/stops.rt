@@ -1,11 +1,11 @@
 // What comes of a script where calls of the shelf fail.
-ghost use Rattle.std.specs.Prelude.{◌≡◌, true};
+ghost use Rattle.std.specs.Prelude.{◌≡◌, true, IsTrue};
 ghost use Rattle.canvas_shelf.specs.Disk.{top_is_listed};
-ghost use Rattle.canvas_shelf.specs.Shelved.{disk_of};
 
 use crate::bench::{Bench, Failing};
+use crate::fragile::{Fragile, StoreShelf};
 use crate::plays::{Play, Played, played_by};
-use crate::shelves::{blank_on, left_of, shelf_of};
+use crate::shelves::{blank_on, left_of};
 use canvas_journal::OpenError;
 use canvas_shelf::MemShelf;
 use std::alloc::{AllocError, Global};
@@ -15,14 +15,14 @@ use std::sync::Wait;
 const MOST: u64 = 1000;
 
 // Adds what is found on a shelf, and to which version the script goes on there.
-fn write_rest<R: Wait + Copy + Drop>(
+fn write_rest<B: Fragile, R: Wait + Copy + Drop>(
     rt: R,
     alloc: Global,
-    shelf: MemShelf,
+    shelf: B,
     play: Play<'_>,
     text: &mut String,
 ) -> Result<(), AllocError>
-    requires { top_is_listed (disk_of shelf) ≡ true }
+    requires { IsTrue (B.honest shelf) → top_is_listed (B.disk shelf) ≡ true }
 {
     match blank_on(alloc, shelf) {
         Ok(Some(blank)) => {
@@ -34,11 +34,11 @@ fn write_rest<R: Wait + Copy + Drop>(
     }
 }
 
-// Adds the same for each shelf that a crash left.
-fn write_left<R: Wait + Copy + Drop>(
+// Adds the same for each shelf that was found.
+fn write_left<B: Fragile, R: Wait + Copy + Drop>(
     rt: R,
     alloc: Global,
-    left: &[MemShelf],
+    left: &[B],
     play: Play<'_>,
     text: &mut String,
 ) -> Result<(), AllocError> {
@@ -46,17 +46,17 @@ fn write_left<R: Wait + Copy + Drop>(
     for shelf in left {
         text.push_str(before)?;
         before = ",";
-        write_rest(rt, alloc, shelf.crash(&[])?, play, text)?;
+        write_rest(rt, alloc, shelf.found(alloc, 0)?, play, text)?;
     }
     Ok(())
 }
 
 // Adds what came of a script, and what is found then. Tells whether a call failed.
-fn write_played<R: Wait + Copy + Drop>(
+fn write_played<B: Fragile, R: Wait + Copy + Drop>(
     rt: R,
     alloc: Global,
     script: &[u8],
-    played: &Played,
+    played: &Played<B>,
     text: &mut String,
 ) -> Result<bool, AllocError> {
     text.push_str(&played.text)?;
@@ -70,15 +70,15 @@ fn write_played<R: Wait + Copy + Drop>(
 }
 
 // Adds why a shelf isn't opened, what is found then, and what opening it again comes to. Tells that a call failed.
-fn write_unopened<R: Wait + Copy + Drop>(
+fn write_unopened<B: Fragile, R: Wait + Copy + Drop>(
     rt: R,
     alloc: Global,
     script: &[u8],
-    shelf: MemShelf,
+    shelf: B,
     error: OpenError,
     text: &mut String,
 ) -> Result<bool, AllocError>
-    requires { top_is_listed (disk_of shelf) ≡ true }
+    requires { IsTrue (B.honest shelf) → top_is_listed (B.disk shelf) ≡ true }
 {
     write!(text, " {error}")?;
     let play = Play {
@@ -93,14 +93,18 @@ fn write_unopened<R: Wait + Copy + Drop>(
 }
 
 // Adds what a case comes to where these calls fail, in a line. Tells whether one failed.
-fn write_stop<R: Wait + Copy + Drop>(
+fn write_stop<B: Fragile, R: Wait + Copy + Drop>(
     rt: R,
     alloc: Global,
     bench: &Bench,
     failing: Failing,
     text: &mut String,
 ) -> Result<bool, AllocError> {
-    match blank_on(alloc, shelf_of(alloc, &bench.start, failing)?) {
+    let Some(shelf) = B::make(alloc, &bench.start, failing)? else {
+        text.push_str(" device failed\n")?;
+        return Ok(true);
+    };
+    match blank_on(alloc, shelf) {
         Ok(Some(blank)) => {
             let play = Play {
                 script: &bench.script,
@@ -115,7 +119,7 @@ fn write_stop<R: Wait + Copy + Drop>(
 }
 
 // Adds what a case comes to where each number of calls pass and all others fail, a line each.
-fn write_fuses<R: Wait + Copy + Drop>(
+fn write_fuses<B: Fragile, R: Wait + Copy + Drop>(
     rt: R,
     alloc: Global,
     bench: &Bench,
@@ -123,7 +127,7 @@ fn write_fuses<R: Wait + Copy + Drop>(
 ) -> Result<(), AllocError> {
     for calls in 0..MOST {
         write!(text, "{calls}:")?;
-        if !write_stop(rt, alloc, bench, Failing::After(calls), text)? {
+        if !write_stop::<B, R>(rt, alloc, bench, Failing::After(calls), text)? {
             return Ok(());
         }
     }
@@ -131,7 +135,7 @@ fn write_fuses<R: Wait + Copy + Drop>(
 }
 
 // Adds what a case comes to where each call fails alone, a line each.
-fn write_faults<R: Wait + Copy + Drop>(
+fn write_faults<B: Fragile, R: Wait + Copy + Drop>(
     rt: R,
     alloc: Global,
     bench: &Bench,
@@ -139,7 +143,7 @@ fn write_faults<R: Wait + Copy + Drop>(
 ) -> Result<(), AllocError> {
     for call in 1..MOST {
         write!(text, "{call}:")?;
-        if !write_stop(rt, alloc, bench, Failing::Only(call), text)? {
+        if !write_stop::<B, R>(rt, alloc, bench, Failing::Only(call), text)? {
             return Ok(());
         }
     }
@@ -147,19 +151,19 @@ fn write_faults<R: Wait + Copy + Drop>(
 }
 
 // Adds what a case comes to where no call fails.
-fn write_play<R: Wait + Copy + Drop>(
+fn write_play<B: Fragile, R: Wait + Copy + Drop>(
     rt: R,
     alloc: Global,
     bench: &Bench,
     text: &mut String,
 ) -> Result<(), AllocError> {
     text.push_str("all:")?;
-    write_stop(rt, alloc, bench, Failing::Only(0), text)?;
+    write_stop::<B, R>(rt, alloc, bench, Failing::Only(0), text)?;
     Ok(())
 }
 
-// Adds what a line asks. False where it asks nothing.
-fn write_asked<R: Wait + Copy + Drop>(
+// Adds what a line asks of a room over such a shelf. False where it asks nothing.
+fn write_asked<B: Fragile, R: Wait + Copy + Drop>(
     rt: R,
     alloc: Global,
     bench: &Bench,
@@ -167,11 +171,11 @@ fn write_asked<R: Wait + Copy + Drop>(
     text: &mut String,
 ) -> Result<bool, AllocError> {
     if line == b"play".as_slice() {
-        write_play(rt, alloc, bench, text)?;
+        write_play::<B, R>(rt, alloc, bench, text)?;
     } else if line == b"fuses".as_slice() {
-        write_fuses(rt, alloc, bench, text)?;
+        write_fuses::<B, R>(rt, alloc, bench, text)?;
     } else if line == b"faults".as_slice() {
-        write_faults(rt, alloc, bench, text)?;
+        write_faults::<B, R>(rt, alloc, bench, text)?;
     } else {
         return Ok(false);
     }
@@ -189,8 +193,17 @@ pub fn answer_line<R: Wait + Copy + Drop>(
     if let Some(text) = line.strip_prefix(b"record ") {
         return bench.add_record(alloc, text);
     }
+    if line == b"store".as_slice() {
+        bench.in_store = true;
+        return Ok(());
+    }
     let mut text = String::new(alloc);
-    match write_asked(rt, alloc, bench, line, &mut text) {
+    let asked = if bench.in_store {
+        write_asked::<StoreShelf, R>(rt, alloc, bench, line, &mut text)
+    } else {
+        write_asked::<MemShelf, R>(rt, alloc, bench, line, &mut text)
+    };
+    match asked {
         Ok(true) => out.extend_from_slice(text.as_bytes()),
         Ok(false) => bench.add_line(line),
         Err(_) => Err(AllocError),
