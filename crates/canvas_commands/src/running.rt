@@ -1,6 +1,6 @@
 // The program: its words, and the status that it ends with.
 ghost use Rattle.std.specs.Prelude.{◌≡◌, IfOk, string_bytes};
-ghost use Rattle.canvas_host.specs.Faults.{IsEnd, IsServed};
+ghost use Rattle.canvas_faults.specs.Faults.{IsEnd, IsServed};
 ghost use Rattle.canvas_commands.specs.Runs.{Does, IsRefused, IsRun, Shows, place_bytes};
 
 use crate::caring::{run_check, run_import, run_log, run_restore, run_rows, run_tree};
@@ -9,7 +9,8 @@ use crate::remote::{
 };
 use canvas_address::AddressError;
 use canvas_care::Layout;
-use canvas_host::{Fault, Told, serve};
+use canvas_faults::{Fault, Told};
+use canvas_host::serve;
 use canvas_words::{Asked, Options, Place, WordsError, read_words};
 use std::alloc::{AllocError, Global};
 use std::io::{Eprint, Print, Read, Write};

@@ -1,5 +1,2 @@
-pub mod Causes
-pub mod Faults
-pub mod Figures
-pub mod Answers
+pub mod Rooms
 pub mod Seats

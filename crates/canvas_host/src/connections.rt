@@ -1,8 +1,8 @@
 // A seat's thread: it serves one connection after the other.
 
-use crate::options::{Limits, Shared};
 use crate::seated::Seated;
 use canvas_board::RoomName;
+use canvas_doors::{Limits, Shared};
 use canvas_journal::Keeper;
 use canvas_nodes::{Answerer, serve_one};
 use canvas_room::Lock;
@@ -98,13 +98,17 @@ fn serve<A: Answerer>(alloc: Global, shared: &Shared, answerer: &mut A, stream: 
     }
 }
 
+// How long one write may wait. A client that reads nothing ends up to three of them, before others have waited in vain for its permit.
+const MOST_UNREAD_SECONDS: u64 = 8;
+
 // Bounds how long a connection may be silent, and how long it may leave an answer unread.
 fn limit(stream: &TcpStream, limits: Limits) -> io::Result<()> {
     let idle = Some(Duration::from_secs(limits.idle_seconds));
+    let unread = Some(Duration::from_secs(limits.idle_seconds.min(MOST_UNREAD_SECONDS)));
     // Each answer leaves at once; without this some would wait for an acknowledgement.
     stream.set_nodelay(true)?;
     stream.set_read_timeout(idle)?;
-    stream.set_write_timeout(idle)
+    stream.set_write_timeout(unread)
 }
 
 // How a connection ended that failed. A client whose message is too large is told.

@@ -1,17 +1,17 @@
 // What a server of a document in an etcd has before it serves: the document, which it has taken over, and the lease of that.
 ghost use Rattle.std.specs.Prelude.{◌≡◌, IfErr, IfOk, string_bytes};
 ghost use Rattle.canvas_http.specs.Identities.{IsIdentity};
-ghost use Rattle.canvas_host.specs.Faults.{IsNamingFault, IsOpeningFault, of_document};
+ghost use Rattle.canvas_faults.specs.Faults.{IsNamingFault, IsOpeningFault, of_document};
 
-use crate::fault::Fault;
 use crate::opening::{Counted, OpenRoom, room_of};
-use crate::shelf::DocumentShelf;
 use canvas_address::Address;
 use canvas_etcd::EtcdShelf;
+use canvas_faults::Fault;
 use canvas_gateway::copy_hosts;
 use canvas_identity::{identity_in, made_identity};
+use canvas_places::{DocumentShelf, NoWitness};
 use canvas_store::{EtcdStore, Lease};
-use canvas_watch::{Watched, Witness};
+use canvas_watch::Watched;
 use std::alloc::Global;
 use std::net::{Net, TcpStream};
 use std::random::RandomSource;
@@ -21,20 +21,6 @@ pub(crate) const LEASE_SECONDS: u64 = 10;
 
 /// The journal of a document in an etcd, which is counted.
 pub(crate) type DocumentJournal<R> = Counted<DocumentShelf<R>>;
-
-/// Who is shown what a document's shelf did, and keeps nothing of it: an etcd keeps what it was given.
-#[derive(Drop)]
-pub(crate) struct NoWitness;
-
-impl Witness for NoWitness {
-    fn created(&mut self, _number: u32) {}
-
-    fn appended(&mut self, _number: u32, _bytes: &[u8]) {}
-
-    fn synced(&mut self, _number: u32) {}
-
-    fn retired(&mut self, _number: u32) {}
-}
 
 /// A document that was taken over: its room, the lease, and its identity.
 pub(crate) type OpenDocument<R> = (OpenRoom<DocumentShelf<R>>, Lease<R>, String);
@@ -56,23 +42,61 @@ where
     let store = store_of(rt, alloc, address)?;
     let shelf = EtcdShelf::open(alloc, store)?;
     let mut lease = shelf.store().lease()?;
-    let identity = identity_of(files, &mut lease)?;
-    let shelf = Watched::new(alloc, shelf, NoWitness)?;
+    match open_owned(files, shelf, &mut lease, seats) {
+        Ok((opened, identity)) => Ok((opened, lease, identity)),
+        Err(fault) => {
+            // Nobody has to wait for the end of a lease under which nothing was served.
+            let _ = lease.release();
+            Err(fault)
+        }
+    }
+}
+
+// Opens the room of a document that was taken over, and tells its identity.
+fn open_owned<R>(
+    files: HostRuntime,
+    shelf: EtcdShelf<EtcdStore<R>>,
+    lease: &mut Lease<R>,
+    seats: usize,
+) -> Result<(OpenRoom<DocumentShelf<R>>, String), Fault>
+where
+    R: Net<Stream = TcpStream> + AllocGlobal + Clone + Drop,
+    ensures seats { IfOk result (λ opened. opened.0.room.seats ≡ seats) }
+    ensures named { IfOk result (λ opened. IsIdentity (string_bytes opened.1)) }
+    ensures faults { IfErr result (IsOpeningFault seats) }
+{
+    let identity = identity_of(files, lease)?;
+    let shelf = Watched::new(files.alloc(), shelf, NoWitness)?;
     let notes = shelf.notes().share()?;
     match room_of(files, DocumentShelf { shelf }, notes, seats) {
-        Ok(opened) => Ok((opened, lease, identity)),
+        Ok(opened) => Ok((opened, identity)),
         Err(fault) => Err(of_document(fault)),
     }
 }
 
-/// Whether somebody has the document. An etcd that doesn't answer doesn't say that nobody has.
-pub(crate) fn is_owned<R>(rt: &R, alloc: Global, address: &Address) -> Result<bool, Fault>
+/// Who has a document.
+#[derive(Clone, Copy, Debug, PartialEq, Eq)]
+pub(crate) enum Ownership {
+    /// Nobody.
+    Free,
+    /// Another server.
+    Owned,
+    /// The etcd doesn't say.
+    Unknown,
+}
+
+/// Who has the document.
+pub(crate) fn ownership_of<R>(rt: &R, alloc: Global, address: &Address) -> Result<Ownership, Fault>
 where
     R: Net<Stream = TcpStream> + AllocGlobal + Clone + Drop,
     ensures { IfErr result (λ fault. fault ≡ Fault.Memory) }
 {
     let mut store = store_of(rt, alloc, address)?;
-    Ok(store.is_owned().unwrap_or(true))
+    match store.is_owned() {
+        Ok(false) => Ok(Ownership::Free),
+        Ok(true) => Ok(Ownership::Owned),
+        Err(_) => Ok(Ownership::Unknown),
+    }
 }
 
 // The store of a document. Nothing is asked yet.

@@ -1,22 +1,21 @@
 // What `lugcurrant serve` does: a room over the journal of a document, whose seats serve clients for as long as it runs.
 ghost use Rattle.std.specs.Prelude.{◌≡◌, IfErr, IfOk, string_bytes};
 ghost use Rattle.canvas_http.specs.Identities.{IsIdentity};
-ghost use Rattle.canvas_host.specs.Faults.{IsJournalFault, IsPreparingFault, IsRunningFault, IsServeFault};
+ghost use Rattle.canvas_faults.specs.Faults.{IsJournalFault, IsPreparingFault, IsRunningFault, IsServeFault};
 
-use crate::documents::{DocumentJournal, is_owned, open_document};
-use crate::fault::Fault;
-use crate::figures::Figures;
+use crate::copies::Copies;
+use crate::documents::{DocumentJournal, Ownership, open_document, ownership_of};
 use crate::opening::{FolderJournal, OpenRoom, listen, open_room, opened};
-use crate::options::{Limits, Shared};
-use crate::permits::Permits;
-use crate::shelf::DocumentShelf;
 use crate::tasks::{DoorTask, LeaseTask, SeatTask, begin_task};
 use canvas_address::Address;
 use canvas_board::RoomName;
+use canvas_doors::{Figures, Limits, Shared};
+use canvas_faults::Fault;
 use canvas_folder::Removed;
 use canvas_http::Site;
 use canvas_identity::identity;
 use canvas_journal::Keeper;
+use canvas_places::DocumentShelf;
 use canvas_room::{BlankRoom, Lock, Room, Seat};
 use canvas_shelf::Shelf;
 use canvas_store::Lease;
@@ -31,7 +30,7 @@ use std::sync::{Arc, Wait};
 use std::thread::{Threads, sleep};
 use std::time::{Clock, Duration};
 
-// How many copies of the document are made or on their way at once.
+// How many copies of the document are on their way at once.
 const MOST_COPIES: usize = 4;
 
 /// How many threads accept connections.
@@ -178,6 +177,38 @@ where
     } = taken;
     let OpenRoom { room, meter, notes } = opened;
     let figures = Figures::new(meter, notes);
+    match share_under(rt, listener, identity, figures, &lease, serving) {
+        Ok(shared) => Ok((room, shared, lease)),
+        Err(fault) => {
+            // Nobody has to wait for the end of a lease under which nothing was served.
+            let _ = lease.release();
+            Err(fault)
+        }
+    }
+}
+
+// What the threads of a server share, one of which keeps this lease.
+fn share_under<R>(
+    rt: &R,
+    listener: TcpListener,
+    identity: String,
+    figures: Figures,
+    lease: &Lease<R>,
+    serving: Serving,
+) -> Result<Arc<Shared, Global>, Fault>
+where
+    R: Net<Listener = TcpListener, Stream = TcpStream>
+        + Threads
+        + Wait
+        + Clock
+        + AllocGlobal
+        + Clone
+        + Send
+        + Drop
+        + 'static,
+    requires { IsIdentity (string_bytes identity) }
+    ensures { IfErr result IsRunningFault }
+{
     let shared = share(rt, listener, identity, figures, None, serving)?;
     let task = LeaseTask {
         rt: rt.clone()?,
@@ -185,7 +216,7 @@ where
         shared: Arc::try_clone(&shared)?,
     };
     begin_task(rt, task)?;
-    Ok((room, shared, lease))
+    Ok(shared)
 }
 
 // A document that was taken over, under this lease, and the port that it is served at.
@@ -236,20 +267,31 @@ where
     ensures named { IfOk result (λ taken. IsIdentity (string_bytes taken.identity)) }
     ensures faults { IfErr result (IsPreparingFault serving.now.clients) }
 {
-    if !serving.quiet {
-        let name = address.name.as_str();
-        let _ = rt.eprintln(format_args!("waiting for the document {name}"));
-    }
+    let mut told = Ownership::Free;
     for _ in rt.forever() {
-        if !is_owned(rt, files.alloc(), address)? {
+        let ownership = ownership_of(rt, files.alloc(), address)?;
+        if ownership == Ownership::Free {
             match take_document(rt, files, address, serving) {
                 Err(Fault::DocumentInUse) => {}
                 done => return done,
             }
+        } else if ownership != told && !serving.quiet {
+            tell_wait(rt, address, ownership);
         }
+        told = ownership;
         sleep(rt, Duration::from_millis(WAIT_MILLIS));
     }
     unreachable!()
+}
+
+// A line on what a standby waits for.
+fn tell_wait<R: Eprint>(rt: &R, address: &Address, ownership: Ownership) {
+    let name = address.name.as_str();
+    let why = match ownership {
+        Ownership::Unknown => "the etcd doesn't answer",
+        Ownership::Free | Ownership::Owned => "another server has it",
+    };
+    let _ = rt.eprintln(format_args!("waiting for the document {name}: {why}"));
 }
 
 // What the threads of a server share.
@@ -281,7 +323,6 @@ where
         },
         page,
         figures,
-        copies: Permits::new(rt, MOST_COPIES)?,
         removed,
         has_ended: AtomicBool::new(false),
         limits,
@@ -349,11 +390,13 @@ where
     R: Threads + Wait + Clock + Eprint + AllocGlobal + Clone + Send + Sync + Drop + 'static,
     ensures { IfErr result IsRunningFault }
 {
+    let copies = Arc::new(rt.alloc(), Copies::new(rt, MOST_COPIES)?)?;
     for seat in seats {
         let task = SeatTask {
             rt: rt.clone()?,
             seat,
             shared: Arc::try_clone(shared)?,
+            copies: Arc::try_clone(&copies)?,
             connections: connections.clone()?,
         };
         begin_task(rt, task)?;

@@ -1,7 +1,7 @@
 // A thread that keeps the lease of a document in an etcd alive.
 
 use crate::documents::LEASE_SECONDS;
-use crate::options::Shared;
+use canvas_doors::Shared;
 use canvas_store::Lease;
 use std::net::{Net, TcpStream};
 use std::sync::Wait;

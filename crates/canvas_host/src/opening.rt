@@ -1,15 +1,15 @@
 // What a server has before it serves: its port, and the room of its document.
 ghost use Rattle.std.specs.Prelude.{◌≡◌, IfErr, IfOk, false, length};
-ghost use Rattle.canvas_host.specs.Faults.{IsOpeningFault, IsPortFault};
+ghost use Rattle.canvas_faults.specs.Faults.{IsOpeningFault, IsPortFault};
+ghost use Rattle.canvas_host.specs.Rooms.{fault_of_room};
 
-use crate::fault::Fault;
-use crate::losing::guard;
-use crate::shelf::FolderShelf;
 use canvas_board::{Opening, RoomName};
+use canvas_faults::Fault;
 use canvas_folder::{DirShelf, Removed};
 use canvas_journal::{Journal, Keeper, open};
 use canvas_meter::{Meter, Metered};
-use canvas_room::{BlankRoom, Lock, Room, Seat, blank_room};
+use canvas_places::{FolderShelf, guard};
+use canvas_room::{BlankRoom, Lock, Room, RoomError, Seat, blank_room};
 use canvas_shelf::Shelf;
 use canvas_watch::{Notes, SumFiles, Watched};
 use std::alloc::Global;
@@ -91,7 +91,17 @@ pub(crate) fn room_of<S: Shelf + Drop>(
     let keeper = Metered::new(journal, files, Arc::try_clone(&meter)?);
     match blank_room(alloc, keeper, Opening { state, version }, seats) {
         Ok(room) => Ok(OpenRoom { room, meter, notes }),
-        Err((_keeper, error)) => Err(Fault::from(error)),
+        Err((_keeper, error)) => Err(fault_of_room(error)),
+    }
+}
+
+// What it means that a room isn't made.
+fn fault_of_room(error: RoomError) -> Fault
+    ensures { result ≡ fault_of_room error }
+{
+    match error {
+        RoomError::SeatCount => Fault::ClientCount,
+        RoomError::NoPlace | RoomError::Memory => Fault::Memory,
     }
 }
 

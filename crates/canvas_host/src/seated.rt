@@ -1,24 +1,26 @@
 // A seat as a server that goes on has it.
 ghost use Rattle.std.specs.Prelude.{◌≡◌, IfOk, map};
+ghost use Rattle.canvas_model.specs.Messages as messages;
 ghost use Rattle.canvas_judge.specs.Seen.{seen_message};
-ghost use Rattle.canvas_nodes.specs.Answers.{IsAnswer, refused};
+ghost use Rattle.canvas_nodes.specs.Answers.{GivesTexts, IsAnswer, refused};
 ghost use Rattle.canvas_host.specs.Seats.{SeatGives};
 
-use crate::options::Shared;
+use crate::copies::Copies;
 use canvas_board::RoomName;
+use canvas_doors::Shared;
 use canvas_front::SeatAnswerer;
 use canvas_journal::Keeper;
 use canvas_judge::{Message, NoReason};
 use canvas_limit::is_too_large;
-use canvas_nodes::Answerer;
+use canvas_nodes::{Answerer, texts_of};
 use canvas_room::{Lock, Seat};
 use std::alloc::{AllocError, Global};
 use std::marker::Model;
-use std::sync::Wait;
+use std::sync::{Arc, Wait};
 use std::time::Clock;
 
-/// A seat that answers clients, refuses edits that are too large, makes checkpoints at the pace of its document, copies the document only
-/// with a permit, and counts its Noes. Contracts see what its seat has seen, and the limit of an edit's text.
+/// A seat that answers clients, refuses edits that are too large, makes checkpoints at the pace of its document, sends the copy that is
+/// written for all, with a permit, and counts its Noes. Contracts see what its seat has seen, and the limit of an edit's text.
 ///
 /// It has its permit until the copy has left, or its connection has ended. Once an answer has left, it closes a file that the folder has
 /// removed, if there is one.
@@ -27,6 +29,7 @@ pub(crate) struct Seated<'a, N: RoomName, D: Drop, W: Drop> {
     answerer: SeatAnswerer<N, D, W>,
     rt: W,
     shared: &'a Shared,
+    copies: Arc<Copies<N>, Global>,
     has_permit: bool,
     has_answered: bool,
 }
@@ -38,6 +41,7 @@ impl<N: RoomName, D: Drop, W: Drop> Drop for Seated<'_, N, D, W> {
             answerer: _,
             rt: _,
             shared: _,
+            copies: _,
             has_permit: _,
             has_answered: _,
         } = self;
@@ -63,6 +67,7 @@ impl<'a, N: RoomName, D: Drop, W: Wait + Clock + Clone + Drop> Seated<'a, N, D, 
         rt: W,
         seat: Seat<N, D>,
         shared: &'a Shared,
+        copies: Arc<Copies<N>, Global>,
     ) -> Result<Seated<'a, N, D, W>, AllocError>
         ensures { IfOk result (λ seated. seated ≡ record { seen = seat; limit = shared.now.limits.message_bytes }) }
     {
@@ -71,6 +76,7 @@ impl<'a, N: RoomName, D: Drop, W: Wait + Clock + Clone + Drop> Seated<'a, N, D, 
             answerer: SeatAnswerer::new(alloc, rt.clone()?, seat),
             rt,
             shared,
+            copies,
             has_permit: false,
             has_answered: false,
         })
@@ -82,27 +88,27 @@ impl<'a, N: RoomName, D: Drop, W: Wait + Clock + Clone + Drop> Seated<'a, N, D, 
     {
         self.has_answered = false;
         if self.has_permit {
-            self.shared.copies.give(&self.rt);
+            self.copies.end(&self.rt);
             self.has_permit = false;
         }
     }
 
-    // Takes a permit where the client asks from below the last checkpoint, and so wants a copy. Fails where none is free for long.
-    fn prepare(&mut self, message: &Message) -> Result<(), AllocError>
-        ensures { self.new ≡ self.old }
+    // Whether this version is below the last checkpoint, by what was published a tenth of a second ago.
+    fn is_below(&self, version: u64) -> bool {
+        version < self.shared.figures.floor()
+    }
+
+    // The texts of what is answered an Ask that wants a copy. Fails where none may be sent for long, or memory is refused.
+    fn copied(&mut self, client: u32, version: u64) -> Result<Vec<Vec<u8>>, AllocError>
+        ensures { IfOk result (λ ts. GivesTexts (SeatGives N.opening) self.old (messages.Ask client version) (map (λ t. t.items) ts.items) self.new) }
     {
-        let Message::Ask { version, .. } = message else {
-            return Ok(());
-        };
-        if *version >= self.shared.figures.floor() {
-            return Ok(());
+        self.has_permit = self.copies.begin(&self.rt);
+        if !self.has_permit {
+            return Err(AllocError);
         }
-        self.has_permit = self.shared.copies.take(&self.rt);
-        if self.has_permit {
-            Ok(())
-        } else {
-            Err(AllocError)
-        }
+        let least = self.shared.figures.least_copy();
+        self.copies
+            .texts(&self.rt, &mut self.answerer, least, client, version)
     }
 
     // Counts an answer that is a No.
@@ -135,6 +141,14 @@ where
     R: Wait + Drop,
     W: Wait + Clock + Clone + Drop,
 {
+    // The texts of what is answered a message, each written anew. Fails only where memory is refused.
+    fn texts_anew(&mut self, alloc: Global, message: &Message) -> Result<Vec<Vec<u8>>, AllocError>
+        ensures { IfOk result (λ ts. GivesTexts (SeatGives N.opening) self.old (seen_message message.now) (map (λ t. t.items) ts.items) self.new) }
+    {
+        let answer = self.answer(message)?;
+        texts_of(alloc, &answer)
+    }
+
     // What is answered a message. Fails only where memory is refused.
     fn answered(&mut self, message: &Message) -> Result<Vec<Message>, AllocError>
         ensures gives { IfOk result (λ answer. SeatGives N.opening self.old (seen_message message.now) (map seen_message answer.items) self.new) }
@@ -143,7 +157,6 @@ where
         if is_too_large(self.alloc, message, self.shared.limits.message_bytes)? {
             return self.too_large();
         }
-        self.prepare(message)?;
         self.answerer
             .checkpoint_at(self.shared.figures.checkpoint_at());
         self.answerer.answer(message)
@@ -165,6 +178,19 @@ where
         let answer = self.answered(message);
         self.count(&answer);
         answer
+    }
+
+    fn texts(&mut self, alloc: Global, message: &Message) -> Result<Vec<Vec<u8>>, AllocError> {
+        let (client, version) = match message {
+            Message::Ask { client, version } if self.is_below(*version) => (*client, *version),
+            _ => return self.texts_anew(alloc, message),
+        };
+        let texts = self.copied(client, version);
+        self.has_answered = true;
+        if texts.is_err() {
+            self.shared.figures.refuse(NoReason::Memory);
+        }
+        texts
     }
 
     // Where it wasn't asked for an answer, the message couldn't be read.

@@ -2,12 +2,12 @@
 ghost use Rattle.std.specs.Prelude.{◌≡◌, IfErr};
 
 use crate::connections::serve_each;
-use crate::doors::stand;
-use crate::fault::Fault;
+use crate::copies::Copies;
 use crate::leasing::keep;
-use crate::options::Shared;
 use crate::seated::Seated;
 use canvas_board::RoomName;
+use canvas_doors::{Shared, stand};
+use canvas_faults::Fault;
 use canvas_journal::Keeper;
 use canvas_room::{Lock, Seat};
 use canvas_store::Lease;
@@ -43,6 +43,7 @@ pub(crate) struct SeatTask<N: RoomName, D: Drop, R: Drop> {
     pub(crate) rt: R,
     pub(crate) seat: Seat<N, D>,
     pub(crate) shared: Arc<Shared, Global>,
+    pub(crate) copies: Arc<Copies<N>, Global>,
     pub(crate) connections: Receiver<TcpStream, Global>,
 }
 
@@ -52,6 +53,7 @@ impl<N: RoomName, D: Drop, R: Drop> Drop for SeatTask<N, D, R> {
             rt: _,
             seat: _,
             shared: _,
+            copies: _,
             connections: _,
         } = self;
     }
@@ -70,12 +72,13 @@ where
             rt,
             seat,
             shared,
+            copies,
             connections,
         } = self;
         let Ok(own) = rt.clone() else {
             return;
         };
-        if let Ok(mut seated) = Seated::new(rt.alloc(), own, seat, &shared) {
+        if let Ok(mut seated) = Seated::new(rt.alloc(), own, seat, &shared, copies) {
             serve_each(&rt, &shared, &mut seated, &connections);
         }
     }

@@ -10,4 +10,4 @@ pub begin_task-requires-send-T : goal.begin_task-requires-send-T
 begin_task-requires-send-T g c κs within =
     let b = c.type_bounds in
     let s = Room-seat-send (param 1 g.row.K) (param 0 g.row.N) (param 2 g.row.R) g.K.Keeper g.N.RoomName b.send-K b.send-N b.sync-N b.send-R in
-    param_send 1 _ (arg_send _ no _ (SeatTask-send _ _ _ _ s b.send-R))
+    param_send 1 _ (arg_send _ no _ (SeatTask-send _ _ _ _ b.send-N s b.send-R))

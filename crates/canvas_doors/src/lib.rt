@@ -1,0 +1,12 @@
+//! What the port of a server answers by itself, to all requests but those of clients, who are handed on; and what a server counts.
+#![tactic(auto)]
+
+mod answers;
+mod doors;
+mod figures;
+mod noes;
+mod options;
+
+pub use doors::stand;
+pub use figures::Figures;
+pub use options::{Limits, Shared};
