@@ -71,14 +71,33 @@ class Client:
         taken, self.rest = self.rest[:count], self.rest[count:]
         return taken
 
-    def frame(self):
+    def head_of_frame(self):
+        """What kind of message comes, and how long it is."""
         first, second = self.take(2)
         size = second & 127
         if size == 126:
             size = struct.unpack("!H", self.take(2))[0]
         elif size == 127:
             size = struct.unpack("!Q", self.take(8))[0]
-        return first & 15, self.take(size)
+        return first & 15, size
+
+    def frame(self):
+        opcode, size = self.head_of_frame()
+        return opcode, self.take(size)
+
+    def pass_over(self):
+        """Reads a message, and keeps nothing of it but its first bytes. How long it was, and these."""
+        _, size = self.head_of_frame()
+        first = self.take(min(size, 8))
+        known = min(size - len(first), len(self.rest))
+        self.rest, left = self.rest[known:], size - len(first) - known
+        part = memoryview(bytearray(1 << 20))
+        while left:
+            count = self.socket.recv_into(part, min(left, 1 << 20))
+            if not count:
+                raise ConnectionError("the server closed the connection")
+            left -= count
+        return size, first
 
     def say(self, *message):
         """Sends a message."""

@@ -129,7 +129,7 @@ class Served(shared.Server):
         return self.process.poll() is None and not self.is_paused and f"serving at http://127.0.0.1:{self.port}/ version " in self.text()
 
     def waits(self):
-        return f"waiting for the document {self.name}\n" in self.text()
+        return f"waiting for the document {self.name}: another server has it\n" in self.text()
 
     def await_serving(self, seconds=60):
         """Waits until it serves. It may have to wait for the lease of the one before."""

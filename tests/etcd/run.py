@@ -182,7 +182,7 @@ def takeovers(etcd, times):
     for _ in range(times):
         until(lambda: pair[0].port in editor.firsts or editor.wrong, 30, "no edit is acknowledged")
         require(editor.wrong is None, editor.wrong)
-        require(pair[1].text().count(f"waiting for the document {NAME}\n") == 1, "it isn't told once that a server waits")
+        require(pair[1].text().count(f"waiting for the document {NAME}: another server has it\n") == 1, "it isn't told once that a server waits")
         require(not pair[1].serves(), "two servers serve a document")
         try:
             socket.create_connection(("127.0.0.1", pair[1].port), timeout=5).close()

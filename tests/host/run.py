@@ -13,6 +13,8 @@ own; only the named groups, where some are named.
 - figures: the whole text of /metrics after a known session: edits judged and refused by each reason, Noes, syncs, a checkpoint.
 - sizes: an edit whose text has --message-bytes is judged, one of a byte more is answered No 8 and changes nothing, and a message above
   twice as many ends its connection with code 1009; the next client is served.
+- copies: 63 clients ask for a copy of 10 MB at once, as after a restart, while one edits: all have it, and the memory goes back. One that
+  reads nothing of its copy loses its connection. (Figures: the memory above the document, the longest edit, and the seconds.)
 - large: a document of 100 MB is imported, served, and copied to a client in one message.
 - disk: on a disk that is full an edit is answered No 5 (or No 6, after a checkpoint that failed), the server ends with status 4 and its sentence, and every edit that was
   answered is there afterwards. (It mounts a small tmpfs, and passes where it may not.)
@@ -383,6 +385,78 @@ def large(room):
     return f"a copy of {len(copy)} bytes in one message"
 
 
+def watched(server, done, most):
+    """Adds the most memory that a server has to `most`, until it is done."""
+    while not done.is_set():
+        most.append(max(server.memory(), most.pop()))
+        time.sleep(0.01)
+
+
+def edits_meanwhile(client, name, done, longest):
+    """Has a client edit until it is done, and adds the seconds of the longest edit to `longest`."""
+    number = 0
+    while not done.is_set():
+        number += 1
+        start = time.monotonic()
+        require(client.ask("edit", name, number, ["set", [1, 1], "count", number]) == [["idle"]], "an edit isn't judged")
+        longest.append(max(time.monotonic() - start, longest.pop()))
+        time.sleep(0.002)
+
+
+def sent_a_copy(client, name, sizes):
+    """Has a client ask for a copy, adds its size to `sizes`, and leaves."""
+    client.say("ask", name, 1)
+    size, first = client.pass_over()
+    if first.startswith(b'["copy"') and client.hear() == [["idle"]]:
+        sizes.append(size)
+    client.leave()
+
+
+def copies(room):
+    rows = ['[[0,0],"document",null,[]]']
+    rows += [text_of([[1, number], "page", [[0, 0], f"{number:06d}O"], [["fill", ["rgba", number]], ["text", "x" * 24]]]) for number in range(1, 100001)]
+    require(call("import", room, text="\n".join(rows).encode()) == b"version 1, objects 100001\n", "10 MB aren't imported")
+    os.environ.update(MALLOC_ARENA_MAX="2", MALLOC_MMAP_THRESHOLD_="131072")  # as the unit in deploy has them
+    server = Server(room, "--quiet")
+    names = []
+    for _ in range(64):
+        client = Client(server.port)
+        names.append(client.join())
+        client.leave()
+    server.kill()
+    server.start()
+    first = Client(server.port)
+    first.ask("ask", names[0], 2)
+    first.leave()
+    time.sleep(1)
+    before, most, longest, sizes, done = server.memory(), [0], [0.0], [], threading.Event()
+    clients = [Client(server.port, timeout=60) for _ in range(64)]
+    besides = [threading.Thread(target=watched, args=(server, done, most)),
+               threading.Thread(target=edits_meanwhile, args=(clients[0], names[0], done, longest))]
+    askers = [threading.Thread(target=sent_a_copy, args=(clients[i], names[i], sizes)) for i in range(1, 64)]
+    start = time.monotonic()
+    for thread in besides + askers:
+        thread.start()
+    for thread in askers:
+        thread.join()
+    seconds = time.monotonic() - start
+    done.set()
+    for thread in besides:
+        thread.join()
+    require(len(sizes) == 63, "of 63 clients so many have a copy:", len(sizes))
+    time.sleep(1)
+    above, left = (most[0] - before) // 1024, (server.memory() - before) // 1024
+    require(above < 300 and left < 100, "copies take so many MB above the document, and leave:", above, left)
+    stuck = Client(server.port)
+    for _ in range(4):  # more than the system keeps for a socket
+        stuck.say("ask", names[1], 1)
+    time.sleep(28)
+    require('lugcurrant_clients 1\n' in server.get("/metrics")[2].decode(), "a client that doesn't read its copy isn't let go")
+    server.kill()
+    return (f"63 copies of {sizes[0] / 1e6:.1f} MB in {seconds:.1f} s, at most {above} MB above the document and {left} afterwards, "
+            f"the longest edit {longest[0] * 1000:.0f} ms")
+
+
 def disk(room):
     above = os.path.dirname(room)
     small = os.path.join(above, "small")
@@ -696,6 +770,6 @@ def coming(room):
     return f"{served[0]} clients in {SECONDS:.0f} s, none refused, memory {before} kB after a third, {after} kB at the end"
 
 
-GROUPS = (reuse, full, quiet, pages, origins, identity, kills, figures, sizes, large, disk, sentences, rows, restored, lost, checked, coming)
+GROUPS = (reuse, full, quiet, pages, origins, identity, kills, figures, sizes, copies, large, disk, sentences, rows, restored, lost, checked, coming)
 
 sys.exit(try_groups(GROUPS, NAMES))

@@ -77,6 +77,12 @@ async function conflict(one, other) {
 }
 await conflict(clients[1], clients[2]);
 
+// Each sets a value on a page of its own, so that whoever hears other values shows them in the end.
+for (const [k, { client, link }] of clients.entries()) {
+  client.set(client.create('page', ROOT), 'x', 1000 + k);
+  link.wake();
+}
+
 let shown = server.show();
 const isSettled = () => clients.every(({ client }) => client.version === shown.version && client.waiting === 0);
 for (let k = 0; k < 2400 && !isSettled(); k++) { await sleep(50); if (k % 10 === 0 || isSettled()) shown = server.show(); }
