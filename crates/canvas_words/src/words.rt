@@ -12,10 +12,14 @@ use std::alloc::{AllocError, Global};
 /// The errors: `Line` is `clap`'s: it has the text to print, which for `--help` and `--version` is no fault, and the program's status;
 /// `Address`, where they don't say where a document in an etcd is.
 pub fn read_words<'a>(alloc: Global, words: &'a [String]) -> Result<Asked, WordsError> {
-    let matches = match program(alloc)?.try_get_matches_from(words) {
-        Ok(matches) => matches,
-        Err(error) => return Err(WordsError::Line(error)),
-    };
+    match program(alloc)?.try_get_matches_from(words) {
+        Ok(matches) => asked_of(alloc, &matches),
+        Err(error) => Err(WordsError::Line(error)),
+    }
+}
+
+// What the words ask for that match the command line so.
+fn asked_of(alloc: Global, matches: &ArgMatches<'_>) -> Result<Asked, WordsError> {
     match matches.subcommand() {
         Some((name, matches)) => command_of(alloc, name, matches),
         None => Err(WordsError::Address(AddressError::Memory)),
@@ -85,18 +89,45 @@ fn layout_of(matches: &ArgMatches<'_>) -> Option<Layout> {
 
 // The program's command line.
 fn program<'a>(alloc: Global) -> Result<Command<'a>, AllocError> {
-    Command::new(alloc, "lugcurrant")
+    let program = Command::new(alloc, "lugcurrant")
         .version("0.1.0")
         .about("Serves a document that many people edit at once, also offline")
         .subcommand_required(true)
-        .arg_required_else_help(true)
-        .subcommand(serve_command(alloc)?)?
-        .subcommand(show_command(alloc)?)?
-        .subcommand(import_command(alloc)?)?
-        .subcommand(restore_command(alloc)?)?
-        .subcommand(move_command(alloc)?)?
-        .subcommand(check_command(alloc)?)?
-        .subcommand(log_command(alloc)?)
+        .arg_required_else_help(true);
+    let program = with_command(Ok(program), serve_command(alloc));
+    let program = with_command(program, show_command(alloc));
+    let program = with_command(program, import_command(alloc));
+    let program = with_command(program, restore_command(alloc));
+    let program = with_command(program, move_command(alloc));
+    let program = with_command(program, check_command(alloc));
+    with_command(program, log_command(alloc))
+}
+
+// These three take and give what may want memory as a result. Thus a command is given up for want of it here alone, and not wherever
+// something is added to one, each of which would have to be proved.
+
+// With this command below it.
+fn with_command<'a>(
+    program: Result<Command<'a>, AllocError>,
+    command: Result<Command<'a>, AllocError>,
+) -> Result<Command<'a>, AllocError> {
+    program?.subcommand(command?)
+}
+
+// With this argument.
+fn with_arg<'a>(
+    command: Result<Command<'a>, AllocError>,
+    arg: Result<Arg<'a>, AllocError>,
+) -> Result<Command<'a>, AllocError> {
+    command?.arg(arg?)
+}
+
+// With this group of arguments.
+fn with_group<'a>(
+    command: Result<Command<'a>, AllocError>,
+    group: Result<ArgGroup<'a>, AllocError>,
+) -> Result<Command<'a>, AllocError> {
+    command?.group(group?)
 }
 
 // A folder, as an argument that is required.
@@ -113,45 +144,68 @@ fn folder<'a>(
         .help(help)
 }
 
+// An option without a value.
+fn flag<'a>(alloc: Global, name: &'static str, help: &'static str) -> Arg<'a> {
+    Arg::new(alloc, name)
+        .long(name)
+        .action(ArgAction::SetTrue)
+        .help(help)
+}
+
+// An option with a value.
+fn option<'a>(
+    alloc: Global,
+    name: &'static str,
+    value: &'static str,
+    help: &'static str,
+) -> Arg<'a> {
+    Arg::new(alloc, name)
+        .long(name)
+        .value_name(value)
+        .action(ArgAction::Set)
+        .help(help)
+}
+
 // With where the document is: in a folder, or in an etcd.
 fn with_place<'a>(
     alloc: Global,
     command: Command<'a>,
     help: &'static str,
 ) -> Result<Command<'a>, AllocError> {
+    let dir = folder(alloc, "dir", "DIR", help).required(false);
+    let command = with_arg(Ok(command), Ok(dir));
+    let command = with_arg(command, members(alloc));
+    let command = with_arg(command, name_without_folder(alloc));
+    with_group(command, folder_or_members(alloc))
+}
+
+// A folder, or the members of an etcd.
+fn folder_or_members<'a>(alloc: Global) -> Result<ArgGroup<'a>, AllocError> {
     let places = ArgGroup::new(alloc, "place")
         .arg("dir")?
         .arg("etcd")?
         .required(true);
-    let name = document_name(alloc)?.conflicts_with("dir")?;
-    command
-        .arg(folder(alloc, "dir", "DIR", help).required(false))?
-        .arg(members(alloc)?)?
-        .arg(name)?
-        .group(places)
+    Ok(places)
 }
 
 // The members of an etcd, as an argument.
 fn members<'a>(alloc: Global) -> Result<Arg<'a>, AllocError> {
-    let members = Arg::new(alloc, "etcd")
-        .long("etcd")
-        .value_name("URL,..")
+    let help = "The members of the etcd that holds the document, as http://127.0.0.1:2379";
+    option(alloc, "etcd", "URL,..", help)
         .action(ArgAction::Append)
         .value_delimiter(',')
-        .requires_arg("document")?
-        .help("The members of the etcd that holds the document, as http://127.0.0.1:2379");
-    Ok(members)
+        .requires_arg("document")
 }
 
 // The name of a document in an etcd, as an argument.
 fn document_name<'a>(alloc: Global) -> Result<Arg<'a>, AllocError> {
-    let name = Arg::new(alloc, "document")
-        .long("document")
-        .value_name("NAME")
-        .action(ArgAction::Set)
-        .requires_arg("etcd")?
-        .help("The document's name there: 1 to 64 letters, digits, -, . and _");
-    Ok(name)
+    let help = "The document's name there: 1 to 64 letters, digits, -, . and _";
+    option(alloc, "document", "NAME", help).requires_arg("etcd")
+}
+
+// The same, where a folder may be named instead.
+fn name_without_folder<'a>(alloc: Global) -> Result<Arg<'a>, AllocError> {
+    document_name(alloc)?.conflicts_with("dir")
 }
 
 // The words of `serve`.
@@ -159,78 +213,65 @@ fn serve_command<'a>(alloc: Global) -> Result<Command<'a>, AllocError> {
     let serve = Command::new(alloc, "serve").about(
         "Serves a document until it is killed, which is safe at any moment",
     );
-    with_place(alloc, serve, "The folder of the document")?
-        .arg(
-            Arg::new(alloc, "standby")
-                .long("standby")
-                .action(ArgAction::SetTrue)
-                .requires_arg("etcd")?
-                .conflicts_with("dir")?
-                .help("Where another server has the document, wait until it hasn't"),
-        )?
-        .arg(number(
-            alloc,
-            "port",
-            "PORT",
-            "7411",
-            "The port of this machine, or 0 for any free one",
-        )
-        .value_parser(value_parser!(u16)))?
-        .arg(number(
-            alloc,
-            "clients",
-            "N",
-            "64",
-            "How many clients are served at once",
-        )
-        .value_parser(value_parser!(u32).range(1..65)))?
-        .arg(number(
-            alloc,
-            "idle",
-            "SECONDS",
-            "300",
-            "After how much silence a connection ends",
-        )
-        .value_parser(value_parser!(u64).range(1..86_401)))?
-        .arg(number(
-            alloc,
-            "message-bytes",
-            "BYTES",
-            "1048576",
-            "The most bytes of an edit",
-        )
-        .value_parser(value_parser!(u32).range(1_024..67_108_865)))?
-        .arg(
-            Arg::new(alloc, "origin")
-                .long("origin")
-                .value_name("ORIGIN")
-                .action(ArgAction::Append)
-                .help(
-                    "An origin whose pages may connect, beside the server's own; may be given several times",
-                ),
-        )?
-        .arg(
-            Arg::new(alloc, "page")
-                .long("page")
-                .value_name("FOLDER")
-                .action(ArgAction::Set)
-                .help("The folder of a page to serve at /"),
-        )?
-        .arg(
-            Arg::new(alloc, "accept-loss")
-                .long("accept-loss")
-                .action(ArgAction::SetTrue)
-                .conflicts_with("etcd")?
-                .help(
-                    "Open a folder that has lost something, once its segments are copied to its folder lost",
-                ),
-        )?
-        .arg(
-            Arg::new(alloc, "quiet")
-                .long("quiet")
-                .action(ArgAction::SetTrue)
-                .help("Tell of faults alone"),
-        )
+    let serve = with_place(alloc, serve, "The folder of the document");
+    let serve = with_arg(serve, standby(alloc));
+    let serve = with_limits(alloc, serve);
+    let serve = with_arg(serve, Ok(origin(alloc)));
+    let serve = with_arg(serve, Ok(page(alloc)));
+    let serve = with_arg(serve, accept_loss(alloc));
+    with_arg(serve, Ok(flag(alloc, "quiet", "Tell of faults alone")))
+}
+
+// Whether a document in an etcd is waited for, as an argument.
+fn standby<'a>(alloc: Global) -> Result<Arg<'a>, AllocError> {
+    let help = "Where another server has the document, wait until it hasn't";
+    flag(alloc, "standby", help)
+        .requires_arg("etcd")?
+        .conflicts_with("dir")
+}
+
+// Whether a folder is opened although that loses something, as an argument.
+fn accept_loss<'a>(alloc: Global) -> Result<Arg<'a>, AllocError> {
+    let help =
+        "Open a folder that has lost something, once its segments are copied to its folder lost";
+    flag(alloc, "accept-loss", help).conflicts_with("etcd")
+}
+
+// With the numbers that `serve` takes.
+fn with_limits<'a>(
+    alloc: Global,
+    serve: Result<Command<'a>, AllocError>,
+) -> Result<Command<'a>, AllocError> {
+    let serve = with_arg(serve, Ok(port(alloc)));
+    let serve = with_arg(serve, Ok(clients(alloc)));
+    let serve = with_arg(serve, Ok(idle(alloc)));
+    with_arg(serve, Ok(message_bytes(alloc)))
+}
+
+// The port, as an argument.
+fn port<'a>(alloc: Global) -> Arg<'a> {
+    let help = "The port of this machine, or 0 for any free one";
+    number(alloc, "port", "PORT", "7411", help).value_parser(value_parser!(u16))
+}
+
+// The most clients, as an argument.
+fn clients<'a>(alloc: Global) -> Arg<'a> {
+    let help = "How many clients are served at once";
+    number(alloc, "clients", "N", "64", help).value_parser(value_parser!(u32).range(1..65))
+}
+
+// The longest silence, as an argument.
+fn idle<'a>(alloc: Global) -> Arg<'a> {
+    let help = "After how much silence a connection ends";
+    number(alloc, "idle", "SECONDS", "300", help).value_parser(value_parser!(u64).range(1..86_401))
+}
+
+// The longest edit, as an argument.
+fn message_bytes<'a>(alloc: Global) -> Arg<'a> {
+    let help = "The most bytes of an edit";
+    number(alloc, "message-bytes", "BYTES", "1048576", help).value_parser(value_parser!(u32).range(
+        1_024..67_108_865,
+    ))
 }
 
 // A number as an option, with what it is where it isn't given.
@@ -241,12 +282,24 @@ fn number<'a>(
     usual: &'static str,
     help: &'static str,
 ) -> Arg<'a> {
-    Arg::new(alloc, name)
-        .long(name)
-        .value_name(value)
-        .action(ArgAction::Set)
-        .default_value(usual)
-        .help(help)
+    option(alloc, name, value, help).default_value(usual)
+}
+
+// Whose pages may connect, as an argument.
+fn origin<'a>(alloc: Global) -> Arg<'a> {
+    let help =
+        "An origin whose pages may connect, beside the server's own; may be given several times";
+    option(alloc, "origin", "ORIGIN", help).action(ArgAction::Append)
+}
+
+// The folder of the page's files, as an argument.
+fn page<'a>(alloc: Global) -> Arg<'a> {
+    option(
+        alloc,
+        "page",
+        "FOLDER",
+        "The folder of a page to serve at /",
+    )
 }
 
 // The words of `show`.
@@ -254,20 +307,16 @@ fn show_command<'a>(alloc: Global) -> Result<Command<'a>, AllocError> {
     let show = Command::new(alloc, "show").about(
         "Writes a document as text; a server may have it meanwhile",
     );
-    with_place(alloc, show, "The folder of the document")?
-        .arg(
-            Arg::new(alloc, "json")
-                .long("json")
-                .action(ArgAction::SetTrue)
-                .help("Write its objects as one JSON array, a row for each"),
-        )?
-        .arg(
-            Arg::new(alloc, "lines")
-                .long("lines")
-                .action(ArgAction::SetTrue)
-                .conflicts_with("json")?
-                .help("Write its objects as JSON, a row for each in a line of its own"),
-        )
+    let show = with_place(alloc, show, "The folder of the document");
+    let help = "Write its objects as one JSON array, a row for each";
+    let show = with_arg(show, Ok(flag(alloc, "json", help)));
+    with_arg(show, lines(alloc))
+}
+
+// Whether a document's rows are shown in lines, as an argument.
+fn lines<'a>(alloc: Global) -> Result<Arg<'a>, AllocError> {
+    let help = "Write its objects as JSON, a row for each in a line of its own";
+    flag(alloc, "lines", help).conflicts_with("json")
 }
 
 // The words of `import`.
@@ -302,19 +351,22 @@ fn restore_command<'a>(alloc: Global) -> Result<Command<'a>, AllocError> {
 
 // The words of `move`.
 fn move_command<'a>(alloc: Global) -> Result<Command<'a>, AllocError> {
+    let moved = Command::new(alloc, "move").about(
+        "Moves the document in a folder into an etcd, with its identity, or back",
+    );
+    let dir = folder(alloc, "dir", "DIR", "The folder of the document");
+    let moved = with_arg(Ok(moved), Ok(dir));
+    let moved = with_arg(moved, members(alloc));
+    let moved = with_arg(moved, document_name(alloc));
+    let help = "Move it out of the etcd into the folder, which holds no document yet";
+    let moved = with_arg(moved, Ok(flag(alloc, "back", help)));
+    with_group(moved, required_members(alloc))
+}
+
+// The members of an etcd, which are required.
+fn required_members<'a>(alloc: Global) -> Result<ArgGroup<'a>, AllocError> {
     let places = ArgGroup::new(alloc, "there").arg("etcd")?.required(true);
-    Command::new(alloc, "move")
-        .about("Moves the document in a folder into an etcd, with its identity, or back")
-        .arg(folder(alloc, "dir", "DIR", "The folder of the document"))?
-        .arg(members(alloc)?)?
-        .arg(document_name(alloc)?)?
-        .arg(
-            Arg::new(alloc, "back")
-                .long("back")
-                .action(ArgAction::SetTrue)
-                .help("Move it out of the etcd into the folder, which holds no document yet"),
-        )?
-        .group(places)
+    Ok(places)
 }
 
 // The words of `check`.
@@ -335,15 +387,18 @@ fn log_command<'a>(alloc: Global) -> Result<Command<'a>, AllocError> {
 
 // What `serve` is asked for.
 fn options_of(alloc: Global, matches: &ArgMatches<'_>) -> Result<Options, WordsError> {
-    let mut origins = Vec::new(alloc);
-    for origin in matches.get_strs("origin").unwrap_or_default() {
-        origins.push(String::from_str(alloc, origin)?)?;
-    }
-    let page = match matches.get_str("page") {
-        Some(folder) => Some(String::from_str(alloc, folder)?),
-        None => None,
-    };
-    let serving = Serving {
+    let serving = serving_of(alloc, matches)?;
+    Ok(Options {
+        place: place_of(alloc, matches)?,
+        serving,
+    })
+}
+
+// How a document is to be served.
+fn serving_of(alloc: Global, matches: &ArgMatches<'_>) -> Result<Serving, AllocError> {
+    let origins = origins_of(alloc, matches)?;
+    let page = page_of(alloc, matches)?;
+    Ok(Serving {
         is_standby: matches.get_flag("standby"),
         port: matches.get_one("port").unwrap_or(7411),
         clients: matches.get_one("clients").unwrap_or(64),
@@ -353,11 +408,24 @@ fn options_of(alloc: Global, matches: &ArgMatches<'_>) -> Result<Options, WordsE
         page,
         accept_loss: matches.get_flag("accept-loss"),
         quiet: matches.get_flag("quiet"),
-    };
-    Ok(Options {
-        place: place_of(alloc, matches)?,
-        serving,
     })
+}
+
+// The origins whose pages may connect.
+fn origins_of(alloc: Global, matches: &ArgMatches<'_>) -> Result<Vec<String>, AllocError> {
+    let mut origins = Vec::new(alloc);
+    for origin in matches.get_strs("origin").unwrap_or_default() {
+        origins.push(String::from_str(alloc, origin)?)?;
+    }
+    Ok(origins)
+}
+
+// The folder of the page's files, if one is named.
+fn page_of(alloc: Global, matches: &ArgMatches<'_>) -> Result<Option<String>, AllocError> {
+    match matches.get_str("page") {
+        Some(folder) => Ok(Some(String::from_str(alloc, folder)?)),
+        None => Ok(None),
+    }
 }
 
 // The text under this name, which is required.
