@@ -1,8 +1,7 @@
 // The sums of segments in a real folder.
-use canvas_folder::{DirShelf, OsFolder};
-use canvas_shelf::Shelf;
+use crate::shelves::{Access, Standing, Step, renew, watched};
 use canvas_sums::{SumFault, check_sums};
-use canvas_watch::{SumFiles, Watched, read_sums};
+use canvas_watch::{Counts, ShelfCall, read_sums};
 use std::fs;
 use std::test::Fail;
 
@@ -11,112 +10,143 @@ const FIRST: &[u8] = b"abc";
 
 const BOTH: &[u8] = b"abcdbcdecdefdefgefghfghighijhijkijkljklmklmnlmnomnopnopq";
 
+// The second text behind the first.
+const REST: &[u8] = b"dbcdecdefdefgefghfghighijhijkijkljklmklmnlmnomnopnopq";
+
+const FIRST_SUM: &[u8] = b"3 ba7816bf8f01cfea414140de5dae2223b00361a396177a9cb410ff61f20015ad\n";
+
 const SUMS: &[u8] =
     b"3 ba7816bf8f01cfea414140de5dae2223b00361a396177a9cb410ff61f20015ad\n56 248d6a61d20638b8e5c026930c3e6039a33ce45964ff2167f6ecedd419db06c1\n";
 
-type Shelved = Watched<DirShelf<OsFolder<HostRuntime>>, SumFiles<HostRuntime>>;
-
-// The watched shelf of a new folder.
-fn shelf_in(rt: &HostRuntime, folder: &str) -> Result<Shelved, Fail> {
-    let _ = fs::remove_dir_all(rt, folder);
-    let shelf = DirShelf::new(rt.clone()?, folder)?;
-    let witness = SumFiles::new(rt.clone()?, folder)?;
-    Ok(Watched::new(rt.alloc(), shelf, witness)?)
+// What was counted where these calls of the watched shelf of a new folder were all done, and no failure was noted.
+fn written(
+    rt: &HostRuntime,
+    folder: &str,
+    standing: Standing,
+    calls: &[Step],
+) -> Result<Option<Counts>, Fail> {
+    renew(rt, folder, standing)?;
+    let told = watched(rt, folder, Access::Writing, calls)?;
+    let is_done = told.done == calls.len() && told.failures == 0;
+    if is_done && told.before.is_none() && told.failed.is_none() {
+        Ok(Some(told.counts))
+    } else {
+        Ok(None)
+    }
 }
 
-// Whether the sums of a segment are these.
-fn are_sums(rt: &HostRuntime, folder: &str, number: u32, sums: &[u8]) -> Result<bool, Fail> {
-    let read = read_sums(rt, folder, number)?;
-    Ok(read.as_slice() == sums)
+// Whether these are the sums of a segment, or none can be read.
+fn are_sums(rt: &HostRuntime, folder: &str, number: u32, sums: Option<&[u8]>) -> bool {
+    match read_sums(rt, folder, number) {
+        Ok(read) => sums == Some(read.as_slice()),
+        Err(_) => sums.is_none(),
+    }
 }
 
-// What goes to a thread.
-fn goes<T: Send>(_value: &T) {}
+// Whether a file holds these bytes.
+fn is_file(rt: &HostRuntime, path: &str, bytes: &[u8]) -> Result<bool, Fail> {
+    let read = fs::read(rt, path)?;
+    Ok(read.as_slice() == bytes)
+}
+
+// A segment that is synced twice.
+const TWICE: &[Step] = &[
+    (ShelfCall::Create(7), b""),
+    (ShelfCall::Append(7), FIRST),
+    (ShelfCall::Sync(7), b""),
+    (ShelfCall::Append(7), REST),
+    (ShelfCall::Sync(7), b""),
+    (ShelfCall::Read(7), BOTH),
+];
 
 #[test]
 fn writes_a_line_for_each_sync(rt: HostRuntime) -> Result<(), Fail> {
-    let mut shelf = shelf_in(&rt, "sums_lines")?;
-    goes(&shelf);
-    shelf.create(7)?;
-    shelf.append(7, FIRST)?;
-    shelf.sync(7)?;
-    shelf.append(7, &BOTH[3..])?;
-    shelf.sync(7)?;
-    assert!(rt; are_sums(&rt, "sums_lines", 7, SUMS)?);
-    let sums = fs::read(&rt, "sums_lines/segment-0000000007.sum")?;
-    assert_eq!(rt; check_sums(BOTH, &sums), Ok(56));
-    let bytes = shelf.read(rt.alloc(), 7)?;
-    assert!(rt; bytes.as_slice() == BOTH);
-    let counts = shelf.notes().counts();
-    assert_eq!(rt; counts.syncs, 2);
-    assert_eq!(rt; counts.bytes, 56);
-    assert_eq!(rt; counts.checkpoints, 1);
-    assert_eq!(rt; counts.checkpoint_bytes, 3);
+    let counts = Counts {
+        syncs: 2,
+        bytes: 56,
+        checkpoints: 1,
+        checkpoint_bytes: 3,
+    };
+    assert!(rt; written(&rt, "sums_lines", Standing::Nothing, TWICE)? == Some(counts));
+    assert!(rt; are_sums(&rt, "sums_lines", 7, Some(SUMS)));
+    // `tells_what_does_not_hold` checks these bytes too.
+    assert!(rt; is_file(&rt, "sums_lines/segment-0000000007.sum", SUMS)?);
     Ok(())
 }
+
+// A segment, and another in its place.
+const NEXT: &[Step] = &[
+    (ShelfCall::Create(1), b""),
+    (ShelfCall::Append(1), BOTH),
+    (ShelfCall::Sync(1), b""),
+    (ShelfCall::Create(2), b""),
+    (ShelfCall::Append(2), FIRST),
+    (ShelfCall::Sync(2), b""),
+    (ShelfCall::Retire(1), b""),
+];
 
 #[test]
 fn goes_on_in_a_new_file(rt: HostRuntime) -> Result<(), Fail> {
-    let mut shelf = shelf_in(&rt, "sums_next")?;
-    shelf.create(1)?;
-    shelf.append(1, BOTH)?;
-    shelf.sync(1)?;
-    fs::write(&rt, "sums_next/segment-0000000002.sum", "of another time\n")?;
-    shelf.create(2)?;
-    shelf.append(2, FIRST)?;
-    shelf.sync(2)?;
-    shelf.retire(1)?;
-    assert!(rt; are_sums(&rt, "sums_next", 1, b"")?);
-    assert!(rt; are_sums(&rt, "sums_next", 2, &SUMS[..67])?);
+    assert!(rt; written(&rt, "sums_next", Standing::File, NEXT)?.is_some());
+    assert!(rt; are_sums(&rt, "sums_next", 1, Some(b"")));
+    assert!(rt; are_sums(&rt, "sums_next", 2, Some(FIRST_SUM)));
     Ok(())
 }
 
+// A segment beside one that was never synced.
+const BESIDE: &[Step] = &[
+    (ShelfCall::Create(1), b""),
+    (ShelfCall::Append(1), FIRST),
+    (ShelfCall::Create(2), b""),
+    (ShelfCall::Append(2), FIRST),
+    (ShelfCall::Sync(2), b""),
+];
+
 #[test]
 fn a_failure_is_not_shown(rt: HostRuntime) -> Result<(), Fail> {
-    let mut shelf = shelf_in(&rt, "sums_gone")?;
-    shelf.create(1)?;
-    shelf.append(1, FIRST)?;
-    // The file of the sums can't be made: the shelf goes on.
-    fs::create_dir(&rt, "sums_gone/segment-0000000002.sum")?;
-    shelf.create(2)?;
-    shelf.append(2, FIRST)?;
-    shelf.sync(2)?;
-    assert!(rt; shelf.notes().failed().is_none());
-    assert!(rt; read_sums(&rt, "sums_gone", 2).is_err());
+    // The file of the second segment's sums can't be made: the shelf goes on.
+    assert!(rt; written(&rt, "sums_gone", Standing::Folder, BESIDE)?.is_some());
+    assert!(rt; are_sums(&rt, "sums_gone", 2, None));
     Ok(())
+}
+
+// Segments, from which byte of the sums to which, and what is told of them.
+const CHECKS: &[(&[u8], usize, usize, Result<usize, SumFault>)] = &[
+    (BOTH, 0, 135, Ok(56)),
+    (b"", 0, 135, Err(SumFault::Short { good: 0, named: 3 })),
+    (FIRST, 0, 135, Err(SumFault::Short { good: 3, named: 56 })),
+    (
+        b"bcdbcdecdefdefgefghfghighijhijkijkljklmklmnlmnomnopnopq",
+        0,
+        135,
+        Err(SumFault::Changed { good: 0, named: 3 }),
+    ),
+    (
+        b"abcdbcdecdefdefgefghfghighijhijkijkljklmklmnlmnomnopnopr",
+        0,
+        135,
+        Err(SumFault::Changed { good: 3, named: 56 }),
+    ),
+    (BOTH, 0, 66, Ok(0)),
+    (BOTH, 0, 100, Ok(3)),
+    (BOTH, 1, 135, Err(SumFault::Unreadable { good: 0 })),
+    (BOTH, 66, 67, Err(SumFault::Unreadable { good: 0 })),
+    (BOTH, 0, 0, Ok(0)),
+];
+
+// The first check of which something else is told.
+fn first_other() -> Option<usize> {
+    for (i, (segment, from, to, told)) in CHECKS.iter().enumerate() {
+        let sums = SUMS.get(*from..*to).unwrap_or(b"");
+        if check_sums(segment, sums) != *told {
+            return Some(i);
+        }
+    }
+    None
 }
 
 #[test]
 fn tells_what_does_not_hold(rt: HostRuntime) -> Result<(), Fail> {
-    assert_eq!(rt;
-        check_sums(b"", SUMS),
-        Err(SumFault::Short { good: 0, named: 3 })
-    );
-    assert_eq!(rt;
-        check_sums(FIRST, SUMS),
-        Err(SumFault::Short { good: 3, named: 56 })
-    );
-    assert_eq!(rt;
-        check_sums(&BOTH[1..], SUMS),
-        Err(SumFault::Changed { good: 0, named: 3 })
-    );
-    assert_eq!(rt;
-        check_sums(
-            b"abcdbcdecdefdefgefghfghighijhijkijkljklmklmnlmnomnopnopr",
-            SUMS
-        ),
-        Err(SumFault::Changed { good: 3, named: 56 })
-    );
-    assert_eq!(rt; check_sums(BOTH, &SUMS[..66]), Ok(0));
-    assert_eq!(rt; check_sums(BOTH, &SUMS[..100]), Ok(3));
-    assert_eq!(rt;
-        check_sums(BOTH, &SUMS[1..]),
-        Err(SumFault::Unreadable { good: 0 })
-    );
-    assert_eq!(rt;
-        check_sums(BOTH, b"\n"),
-        Err(SumFault::Unreadable { good: 0 })
-    );
-    assert_eq!(rt; check_sums(BOTH, b""), Ok(0));
+    assert_eq!(rt; first_other(), None);
     Ok(())
 }

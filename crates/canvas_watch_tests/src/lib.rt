@@ -5,3 +5,5 @@
 mod folders;
 #[cfg(test)]
 mod noting;
+#[cfg(test)]
+mod shelves;

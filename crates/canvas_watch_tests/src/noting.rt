@@ -1,58 +1,34 @@
 // What is noted of a shelf, calls of which fail.
-use canvas_folder::{DirShelf, OsFolder};
-use canvas_shelf::Shelf;
-use canvas_watch::{ShelfCall, SumFiles, Watched};
+use crate::shelves::{Access, Standing, Step, renew, watched};
+use canvas_watch::ShelfCall;
 use std::test::Fail;
 
-type Shelved = Watched<DirShelf<OsFolder<HostRuntime>>, SumFiles<HostRuntime>>;
-
-// The watched shelf of a folder, for reading: all calls that would change something fail.
-fn reading(rt: &HostRuntime, folder: &str) -> Result<Shelved, Fail> {
-    DirShelf::new(rt.clone()?, folder)?;
-    let shelf = DirShelf::existing(rt.clone()?, folder)?;
-    let witness = SumFiles::new(rt.clone()?, folder)?;
-    Ok(Watched::new(rt.alloc(), shelf, witness)?)
+// Whether these calls of the watched shelf of a folder, for reading, all fail, this is noted as the first, and no bytes are counted.
+fn notes(rt: &HostRuntime, folder: &str, calls: &[Step], first: ShelfCall) -> Result<bool, Fail> {
+    renew(rt, folder, Standing::Nothing)?;
+    let told = watched(rt, folder, Access::Reading, calls)?;
+    let is_first = told.before.is_none() && told.failed == Some(first);
+    let have_failed = told.done == 0 && told.failures == calls.len() as u64;
+    Ok(is_first && have_failed && told.counts.bytes == 0)
 }
 
 #[test]
 fn notes_the_first_failure(rt: HostRuntime) -> Result<(), Fail> {
-    let mut shelf = reading(&rt, "noted_first")?;
-    let notes = shelf.notes().share()?;
-    assert_eq!(rt; notes.failed(), None);
-    assert!(rt; shelf.sync(3).is_err());
-    assert!(rt; shelf.retire(4).is_err());
-    assert_eq!(rt; notes.failed(), Some(ShelfCall::Sync(3)));
-    assert_eq!(rt; shelf.failures(), 2);
+    let calls: &[Step] = &[(ShelfCall::Sync(3), b""), (ShelfCall::Retire(4), b"")];
+    assert!(rt; notes(&rt, "noted_first", calls, ShelfCall::Sync(3))?);
     Ok(())
-}
-
-// What is noted of a new shelf, of which this call is the first that fails. None where it doesn't fail, or bytes are counted.
-fn noted(rt: &HostRuntime, folder: &str, call: ShelfCall) -> Result<Option<ShelfCall>, Fail> {
-    let mut shelf = reading(rt, folder)?;
-    let failed = match call {
-        ShelfCall::List => shelf.list(rt.alloc()).is_err(),
-        ShelfCall::Read(number) => shelf.read(rt.alloc(), number).is_err(),
-        ShelfCall::Create(number) => shelf.create(number).is_err(),
-        ShelfCall::Append(number) => shelf.append(number, b"five").is_err(),
-        ShelfCall::Sync(number) => shelf.sync(number).is_err(),
-        ShelfCall::Retire(number) => shelf.retire(number).is_err(),
-    };
-    if failed && shelf.notes().counts().bytes == 0 {
-        Ok(shelf.notes().failed())
-    } else {
-        Ok(None)
-    }
 }
 
 #[test]
 fn notes_each_call(rt: HostRuntime) -> Result<(), Fail> {
-    for call in [
+    let calls: &[ShelfCall] = &[
         ShelfCall::Read(6),
         ShelfCall::Create(3),
         ShelfCall::Append(5),
         ShelfCall::Retire(7),
-    ] {
-        assert_eq!(rt; noted(&rt, "noted", call)?, Some(call));
+    ];
+    for call in calls {
+        assert!(rt; notes(&rt, "noted", &[(*call, b"five")], *call)?);
     }
     Ok(())
 }
