@@ -429,6 +429,3 @@ fn half_way<A: Allocator>(alloc: A, lo: Option<&[u8]>, gap: Gap) -> Result<Pos<A
     bytes.push(b' ' + gap.last)?;
     Ok(Pos { bytes })
 }
-
-#[cfg(test)]
-mod tests;

@@ -1,6 +1,6 @@
 // The kinds of texts.
 use crate::documents::{above, all_below, fits};
-use crate::positions::{middle, position};
+use crate::positions::{middle, position, printed, steps};
 use crate::reading::{checkpoint, entry, head, message, name, row, value};
 use canvas_model::Rule;
 use std::alloc::{AllocError, Allocator, Global};
@@ -17,6 +17,10 @@ pub enum Kind {
     Value,
     Name,
     Position,
+    /// A position: what is printed of it?
+    Printed,
+    /// A position: which are the steps beside it?
+    Steps,
     /// Two ends, of which each may be empty: what is their middle?
     Between,
     /// A checkpoint and an entry: may it come next?
@@ -30,7 +34,7 @@ pub enum Kind {
 }
 
 // The word of each kind.
-const WORDS: [(&str, Kind); 13] = [
+const WORDS: &[(&str, Kind)] = &[
     ("message", Kind::Message),
     ("entry", Kind::Entry),
     ("checkpoint", Kind::Checkpoint),
@@ -39,6 +43,8 @@ const WORDS: [(&str, Kind); 13] = [
     ("value", Kind::Value),
     ("name", Kind::Name),
     ("position", Kind::Position),
+    ("printed", Kind::Printed),
+    ("steps", Kind::Steps),
     ("between", Kind::Between),
     ("fits", Kind::Fits),
     ("fitted", Kind::Fitted),
@@ -48,7 +54,7 @@ const WORDS: [(&str, Kind); 13] = [
 
 /// The kind of this word.
 pub fn kind_of(word: &[u8]) -> Option<Kind> {
-    for (name, kind) in &WORDS {
+    for (name, kind) in WORDS {
         if name.as_bytes() == word {
             return Some(*kind);
         }
@@ -72,6 +78,8 @@ pub fn said_of<A: Allocator + Copy>(
         Kind::Value => value(heap, alloc, text),
         Kind::Name => name(heap, alloc, text),
         Kind::Position => position(heap, alloc, text),
+        Kind::Printed => printed(heap, alloc, text),
+        Kind::Steps => steps(heap, alloc, text),
         Kind::Between => middle(heap, alloc, text),
         Kind::Fits => fits(heap, alloc, Rule::Two, text),
         Kind::Fitted => fits(heap, alloc, Rule::One, text),

@@ -1,7 +1,7 @@
-// Positions, and the middles between them.
+// Positions, the steps beside them, and the middles between them.
 use crate::saying::{said, unreadable};
 use canvas_model::words::cut;
-use canvas_pos::{Pos, PosError, between};
+use canvas_pos::{Pos, PosError, between, step_after, step_before};
 use std::alloc::{AllocError, Allocator, Global};
 use std::cmp::Ordering;
 
@@ -24,6 +24,50 @@ pub fn position<A: Allocator + Copy>(
         Ok(position) => position_again(heap, alloc, &position),
         Err(PosError::Memory) => Err(AllocError),
         Err(fault) => Ok(format!(in heap; "{fault:?}")?.into_bytes()),
+    }
+}
+
+/// What is printed of a position: as it is, in four columns, and as a text in quotes. Of another text, what is printed of its fault.
+pub fn printed<A: Allocator>(heap: Global, alloc: A, text: &[u8]) -> Result<Vec<u8>, AllocError> {
+    let shown = match Pos::read(alloc, text) {
+        Ok(position) => format!(in heap; "[{position}] [{position:>4}] {position:?}")?,
+        Err(PosError::Memory) => return Err(AllocError),
+        Err(fault) => format!(in heap; "{fault}")?,
+    };
+    Ok(shown.into_bytes())
+}
+
+// Adds a step, or that there is none.
+fn add_step<A: Allocator>(step: Option<Pos<A>>, out: &mut Vec<u8>) -> Result<(), AllocError> {
+    match step {
+        Some(step) => out.extend_from_slice(step.bytes()),
+        None => out.extend_from_slice(b"none"),
+    }
+}
+
+// The steps behind a position and before it, with a tab between them.
+fn steps_beside<A: Allocator + Copy>(
+    heap: Global,
+    alloc: A,
+    position: &Pos<A>,
+) -> Result<Vec<u8>, AllocError> {
+    let mut text = Vec::new(heap);
+    add_step(step_after(alloc, position)?, &mut text)?;
+    text.push(b'\t')?;
+    add_step(step_before(alloc, position)?, &mut text)?;
+    Ok(text)
+}
+
+/// The steps behind a position and before it, with a tab between them.
+pub fn steps<A: Allocator + Copy>(
+    heap: Global,
+    alloc: A,
+    text: &[u8],
+) -> Result<Vec<u8>, AllocError> {
+    match Pos::read(alloc, text) {
+        Ok(position) => steps_beside(heap, alloc, &position),
+        Err(PosError::Memory) => Err(AllocError),
+        Err(_) => unreadable(heap),
     }
 }
 
