@@ -50,17 +50,7 @@ class Client:
         self.status = int(self.head.split()[1]) if self.head else 0
 
     def send(self, payload, opcode=2):
-        mask = os.urandom(4)
-        size = len(payload)
-        if size < 126:
-            head = struct.pack("!BB", 128 | opcode, 128 | size)
-        elif size < 65536:
-            head = struct.pack("!BBH", 128 | opcode, 128 | 126, size)
-        else:
-            head = struct.pack("!BBQ", 128 | opcode, 128 | 127, size)
-        key = (mask * (size // 4 + 1))[:size]
-        masked = (int.from_bytes(payload, "big") ^ int.from_bytes(key, "big")).to_bytes(size, "big") if size else b""
-        self.socket.sendall(head + mask + masked)
+        self.socket.sendall(framed(payload, opcode))
 
     def take(self, count):
         while len(self.rest) < count:
@@ -133,6 +123,21 @@ class Client:
 
     def drop(self):
         self.socket.close()
+
+
+def framed(payload, opcode=2, is_last=True):
+    """The frame of a client that holds this payload (RFC 6455, section 5.2)."""
+    mask = os.urandom(4)
+    first, size = (128 if is_last else 0) | opcode, len(payload)
+    if size < 126:
+        head = struct.pack("!BB", first, 128 | size)
+    elif size < 65536:
+        head = struct.pack("!BBH", first, 128 | 126, size)
+    else:
+        head = struct.pack("!BBQ", first, 128 | 127, size)
+    key = (mask * (size // 4 + 1))[:size]
+    masked = (int.from_bytes(payload, "big") ^ int.from_bytes(key, "big")).to_bytes(size, "big") if size else b""
+    return head + mask + masked
 
 
 class Server:

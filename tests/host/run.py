@@ -13,8 +13,11 @@ own; only the named groups, where some are named.
 - figures: the whole text of /metrics after a known session: edits judged and refused by each reason, Noes, syncs, a checkpoint.
 - sizes: an edit whose text has --message-bytes is judged, one of a byte more is answered No 8 and changes nothing, and a message above
   twice as many ends its connection with code 1009; the next client is served.
-- copies: 63 clients ask for a copy of 10 MB at once, as after a restart, while one edits: all have it, and the memory goes back. One that
-  reads nothing of its copy loses its connection. (Figures: the memory above the document, the longest edit, and the seconds.)
+- copies: 63 clients ask for a copy of 10 MB at once, as after a restart, while one edits: all have it, stay, and edit; the memory goes back
+  while they are there. One that reads nothing of its copy loses its connection. (Figures: the memory above the document, the longest edit,
+  and the seconds.)
+- pieces: a client asks for a large copy and begins an edit in the same write, cut at each byte in turn; also where the edit comes in two frames
+  with a ping between them, and behind a large edit. Nothing is lost where the server lets go of what a large message took.
 - large: a document of 100 MB is imported, served, and copied to a client in one message.
 - disk: on a disk that is full an edit is answered No 5 (or No 6, after a checkpoint that failed), the server ends with status 4 and its sentence, and every edit that was
   answered is there afterwards. (It mounts a small tmpfs, and passes where it may not.)
@@ -47,7 +50,7 @@ from pathlib import Path
 sys.path.insert(0, str(Path(__file__).resolve().parents[1]))
 
 import shared  # noqa: E402
-from shared import Client, Wrong, draw, numbers_and_names, page, read_answer, require, text_of, try_groups  # noqa: E402
+from shared import Client, Wrong, draw, framed, numbers_and_names, page, read_answer, require, text_of, try_groups  # noqa: E402
 
 PROGRAM = os.path.abspath(sys.argv[1])
 NUMBERS, NAMES = numbers_and_names(sys.argv[2:])
@@ -404,12 +407,11 @@ def edits_meanwhile(client, name, done, longest):
 
 
 def sent_a_copy(client, name, sizes):
-    """Has a client ask for a copy, adds its size to `sizes`, and leaves."""
+    """Has a client ask for a copy, and adds its size to `sizes`."""
     client.say("ask", name, 1)
     size, first = client.pass_over()
     if first.startswith(b'["copy"') and client.hear() == [["idle"]]:
         sizes.append(size)
-    client.leave()
 
 
 def copies(room):
@@ -445,16 +447,75 @@ def copies(room):
         thread.join()
     require(len(sizes) == 63, "of 63 clients so many have a copy:", len(sizes))
     time.sleep(1)
-    above, left = (most[0] - before) // 1024, (server.memory() - before) // 1024
-    require(above < 300 and left < 100, "copies take so many MB above the document, and leave:", above, left)
+    above, there = (most[0] - before) // 1024, (server.memory() - before) // 1024
+    for client, name in zip(clients[1:], names[1:]):
+        require(client.ask("edit", name, 1, ["set", [1, 2], "by", name]) == [["idle"]], "a client that has its copy isn't served")
+        client.leave()
+    clients[0].leave()
+    time.sleep(1)
+    left = (server.memory() - before) // 1024
+    require(above < 300 and there < 100 and left < 100, "copies take so many MB above the document, and leave, first with all there:", above, there, left)
     stuck = Client(server.port)
     for _ in range(4):  # more than the system keeps for a socket
         stuck.say("ask", names[1], 1)
-    time.sleep(28)
-    require('lugcurrant_clients 1\n' in server.get("/metrics")[2].decode(), "a client that doesn't read its copy isn't let go")
+    until = time.monotonic() + 30
+    while 'lugcurrant_clients 0\n' not in server.get("/metrics")[2].decode():
+        require(time.monotonic() < until, "a client that doesn't read its copy isn't let go")
+        time.sleep(0.5)
     server.kill()
-    return (f"63 copies of {sizes[0] / 1e6:.1f} MB in {seconds:.1f} s, at most {above} MB above the document and {left} afterwards, "
+    return (f"63 copies of {sizes[0] / 1e6:.1f} MB in {seconds:.1f} s, at most {above} MB above the document, {there} with all there and {left} afterwards, "
             f"the longest edit {longest[0] * 1000:.0f} ms")
+
+
+def two_frames(payload):
+    """A message in two frames, with a ping between them."""
+    half = len(payload) // 2
+    return framed(payload[:half], is_last=False) + framed(b"there?", opcode=9) + framed(payload[half:], opcode=0)
+
+
+def pieces(room):
+    rows = ['[[0,0],"document",null,[]]']
+    rows += [text_of([[1, number], "page", [[0, 0], f"{number:06d}O"], [["text", "x" * 200]]]) for number in range(1, 2001)]
+    require(call("import", room, text="\n".join(rows).encode()) == b"version 1, objects 2001\n", "the rows aren't imported")
+    server = Server(room, "--quiet")
+    client = Client(server.port)
+    name = client.join()
+    ask, number = framed(text_of(["ask", name, 0]).encode()), 0
+
+    def edit():
+        return text_of(["edit", name, number, ["set", [1, 1], "count", number]]).encode()
+
+    def hear():
+        """The messages of an answer, without pongs."""
+        answer = []
+        while not answer or answer[-1][0] not in shared.LAST:
+            opcode, payload = client.frame()
+            if opcode == 10:
+                require(payload == b"there?", "a ping is answered", payload)
+                continue
+            answer.append(json.loads(payload))
+        return answer
+
+    for form in (framed, two_frames):
+        for at in range(len(form(edit())) + 1):
+            number += 1
+            frames = form(edit())
+            client.socket.sendall(ask + frames[:at])
+            copy = hear()
+            require(copy[0][0] == "copy" and len(copy[0][3]) == 2001, "a copy isn't sent, but", copy[0][:2])
+            client.socket.sendall(frames[at:])
+            require(hear() == [["idle"]], "an edit that began with byte", at, "isn't judged")
+    for at in range(40):
+        number += 2
+        large = framed(text_of(["edit", name, number - 1, ["set", [1, 1], "text", "y" * 500_000]]).encode())
+        frames = two_frames(edit())
+        client.socket.sendall(large + frames[:at])
+        require(hear() == [["idle"]], "a large edit isn't judged")
+        client.socket.sendall(frames[at:])
+        require(hear() == [["idle"]], "an edit behind a large one isn't judged, cut at", at)
+    server.kill()
+    require(f".count {number}\n" in shown(room), "the last edit isn't there")
+    return f"{number} edits, none lost"
 
 
 def disk(room):
@@ -770,6 +831,6 @@ def coming(room):
     return f"{served[0]} clients in {SECONDS:.0f} s, none refused, memory {before} kB after a third, {after} kB at the end"
 
 
-GROUPS = (reuse, full, quiet, pages, origins, identity, kills, figures, sizes, copies, large, disk, sentences, rows, restored, lost, checked, coming)
+GROUPS = (reuse, full, quiet, pages, origins, identity, kills, figures, sizes, copies, pieces, large, disk, sentences, rows, restored, lost, checked, coming)
 
 sys.exit(try_groups(GROUPS, NAMES))

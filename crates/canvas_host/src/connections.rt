@@ -5,6 +5,7 @@ use canvas_board::RoomName;
 use canvas_doors::{Limits, Shared};
 use canvas_journal::Keeper;
 use canvas_nodes::{Answerer, serve_one};
+use canvas_pauses::Pausing;
 use canvas_room::Lock;
 use crossbeam_channel::Receiver;
 use http::{HeaderName, HeaderValue, Request, Response};
@@ -14,7 +15,9 @@ use std::net::TcpStream;
 use std::sync::Wait;
 use std::time::{Clock, Duration};
 use tungstenite::handshake::server::ErrorResponse;
-use tungstenite::{Callback, CloseCode, CloseFrame, Error, NoMask, Utf8Bytes, WebSocket};
+use tungstenite::{
+    Callback, CloseCode, CloseFrame, Error, NoMask, Role, Utf8Bytes, WebSocket, WebSocketConfig,
+};
 
 /// Serves each connection that comes at a seat, one after the other. Ends once no more can come.
 pub(crate) fn serve_each<K, N, L, R>(
@@ -86,16 +89,48 @@ fn serve<A: Answerer>(alloc: Global, shared: &Shared, answerer: &mut A, stream: 
         alloc,
         document: shared.site.identity.as_str(),
     };
-    let Ok(mut socket) = tungstenite::accept_hdr(alloc, stream, naming) else {
+    let Ok(accepted) = tungstenite::accept_hdr(alloc, stream, naming) else {
         return End::NoHandshake;
     };
-    let config = *socket.get_config();
     let most = Some(shared.limits.message_bytes.saturating_mul(2));
-    socket.set_config(config.max_message_size(most).max_frame_size(most));
-    match serve_one(alloc, answerer, &mut socket) {
-        Ok(()) => End::Left,
-        Err(error) => ended(&mut socket, &error),
+    let config = accepted
+        .get_config()
+        .max_message_size(most)
+        .max_frame_size(most);
+    let stream = Pausing::new(accepted.into_inner());
+    serve_through(alloc, answerer, stream, config)
+}
+
+// Serves a connection until it ends, by a new WebSocket after each pause, so that none keeps what a large message took.
+fn serve_through<A: Answerer, S: Read + Write + Drop>(
+    alloc: Global,
+    answerer: &mut A,
+    stream: Pausing<S>,
+    config: WebSocketConfig,
+) -> End {
+    let mut socket = socket_over(alloc, stream, config);
+    for _ in 0..u64::MAX {
+        let error = match serve_one(alloc, answerer, &mut socket) {
+            Ok(()) => return End::Left,
+            Err(error) => error,
+        };
+        if !socket.get_ref().has_paused() {
+            return ended(&mut socket, &error);
+        }
+        let mut stream = socket.into_inner();
+        stream.go_on();
+        socket = socket_over(alloc, stream, config);
     }
+    End::Left
+}
+
+// A WebSocket of a server over a stream whose handshake is done.
+fn socket_over<S: Drop>(
+    alloc: Global,
+    stream: Pausing<S>,
+    config: WebSocketConfig,
+) -> WebSocket<Pausing<S>, NoMask> {
+    WebSocket::from_raw_socket(alloc, stream, NoMask, Role::Server, Some(config))
 }
 
 // How long one write may wait. A client that reads nothing ends up to three of them, before others have waited in vain for its permit.
