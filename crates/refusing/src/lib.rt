@@ -10,9 +10,6 @@ ghost use Rattle.refusing.specs.Count.{grown, RefusesThatOne};
 use std::alloc::{AllocError, Allocator};
 use std::cell::Cell;
 
-#[cfg(test)]
-mod tests;
-
 /// Passes each call on to the allocator in it, but for one growth, which it refuses.
 ///
 /// Each block that is asked for counts as a growth: the first one of a collection, and each to which it moves as it

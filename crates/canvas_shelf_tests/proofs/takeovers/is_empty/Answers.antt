@@ -1,6 +1,6 @@
 use Rattle.std.proofs.Common.{◌≡◌, ◌∙◌, [], sym}
-use Rattle.canvas_etcd_tests.proofs.Listed.{nothing, nil_of}
-use Rattle.canvas_etcd_tests.proofs.takeovers.is_empty.Goals as goal
+use Rattle.canvas_shelf_tests.proofs.Listed.{nothing, nil_of}
+use Rattle.canvas_shelf_tests.proofs.takeovers.is_empty.Goals as goal
 
 pub returns-clause-empty : goal.returns-clause-empty
 returns-clause-empty g c none honest =

@@ -1,5 +1,5 @@
 // What is noted of a shelf, calls of which fail.
-use crate::shelves::{Access, Standing, Step, renew, watched};
+use crate::calls::{Access, Standing, Step, renew, watched};
 use canvas_watch::ShelfCall;
 use std::test::Fail;
 

@@ -1,5 +1,5 @@
 use Rattle.std.proofs.Common.{◌≡◌, false}
-use Rattle.canvas_watch_tests.proofs.shelves.play.Given as goal
+use Rattle.canvas_shelf_tests.proofs.calls.play.Given as goal
 
 abbrev pub invariant-loop-call : goal.invariant-loop-call
 invariant-loop-call g l = record {

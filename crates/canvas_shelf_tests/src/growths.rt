@@ -1,4 +1,5 @@
-use super::*;
+// Which growths an allocator refuses.
+use refusing::Refusing;
 use std::alloc::Global;
 
 // Which of four growths an allocator refuses that is to refuse the one of this number, and how many are then left to come.

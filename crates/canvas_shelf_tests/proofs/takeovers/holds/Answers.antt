@@ -1,8 +1,8 @@
 use Rattle.std.proofs.Common.{◌≡◌, ◌∙◌, true, sym, subst}
 use Rattle.std.specs.List.{AllByRecursion}
 use Rattle.canvas_shelf.specs.Disk.{is_listed}
-use Rattle.canvas_folder_tests.proofs.Listed.{each_listed}
-use Rattle.canvas_folder_tests.proofs.memory.holds.Goals as goal
+use Rattle.canvas_shelf_tests.proofs.Listed.{each_listed}
+use Rattle.canvas_shelf_tests.proofs.takeovers.holds.Goals as goal
 
 pub loop-number-init : goal.loop-number-init
 loop-number-init g c =
