@@ -1,12 +1,43 @@
 //! Journals in real folders.
 use crate::bytes::{ABC, AFTER_JOIN, EMPTY, JOINED, JOINED_TWICE, OLD_JOINED};
 use crate::folders::{is_file, is_there, renew, shelf_in, write};
-use canvas_folder::{DirShelf, OsFolder};
-use canvas_journal::{Journal, KeepError, Keeper, OpenError, open};
+use canvas_journal::{KeepError, Keeper, OpenError, open};
 use canvas_judge::{Entry, Outcome, State, What};
-use std::alloc::Global;
 use std::fs;
 use std::test::Fail;
+
+// What is asked of a keeper in a folder.
+#[derive(Clone, Copy)]
+enum Step {
+    // The entry of a Join that gives this id is appended.
+    Append(u32),
+    // The entry of a Join that gives this id is made ready.
+    Stage(u32),
+    // The last entry that was made ready is dropped.
+    Unstage,
+    // All that is ready is appended and synced.
+    Commit,
+    // What was appended is synced.
+    Sync,
+    // A checkpoint of the first state is made.
+    Checkpoint,
+    // The folder is removed.
+    Remove,
+}
+
+// A step, and what is answered to it.
+type Answered = (Step, Result<(), KeepError>);
+
+// What is told of a journal.
+#[derive(Clone, Copy)]
+struct Told {
+    // The version at which it was opened.
+    version: u64,
+    // The first step that was answered otherwise, if one was.
+    other: Option<usize>,
+    // How many calls failed below.
+    failures: u64,
+}
 
 // The entry of a Join that gives that id.
 fn join(client: u32) -> Entry {
@@ -18,46 +49,90 @@ fn join(client: u32) -> Entry {
     }
 }
 
-// The version at which a folder is opened, or why it isn't.
-fn opened(rt: &HostRuntime, folder: &str) -> Result<Result<u64, OpenError>, Fail> {
+// What a keeper answers to a checkpoint of the first state.
+fn checkpoint_first<K: Keeper>(rt: &HostRuntime, keeper: &mut K) -> Result<(), KeepError> {
+    match State::new(rt.alloc()) {
+        Ok(state) => keeper.checkpoint(rt.alloc(), &state, 0),
+        Err(_) => Err(KeepError::Memory),
+    }
+}
+
+// What a keeper answers to a step.
+fn answer<K: Keeper>(
+    rt: &HostRuntime,
+    folder: &str,
+    keeper: &mut K,
+    step: Step,
+) -> Result<(), KeepError> {
+    match step {
+        Step::Append(client) => keeper.append(rt.alloc(), &join(client)),
+        Step::Stage(client) => keeper.stage(rt.alloc(), &join(client)),
+        Step::Unstage => {
+            keeper.unstage();
+            Ok(())
+        }
+        Step::Commit => keeper.commit(),
+        Step::Sync => keeper.sync(),
+        Step::Checkpoint => checkpoint_first(rt, keeper),
+        Step::Remove => fs::remove_dir_all(rt, folder).map_err(|_| KeepError::Failed),
+    }
+}
+
+// The first of these steps that a keeper answers otherwise.
+fn first_other<K: Keeper>(
+    rt: &HostRuntime,
+    folder: &str,
+    keeper: &mut K,
+    steps: &[Answered],
+) -> Option<usize> {
+    for (i, (step, wanted)) in steps.iter().enumerate() {
+        if answer(rt, folder, keeper, *step) != *wanted {
+            return Some(i);
+        }
+    }
+    None
+}
+
+// What is told of a keeper that was opened at this version, after these steps.
+fn play<K: Keeper>(
+    rt: &HostRuntime,
+    folder: &str,
+    keeper: &mut K,
+    version: u64,
+    steps: &[Answered],
+) -> Told {
+    let other = first_other(rt, folder, keeper, steps);
+    Told {
+        version,
+        other,
+        failures: keeper.failures(),
+    }
+}
+
+// What is told of the journal in a folder after these steps, or why it isn't opened.
+fn kept(
+    rt: &HostRuntime,
+    folder: &str,
+    steps: &[Answered],
+) -> Result<Result<Told, OpenError>, Fail> {
     match open(rt.alloc(), shelf_in(rt, folder)?) {
-        Ok((_, _, version)) => Ok(Ok(version)),
+        Ok((mut journal, _, version)) => Ok(Ok(play(rt, folder, &mut journal, version, steps))),
         Err((_, error)) => Ok(Err(error)),
     }
 }
 
-// A journal in a folder.
-fn journal_in(
-    rt: &HostRuntime,
-    folder: &str,
-) -> Result<Journal<DirShelf<OsFolder<HostRuntime>>>, Fail> {
-    match open(rt.alloc(), shelf_in(rt, folder)?) {
-        Ok((journal, _, _)) => Ok(journal),
-        Err(_) => Err(Fail::from("a folder that isn't opened")),
+// The version at which a folder is opened, or why it isn't.
+fn opened(rt: &HostRuntime, folder: &str) -> Result<Result<u64, OpenError>, Fail> {
+    let found = kept(rt, folder, &[])?;
+    Ok(found.map(|told| told.version))
+}
+
+// Whether the journal in a folder answers these steps so, and then so many calls have failed.
+fn keeps(rt: &HostRuntime, folder: &str, steps: &[Answered], failures: u64) -> Result<bool, Fail> {
+    match kept(rt, folder, steps)? {
+        Ok(told) => Ok(told.other.is_none() && told.failures == failures),
+        Err(_) => Ok(false),
     }
-}
-
-// What a keeper answers to the entry of a Join that is appended.
-fn append_join<K: Keeper>(alloc: Global, keeper: &mut K, client: u32) -> Result<(), KeepError> {
-    keeper.append(alloc, &join(client))
-}
-
-// What a keeper answers to the entry of a Join that is made ready.
-fn stage_join<K: Keeper>(alloc: Global, keeper: &mut K, client: u32) -> Result<(), KeepError> {
-    keeper.stage(alloc, &join(client))
-}
-
-// Appends the entry of the first Join, and makes sure of it.
-fn keep_join<K: Keeper>(alloc: Global, keeper: &mut K) -> Result<(), KeepError> {
-    append_join(alloc, keeper, 1)?;
-    keeper.sync()
-}
-
-// The same in a folder.
-fn keep_join_in(rt: &HostRuntime, folder: &str) -> Result<(), Fail> {
-    let mut journal = journal_in(rt, folder)?;
-    keep_join(rt.alloc(), &mut journal)?;
-    Ok(())
 }
 
 // Whether a folder is opened at version 1, and then holds the checkpoint after the first Join in this segment alone.
@@ -81,7 +156,8 @@ fn opened_new(rt: HostRuntime) -> Result<(), Fail> {
 fn opened_again(rt: HostRuntime) -> Result<(), Fail> {
     let folder = "journal-again";
     renew(&rt, folder)?;
-    keep_join_in(&rt, folder)?;
+    let steps: &[Answered] = &[(Step::Append(1), Ok(())), (Step::Sync, Ok(()))];
+    assert!(rt; keeps(&rt, folder, steps, 0)?);
     assert!(rt; is_file(&rt, folder, "segment-0000000001", JOINED)?);
     assert!(rt; reopens(&rt, folder, 2, "segment-0000000002")?);
     assert!(rt; reopens(&rt, folder, 3, "segment-0000000003")?);
@@ -108,22 +184,29 @@ fn opens_cut(
     Ok(opened(rt, folder)? == Ok(version) && is_there(rt, folder, &[(2, then)])?)
 }
 
+// The first of these sizes to which the first segment is cut and not passed over.
+fn first_taken(
+    rt: &HostRuntime,
+    folder: &str,
+    bytes: &[u8],
+    sizes: &[usize],
+) -> Result<Option<usize>, Fail> {
+    for size in sizes {
+        if !opens_cut(rt, folder, bytes, *size, 0, EMPTY)? {
+            return Ok(Some(*size));
+        }
+    }
+    Ok(None)
+}
+
 #[test]
 fn cut(rt: HostRuntime) -> Result<(), Fail> {
     let folder = "journal-cut";
-    for size in [0, 3, 26, 27, 30, 56, 57, 60, 85] {
-        assert!(rt;
-            opens_cut(&rt, folder, JOINED, size, 0, EMPTY)?,
-            "at {size}"
-        );
-    }
+    let sizes: &[usize] = &[0, 3, 26, 27, 30, 56, 57, 60, 85];
+    assert_eq!(rt; first_taken(&rt, folder, JOINED, sizes)?, None);
     assert!(rt; opens_cut(&rt, folder, JOINED, 86, 1, AFTER_JOIN)?);
-    for size in [0, 3, 53, 54, 57, 82] {
-        assert!(rt;
-            opens_cut(&rt, folder, OLD_JOINED, size, 0, EMPTY)?,
-            "of the old at {size}"
-        );
-    }
+    let sizes: &[usize] = &[0, 3, 53, 54, 57, 82];
+    assert_eq!(rt; first_taken(&rt, folder, OLD_JOINED, sizes)?, None);
     assert!(rt; opens_cut(&rt, folder, OLD_JOINED, 83, 1, AFTER_JOIN)?);
     let _ = fs::remove_dir_all(&rt, folder);
     Ok(())
@@ -161,52 +244,30 @@ fn damaged(rt: HostRuntime) -> Result<(), Fail> {
     Ok(())
 }
 
-// What a keeper answers to a Join that is made ready, one more that is dropped, a commit, one that is appended, and a sync.
-fn kept<K: Keeper>(alloc: Global, keeper: &mut K) -> [Result<(), KeepError>; 5] {
-    let first = stage_join(alloc, keeper, 1);
-    let second = stage_join(alloc, keeper, 9);
-    keeper.unstage();
-    let third = keeper.commit();
-    let fourth = append_join(alloc, keeper, 2);
-    [first, second, third, fourth, keeper.sync()]
-}
+// A Join is made ready, one more is dropped, a commit, one is appended, and a sync.
+const KEPT: &[Answered] = &[
+    (Step::Stage(1), Ok(())),
+    (Step::Stage(9), Ok(())),
+    (Step::Unstage, Ok(())),
+    (Step::Commit, Ok(())),
+    (Step::Append(2), Ok(())),
+    (Step::Sync, Ok(())),
+];
 
-// Whether a journal in a folder keeps so, with no call failed.
-fn keeps(rt: &HostRuntime, folder: &str) -> Result<bool, Fail> {
-    let mut journal = journal_in(rt, folder)?;
-    Ok(kept(rt.alloc(), &mut journal) == [Ok(()); 5] && journal.failures() == 0)
-}
-
-// What a keeper answers to a checkpoint of the first state.
-fn checkpoint_first<K: Keeper>(
-    alloc: Global,
-    keeper: &mut K,
-) -> Result<Result<(), KeepError>, Fail> {
-    let state = State::new(alloc)?;
-    Ok(keeper.checkpoint(alloc, &state, 0))
-}
-
-// Whether a keeper whose folder is gone tells so at a checkpoint, and then that it has failed.
-fn tells<K: Keeper>(alloc: Global, keeper: &mut K) -> Result<bool, Fail> {
-    let first = checkpoint_first(alloc, keeper)?;
-    let answers = [first, keeper.sync()];
-    Ok(answers == [Err(KeepError::Device), Err(KeepError::Failed)] && keeper.failures() == 1)
-}
-
-// Whether a journal tells so whose folder was removed.
-fn tells_removal(rt: &HostRuntime, folder: &str) -> Result<bool, Fail> {
-    let mut journal = journal_in(rt, folder)?;
-    fs::remove_dir_all(rt, folder)?;
-    tells(rt.alloc(), &mut journal)
-}
+// A keeper whose folder is gone tells so at a checkpoint, and then that it has failed.
+const GONE: &[Answered] = &[
+    (Step::Remove, Ok(())),
+    (Step::Checkpoint, Err(KeepError::Device)),
+    (Step::Sync, Err(KeepError::Failed)),
+];
 
 #[test]
 fn as_any_keeper(rt: HostRuntime) -> Result<(), Fail> {
     let folder = "journal-keeper";
     renew(&rt, folder)?;
-    assert!(rt; keeps(&rt, folder)?);
+    assert!(rt; keeps(&rt, folder, KEPT, 0)?);
     assert!(rt; is_there(&rt, folder, &[(1, JOINED_TWICE)])?);
-    assert!(rt; tells_removal(&rt, folder)?);
+    assert!(rt; keeps(&rt, folder, GONE, 1)?);
     let _ = fs::remove_dir_all(&rt, folder);
     Ok(())
 }

@@ -23,7 +23,10 @@ fn in_memory(alloc: Global) -> Result<MemShelf, Fail>
 
 // Whether a shelf that is asked for its numbers, with the first growth refused, tells so and counts no failure, and answers when it is
 // asked again.
-fn refuses_list<S: Shelf>(alloc: Global, shelf: &mut S) -> bool {
+fn refuses_list<S: Shelf>(alloc: Global, shelf: &mut S) -> bool
+    ensures disk { IsTrue (S.honest shelf.old) → S.disk shelf.new ≡ S.disk shelf.old }
+    ensures honest { S.honest shelf.new ≡ S.honest shelf.old }
+{
     let heap = Refusing::new(alloc, 1);
     let failures = shelf.failures();
     let refused = shelf.list(&heap).err() == Some(ShelfError::Memory);
@@ -42,25 +45,22 @@ fn refuses_read<S: Shelf>(alloc: Global, shelf: &mut S) -> bool
     refused && heap.left() == 0 && shelf.failures() == failures && again
 }
 
-// Whether a shelf in memory does both.
-fn memory_refuses(alloc: Global) -> Result<bool, Fail> {
-    let lists = refuses_list(alloc, &mut in_memory(alloc)?);
-    Ok(lists && refuses_read(alloc, &mut in_memory(alloc)?))
-}
-
-// Whether a shelf in a folder does both.
-fn folder_refuses(rt: &HostRuntime, folder: &str) -> Result<bool, Fail> {
-    let lists = refuses_list(rt.alloc(), &mut shelf_in(rt, folder)?);
-    Ok(lists && refuses_read(rt.alloc(), &mut shelf_in(rt, folder)?))
+// Whether a shelf does both.
+fn refuses<S: Shelf>(alloc: Global, shelf: &mut S) -> bool
+    requires { IsTrue (S.honest shelf.old) → is_listed 1 (S.disk shelf.old) ≡ true }
+{
+    refuses_list(alloc, shelf) && refuses_read(alloc, shelf)
 }
 
 #[test]
 fn shelves(rt: HostRuntime) -> Result<(), Fail> {
-    assert!(rt; memory_refuses(rt.alloc())?);
+    let mut memory = in_memory(rt.alloc())?;
+    assert!(rt; refuses(rt.alloc(), &mut memory));
     let folder = "journal-refusals";
     renew(&rt, folder)?;
     write(&rt, folder, "segment-0000000001", JOINED)?;
-    assert!(rt; folder_refuses(&rt, folder)?);
+    let mut shelf = shelf_in(&rt, folder)?;
+    assert!(rt; refuses(rt.alloc(), &mut shelf));
     let _ = fs::remove_dir_all(&rt, folder);
     Ok(())
 }

@@ -1,107 +1,75 @@
 //! Shelves in real folders.
-use crate::folders::{is_there, renew, shelf_in, write};
-use canvas_folder::{DirShelf, FolderError, OsFolder};
-use canvas_shelf::Shelf;
+use crate::folders::{Call, is_there, played, renew, shelf_in, write};
+use canvas_folder::{DirShelf, FolderError};
 use std::fs;
 use std::test::Fail;
 
-// Makes a segment, on a shelf opened for that.
-fn create(rt: &HostRuntime, folder: &str, number: u32) -> Result<(), Fail> {
-    let mut shelf = shelf_in(rt, folder)?;
-    shelf.create(number)?;
-    Ok(())
-}
-
-// Appends, on a shelf opened for that.
-fn append(rt: &HostRuntime, folder: &str, number: u32, bytes: &[u8]) -> Result<(), Fail> {
-    let mut shelf = shelf_in(rt, folder)?;
-    shelf.append(number, bytes)?;
-    Ok(())
-}
-
-// Makes sure, on a shelf opened for that.
-fn sync(rt: &HostRuntime, folder: &str, number: u32) -> Result<(), Fail> {
-    let mut shelf = shelf_in(rt, folder)?;
-    shelf.sync(number)?;
-    Ok(())
-}
-
-// Retires a segment, on a shelf opened for that.
-fn retire(rt: &HostRuntime, folder: &str, number: u32) -> Result<(), Fail> {
-    let mut shelf = shelf_in(rt, folder)?;
-    shelf.retire(number)?;
-    Ok(())
-}
+// A segment's life, and what is there after each call.
+const LIFE: &[Call] = &[
+    Call::Holds(&[]),
+    Call::Create(1),
+    Call::Holds(&[(1, b"")]),
+    Call::Append(1, b"abc"),
+    Call::Holds(&[(1, b"abc")]),
+    Call::Sync(1),
+    Call::Append(1, &[0, 255]),
+    Call::Holds(&[(1, b"abc\x00\xff")]),
+    Call::Create(4294967295),
+    Call::Holds(&[(4294967295, b""), (1, b"abc\x00\xff")]),
+    Call::Retire(1),
+    Call::Holds(&[(4294967295, b"")]),
+];
 
 #[test]
 fn opened_after_each_call(rt: HostRuntime) -> Result<(), Fail> {
     let folder = "shelf-after-each-call";
     renew(&rt, folder)?;
-    assert!(rt; is_there(&rt, folder, &[])?);
-    create(&rt, folder, 1)?;
-    assert!(rt; is_there(&rt, folder, &[(1, b"")])?);
-    append(&rt, folder, 1, b"abc")?;
-    assert!(rt; is_there(&rt, folder, &[(1, b"abc")])?);
-    sync(&rt, folder, 1)?;
-    append(&rt, folder, 1, &[0, 255])?;
-    assert!(rt; is_there(&rt, folder, &[(1, b"abc\x00\xff")])?);
-    create(&rt, folder, 4294967295)?;
-    assert!(rt; is_there(&rt, folder, &[(4294967295, b""), (1, b"abc\x00\xff")])?);
-    retire(&rt, folder, 1)?;
-    assert!(rt; is_there(&rt, folder, &[(4294967295, b"")])?);
+    for call in LIFE {
+        assert_eq!(rt; played(&rt, folder, &[(*call, true)])?, (None, 0));
+    }
     let _ = fs::remove_dir_all(&rt, folder);
     Ok(())
 }
 
-// Writes into two segments in turn, and makes sure of the first.
-fn write_in_turn(shelf: &mut DirShelf<OsFolder<HostRuntime>>) -> Result<(), Fail> {
-    shelf.create(1)?;
-    shelf.append(1, b"a")?;
-    shelf.create(2)?;
-    shelf.append(2, b"b")?;
-    shelf.append(1, b"c")?;
-    shelf.sync(1)?;
-    Ok(())
-}
+// One shelf writes into two segments in turn, makes sure of the first, and reads it.
+const IN_TURN: &[(Call, bool)] = &[
+    (Call::Create(1), true),
+    (Call::Append(1, b"a"), true),
+    (Call::Create(2), true),
+    (Call::Append(2, b"b"), true),
+    (Call::Append(1, b"c"), true),
+    (Call::Sync(1), true),
+    (Call::Read(1, b"ac"), true),
+];
 
-// Whether one shelf reads what it wrote into two segments in turn.
-fn writes_in_turn(rt: &HostRuntime, folder: &str) -> Result<bool, Fail> {
-    let mut shelf = shelf_in(rt, folder)?;
-    write_in_turn(&mut shelf)?;
-    let read = shelf.read(rt.alloc(), 1)?;
-    Ok(read.as_slice() == b"ac".as_slice() && shelf.failures() == 0)
-}
-
-// What a shelf answers that is asked for what isn't there, and to make what is; with the count of failures.
-fn refuses(rt: &HostRuntime, folder: &str) -> Result<([bool; 5], u64), Fail> {
-    let mut shelf = shelf_in(rt, folder)?;
-    let read = shelf.read(rt.alloc(), 7).is_err();
-    let append = shelf.append(7, b"a").is_err();
-    let sync = shelf.sync(7).is_err();
-    let retire = shelf.retire(7).is_err();
-    let create = shelf.create(1).is_err();
-    Ok(([read, append, sync, retire, create], shelf.failures()))
-}
+// A shelf is asked for what isn't there, and to make what is.
+const REFUSED: &[(Call, bool)] = &[
+    (Call::Read(7, b""), false),
+    (Call::Append(7, b"a"), false),
+    (Call::Sync(7), false),
+    (Call::Retire(7), false),
+    (Call::Create(1), false),
+];
 
 #[test]
 fn foreign_and_cut_files(rt: HostRuntime) -> Result<(), Fail> {
     let folder = "shelf-foreign-files";
     renew(&rt, folder)?;
-    assert!(rt; writes_in_turn(&rt, folder)?);
+    assert_eq!(rt; played(&rt, folder, IN_TURN)?, (None, 0));
     write(&rt, folder, "segment-3", b"x")?;
     write(&rt, folder, "notes.txt", b"x")?;
     fs::create_dir(&rt, "shelf-foreign-files/folder")?;
     assert!(rt; is_there(&rt, folder, &[(2, b"b"), (1, b"ac")])?);
     write(&rt, folder, "segment-0000000002", b"")?;
     assert!(rt; is_there(&rt, folder, &[(2, b""), (1, b"ac")])?);
-    assert_eq!(rt; refuses(&rt, folder)?, ([true; 5], 5));
+    assert_eq!(rt; played(&rt, folder, REFUSED)?, (None, 5));
     assert!(rt; is_there(&rt, folder, &[(2, b""), (1, b"ac")])?);
     let _ = fs::remove_dir_all(&rt, folder);
     Ok(())
 }
 
 // Names of files, of which the first two alone are segments'.
-const NAMES: [&str; 9] = [
+const NAMES: &[&str] = &[
     "segment-0000000001",
     "segment-4294967295",
     "segment-4294967296",
@@ -120,11 +88,11 @@ fn names_of_segments(rt: HostRuntime) -> Result<(), Fail> {
     for name in NAMES {
         write(&rt, folder, name, name.as_bytes())?;
     }
-    let segments: [(u32, &[u8]); 2] = [
+    let segments: &[(u32, &[u8])] = &[
         (4294967295, b"segment-4294967295"),
         (1, b"segment-0000000001"),
     ];
-    assert!(rt; is_there(&rt, folder, &segments)?);
+    assert!(rt; is_there(&rt, folder, segments)?);
     let _ = fs::remove_dir_all(&rt, folder);
     Ok(())
 }
@@ -153,21 +121,9 @@ fn a_missing_folder(rt: HostRuntime) -> Result<(), Fail> {
     Ok(())
 }
 
-// Whether the system's folder of processes, in which nobody may make a file, is a shelf that makes no segment; true too where there is
-// no such folder.
-fn makes_no_segment(rt: &HostRuntime) -> Result<bool, Fail> {
-    let Ok(mut shelf) = DirShelf::new(rt.clone()?, "/proc") else {
-        return Ok(true);
-    };
-    let made = shelf.create(1).is_err();
-    let listed = shelf.list(rt.alloc())?;
-    Ok(made && shelf.failures() == 1 && listed.as_slice().is_empty())
-}
-
 // Why there is no second shelf of a folder that has one.
 fn second(rt: &HostRuntime, folder: &str) -> Result<Option<FolderError>, Fail> {
-    let mut shelf = shelf_in(rt, folder)?;
-    shelf.create(1)?;
+    let _shelf = shelf_in(rt, folder)?;
     unmade(rt, folder)
 }
 
@@ -175,6 +131,7 @@ fn second(rt: &HostRuntime, folder: &str) -> Result<Option<FolderError>, Fail> {
 fn a_folder_in_use(rt: HostRuntime) -> Result<(), Fail> {
     let folder = "shelf-in-use";
     renew(&rt, folder)?;
+    assert_eq!(rt; played(&rt, folder, &[(Call::Create(1), true)])?, (None, 0));
     assert_eq!(rt; second(&rt, folder)?, Some(FolderError::InUse));
     assert_eq!(rt; missing(&rt, folder)?, None);
     assert!(rt; is_there(&rt, folder, &[(1, b"")])?);
@@ -182,8 +139,12 @@ fn a_folder_in_use(rt: HostRuntime) -> Result<(), Fail> {
     Ok(())
 }
 
+// In the system's folder of processes nobody may make a file: where there is such a folder, it is a shelf that makes no segment.
 #[test]
 fn a_folder_without_rights(rt: HostRuntime) -> Result<(), Fail> {
-    assert!(rt; makes_no_segment(&rt)?);
+    if unmade(&rt, "/proc")?.is_none() {
+        let calls: &[(Call, bool)] = &[(Call::Create(1), false), (Call::Holds(&[]), true)];
+        assert_eq!(rt; played(&rt, "/proc", calls)?, (None, 1));
+    }
     Ok(())
 }
