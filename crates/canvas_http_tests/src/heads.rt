@@ -1,109 +1,97 @@
 //! Heads of requests, as clients send them.
-use canvas_http::{Asked, HeadError, PageFile, Refusal, Request, Site, is_identity, read_head};
+use canvas_http::{Asked, HeadError, PageFile, Refusal, Request, Site, read_head};
 use std::alloc::{AllocError, Global};
-use std::test::Fail;
 
-// The site's document.
-const IDENTITY: &str = "0123456789abcdef0123456789abcdef";
-
-/// A site with or without a page. Pages of `https://example.org` may connect too.
-pub fn site(alloc: Global, has_page: bool) -> Result<Option<Site>, AllocError> {
-    let identity = String::from_str(alloc, IDENTITY)?;
-    if !is_identity(identity.as_bytes()) {
-        return Ok(None);
-    }
-    let mut origins = Vec::with_capacity(alloc, 1)?;
-    origins.push(String::from_str(alloc, "https://example.org")?)?;
-    Ok(Some(Site {
-        origins,
-        identity,
-        has_page,
-    }))
-}
+/// A first line, fields behind those that each request of a list has, and what the request asks for.
+pub type Row = (&'static str, &'static str, Asked);
 
 // What the head asks for that begins with this line and has these fields.
-fn asked(
-    alloc: Global,
-    site: &Site,
-    line: &str,
-    fields: &str,
-) -> Result<Option<Asked>, AllocError> {
-    let head = format!(in alloc; "{line} HTTP/1.1\r\n{fields}\r\n")?;
-    Ok(match read_head(site, head.as_bytes()) {
+fn asked(alloc: Global, site: &Site, line: &str, common: &str, fields: &str) -> Option<Asked> {
+    let head = format!(in alloc; "{line} HTTP/1.1\r\n{common}{fields}\r\n").ok()?;
+    match read_head(site, head.as_bytes()) {
         Ok(Some(request)) => Some(request.asked),
         Ok(None) | Err(_) => None,
-    })
+    }
 }
 
-// First lines of requests that are no handshakes, and what each asks for.
-const PLAIN: [(&str, Asked); 24] = [
-    ("GET /", Asked::File(PageFile::Index)),
-    ("GET /index.html", Asked::File(PageFile::Index)),
-    ("GET /?name=Ann", Asked::File(PageFile::Index)),
-    ("HEAD /page.js", Asked::File(PageFile::Script)),
-    ("GET /worker.js", Asked::File(PageFile::Worker)),
-    ("GET /lugcurrant.js", Asked::File(PageFile::Library)),
-    ("GET /canvas.wasm", Asked::File(PageFile::Module)),
-    ("GET /page.css", Asked::File(PageFile::Style)),
-    ("GET /favicon.svg", Asked::File(PageFile::Icon)),
-    ("GET /health", Asked::Health),
-    ("GET /metrics?a=b?c", Asked::Metrics),
-    ("GET /document", Asked::Document),
-    ("GET /document/", Asked::Refused(Refusal::NotFound)),
+/// The first of these rows, counted from 0, that a site doesn't answer so, where each request has these fields in common.
+pub fn first_wrong_request(
+    alloc: Global,
+    site: &Site,
+    common: &str,
+    rows: &[Row],
+) -> Option<usize> {
+    for (i, (line, fields, wanted)) in rows.iter().enumerate() {
+        if asked(alloc, site, *line, common, *fields) != Some(*wanted) {
+            return Some(i);
+        }
+    }
+    None
+}
+
+/// The field of requests that are no handshakes.
+pub const HOST: &str = "Host: localhost:7411\r\n";
+
+/// Requests that are no handshakes.
+pub const PLAIN: &[Row] = &[
+    ("GET /", "", Asked::File(PageFile::Index)),
+    ("GET /index.html", "", Asked::File(PageFile::Index)),
+    ("GET /?name=Ann", "", Asked::File(PageFile::Index)),
+    ("HEAD /page.js", "", Asked::File(PageFile::Script)),
+    ("GET /worker.js", "", Asked::File(PageFile::Worker)),
+    ("GET /lugcurrant.js", "", Asked::File(PageFile::Library)),
+    ("GET /canvas.wasm", "", Asked::File(PageFile::Module)),
+    ("GET /page.css", "", Asked::File(PageFile::Style)),
+    ("GET /favicon.svg", "", Asked::File(PageFile::Icon)),
+    ("GET /health", "", Asked::Health),
+    ("GET /metrics?a=b?c", "", Asked::Metrics),
+    ("GET /document", "", Asked::Document),
+    ("GET /document/", "", Asked::Refused(Refusal::NotFound)),
     (
         "GET /document/0123456789abcdef0123456789abcdef",
+        "",
         Asked::Refused(Refusal::NotFound),
     ),
-    ("GET /page.js/", Asked::Refused(Refusal::NotFound)),
-    ("GET //page.js", Asked::Refused(Refusal::NotFound)),
-    ("GET /../identity", Asked::Refused(Refusal::NotFound)),
-    ("GET /%2e%2e/identity", Asked::Refused(Refusal::NotFound)),
-    ("GET /Page.js", Asked::Refused(Refusal::NotFound)),
-    ("POST /", Asked::Refused(Refusal::NotAllowed)),
-    ("get /", Asked::Refused(Refusal::NotAllowed)),
-    ("OPTIONS *", Asked::Refused(Refusal::BadRequest)),
-    ("GET http://localhost/", Asked::Refused(Refusal::BadRequest)),
-    ("CONNECT localhost:80", Asked::Refused(Refusal::BadRequest)),
+    ("GET /page.js/", "", Asked::Refused(Refusal::NotFound)),
+    ("GET //page.js", "", Asked::Refused(Refusal::NotFound)),
+    ("GET /../identity", "", Asked::Refused(Refusal::NotFound)),
+    (
+        "GET /%2e%2e/identity",
+        "",
+        Asked::Refused(Refusal::NotFound),
+    ),
+    ("GET /Page.js", "", Asked::Refused(Refusal::NotFound)),
+    ("POST /", "", Asked::Refused(Refusal::NotAllowed)),
+    ("get /", "", Asked::Refused(Refusal::NotAllowed)),
+    ("OPTIONS *", "", Asked::Refused(Refusal::BadRequest)),
+    (
+        "GET http://localhost/",
+        "",
+        Asked::Refused(Refusal::BadRequest),
+    ),
+    (
+        "CONNECT localhost:80",
+        "",
+        Asked::Refused(Refusal::BadRequest),
+    ),
 ];
 
-#[test]
-fn plain_requests(rt: HostRuntime) -> Result<(), Fail> {
-    let alloc = rt.alloc();
-    let site = site(alloc, true)?.ok_or("no site")?;
-    for (line, wanted) in PLAIN {
-        let found = asked(alloc, &site, line, "Host: localhost:7411\r\n")?;
-        assert_eq!(rt; found, Some(wanted), "{line}");
-    }
-    Ok(())
-}
-
-// First lines of requests to a site without a page, and what each asks for.
-const PAGELESS: [(&str, Asked); 4] = [
-    ("GET /", Asked::Refused(Refusal::NotFound)),
-    ("GET /page.js", Asked::Refused(Refusal::NotFound)),
-    ("GET /health", Asked::Health),
-    ("HEAD /document", Asked::Document),
+/// Requests to a site without a page.
+pub const PAGELESS: &[Row] = &[
+    ("GET /", "", Asked::Refused(Refusal::NotFound)),
+    ("GET /page.js", "", Asked::Refused(Refusal::NotFound)),
+    ("GET /health", "", Asked::Health),
+    ("HEAD /document", "", Asked::Document),
 ];
 
-#[test]
-fn without_a_page(rt: HostRuntime) -> Result<(), Fail> {
-    let alloc = rt.alloc();
-    let site = site(alloc, false)?.ok_or("no site")?;
-    for (line, wanted) in PAGELESS {
-        let found = asked(alloc, &site, line, "Host: localhost:7411\r\n")?;
-        assert_eq!(rt; found, Some(wanted), "{line}");
-    }
-    Ok(())
-}
-
-// The fields of a handshake, as Firefox sends them, but for the origin.
-const BROWSER: &str =
+/// The fields of a handshake, as Firefox sends them, but for the origin.
+pub const BROWSER: &str =
     "Host: localhost:7411\r\nUser-Agent: Mozilla/5.0\r\nAccept: */*\r\nSec-WebSocket-Version: 13\r\n\
     Sec-WebSocket-Extensions: permessage-deflate\r\nSec-WebSocket-Key: dGhlIHNhbXBsZSBub25jZQ==\r\nConnection: keep-alive, Upgrade\r\n\
     Upgrade: websocket\r\n";
 
-// First lines of handshakes and their origins, and what each asks for.
-const HANDSHAKES: [(&str, &str, Asked); 19] = [
+/// Handshakes, and their origins.
+pub const HANDSHAKES: &[Row] = &[
     ("GET /", "", Asked::Connection),
     ("GET /document", "", Asked::Connection),
     (
@@ -169,79 +157,97 @@ const HANDSHAKES: [(&str, &str, Asked); 19] = [
     ),
 ];
 
-#[test]
-fn handshakes(rt: HostRuntime) -> Result<(), Fail> {
-    let alloc = rt.alloc();
-    let site = site(alloc, true)?.ok_or("no site")?;
-    for (line, origin, wanted) in HANDSHAKES {
-        let fields = format!(in alloc; "{BROWSER}{origin}")?;
-        let found = asked(alloc, &site, line, fields.as_str())?;
-        assert_eq!(rt; found, Some(wanted), "{line} {origin}");
-    }
-    Ok(())
-}
-
-// Fields of a request for `/`, and what it asks for.
-const FIELDS: [(&str, Asked); 8] = [
-    ("", Asked::Refused(Refusal::BadRequest)),
+/// Fields of a request for `/`.
+pub const FIELDS: &[Row] = &[
+    ("GET /", "", Asked::Refused(Refusal::BadRequest)),
     (
+        "GET /",
         "Host: a\r\nHost: a\r\n",
         Asked::Refused(Refusal::BadRequest),
     ),
     (
+        "GET /",
         "hOST: a\r\nHost: b\r\n",
         Asked::Refused(Refusal::BadRequest),
     ),
     (
+        "GET /",
         "Host: a\r\nOrigin: http://a\r\nOrigin: http://a\r\n",
         Asked::Refused(Refusal::BadRequest),
     ),
-    ("Host: a\r\nUpgrade: h2c\r\n", Asked::File(PageFile::Index)),
     (
+        "GET /",
+        "Host: a\r\nUpgrade: h2c\r\n",
+        Asked::File(PageFile::Index),
+    ),
+    (
+        "GET /",
         "Host: a\r\nOrigin: http://b\r\n",
         Asked::File(PageFile::Index),
     ),
-    ("Host: a\r\nUpgrade:  WebSocket \r\n", Asked::Connection),
     (
+        "GET /",
+        "Host: a\r\nUpgrade:  WebSocket \r\n",
+        Asked::Connection,
+    ),
+    (
+        "GET /",
         "Host: a\r\nUpgrade: h2c\r\nupgrade: websocket\r\n",
         Asked::Connection,
     ),
 ];
 
-#[test]
-fn fields(rt: HostRuntime) -> Result<(), Fail> {
-    let alloc = rt.alloc();
-    let site = site(alloc, true)?.ok_or("no site")?;
-    for (fields, wanted) in FIELDS {
-        assert_eq!(rt;
-            asked(alloc, &site, "GET /", fields)?,
-            Some(wanted),
-            "{fields}"
-        );
+/// A request of curl.
+pub const CURL: &[u8] =
+    b"HEAD /health HTTP/1.1\r\nHost: localhost:7411\r\nUser-Agent: curl/8.5.0\r\nAccept: */*\r\n\r\n";
+
+/// The first length at which a part of this request isn't read as one that goes on.
+pub fn first_wrong_part(site: &Site, request: &[u8]) -> Option<usize> {
+    for end in 0..request.len() {
+        if read_head(site, &request[..end]) != Ok(None) {
+            return Some(end);
+        }
     }
-    Ok(())
+    None
 }
 
-// A request of curl and bytes behind it.
-const CURL: &str =
-    "HEAD /health HTTP/1.1\r\nHost: localhost:7411\r\nUser-Agent: curl/8.5.0\r\nAccept: */*\r\n\r\nmore";
+/// Bytes, and what is read of them.
+pub type Head = (&'static [u8], Result<Option<Request>, HeadError>);
 
-#[test]
-fn pieces(rt: HostRuntime) -> Result<(), Fail> {
-    let site = site(rt.alloc(), true)?.ok_or("no site")?;
-    let bytes = CURL.as_bytes();
-    let length = bytes.len() - 4;
-    for end in 0..length {
-        assert_eq!(rt; read_head(&site, &bytes[..end]), Ok(None), "{end}");
+// What is read of curl's request.
+const CURL_READ: Result<Option<Request>, HeadError> = Ok(Some(Request {
+    asked: Asked::Health,
+    wants_body: false,
+    length: 84,
+}));
+
+/// A request of curl, alone and with bytes behind it, and bytes that no request begins with: those of TLS, of HTTP/2, of a later version, and
+/// others.
+pub const HEADS: &[Head] = &[
+    (CURL, CURL_READ),
+    (
+        b"HEAD /health HTTP/1.1\r\nHost: localhost:7411\r\nUser-Agent: curl/8.5.0\r\nAccept: */*\r\n\r\nmore",
+        CURL_READ,
+    ),
+    (
+        b"\x16\x03\x01\x02\x00\x01\x00\x01\xfc\x03\x03",
+        Err(HeadError::NotRead),
+    ),
+    (b"PRI * HTTP/2.0\r\n\r\nSM\r\n\r\n", Err(HeadError::NotRead)),
+    (b"GET / HTTP/1.2\r\n", Err(HeadError::NotRead)),
+    (b"\x00", Err(HeadError::NotRead)),
+    (b"GET  / HTTP/1.1\r\n", Err(HeadError::NotRead)),
+    (b"GET / HTTP/1.1\r\nHost : a\r\n", Err(HeadError::NotRead)),
+];
+
+/// The first of these rows, counted from 0, of which something else is read.
+pub fn first_wrong_head(site: &Site, rows: &[Head]) -> Option<usize> {
+    for (i, (bytes, wanted)) in rows.iter().enumerate() {
+        if read_head(site, *bytes) != *wanted {
+            return Some(i);
+        }
     }
-    let wanted = Request {
-        asked: Asked::Health,
-        wants_body: false,
-        length,
-    };
-    assert_eq!(rt; read_head(&site, &bytes[..length]), Ok(Some(wanted)));
-    assert_eq!(rt; read_head(&site, bytes), Ok(Some(wanted)));
-    Ok(())
+    None
 }
 
 // A request for `/` with `Host` and so many other fields.
@@ -254,32 +260,41 @@ fn with_fields(alloc: Global, count: usize) -> Result<String, AllocError> {
     Ok(head)
 }
 
-// Bytes that no request begins with: those of TLS, of HTTP/2, of a later version, and others.
-const GARBAGE: [&[u8]; 6] = [
-    b"\x16\x03\x01\x02\x00\x01\x00\x01\xfc\x03\x03",
-    b"PRI * HTTP/2.0\r\n\r\nSM\r\n\r\n",
-    b"GET / HTTP/1.2\r\n",
-    b"\x00",
-    b"GET  / HTTP/1.1\r\n",
-    b"GET / HTTP/1.1\r\nHost : a\r\n",
+/// How many other fields a request has, and what is read of it.
+pub type Count = (usize, Result<Option<Request>, HeadError>);
+
+/// The most that are read, and one more.
+pub const COUNTS: &[Count] = &[
+    (
+        63,
+        Ok(Some(Request {
+            asked: Asked::File(PageFile::Index),
+            wants_body: true,
+            length: 405,
+        })),
+    ),
+    (64, Err(HeadError::TooManyFields)),
 ];
 
-#[test]
-fn not_read(rt: HostRuntime) -> Result<(), Fail> {
-    let alloc = rt.alloc();
-    let site = site(alloc, true)?.ok_or("no site")?;
-    for bytes in GARBAGE {
-        assert_eq!(rt;
-            read_head(&site, bytes),
-            Err(HeadError::NotRead),
-            "{bytes:?}"
-        );
+// Whether this is read of a request with `Host` and so many other fields.
+fn is_read(
+    alloc: Global,
+    site: &Site,
+    count: usize,
+    wanted: Result<Option<Request>, HeadError>,
+) -> bool {
+    match with_fields(alloc, count) {
+        Ok(head) => read_head(site, head.as_bytes()) == wanted,
+        Err(_) => false,
     }
-    let most = with_fields(alloc, 63)?;
-    let found = read_head(&site, most.as_bytes());
-    assert!(rt; matches!(found, Ok(Some(_))));
-    let too_many = with_fields(alloc, 64)?;
-    let found = read_head(&site, too_many.as_bytes());
-    assert_eq!(rt; found, Err(HeadError::TooManyFields));
-    Ok(())
+}
+
+/// The first of these rows, counted from 0, of which something else is read.
+pub fn first_wrong_count(alloc: Global, site: &Site, rows: &[Count]) -> Option<usize> {
+    for (i, (count, wanted)) in rows.iter().enumerate() {
+        if !is_read(alloc, site, *count, *wanted) {
+            return Some(i);
+        }
+    }
+    None
 }

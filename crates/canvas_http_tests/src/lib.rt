@@ -5,3 +5,5 @@
 mod answers;
 #[cfg(test)]
 mod heads;
+#[cfg(test)]
+mod sites;
