@@ -1,5 +1,8 @@
 //! Edits of each kind, those that are refused, and how deep objects may stand.
-use crate::clients::{drawing, made, shows, welcomed};
+use crate::ids::{ABSENT, FIFTH, FOURTH, FRAME, INNERMOST, PAGE, SHAPE};
+use crate::messages::WELCOME;
+use crate::shows::{Number, Shown};
+use crate::steps::Step;
 use canvas_client::{Client, EditError};
 use canvas_doc::ObjId;
 use canvas_embed::{
@@ -7,135 +10,108 @@ use canvas_embed::{
 };
 use canvas_value::NameError;
 use std::alloc::Global;
-use std::test::Fail;
 
-#[test]
-fn creations(rt: HostRuntime) -> Result<(), Fail> {
-    let rows = [
-        (1, ObjId::ROOT, None, Ok((4, made(4)))),
-        (4, made(2), Some(made(3)), Ok((5, made(5)))),
-        (0, ObjId::ROOT, None, Err(CreateError::NoKind)),
-        (5, ObjId::ROOT, None, Err(CreateError::NoKind)),
-        (
-            2,
-            ObjId::ROOT,
-            None,
-            Err(CreateError::Edit(EditError::BadParent)),
-        ),
-        (
-            3,
-            made(9),
-            None,
-            Err(CreateError::Edit(EditError::ParentNotShown)),
-        ),
-        (
-            3,
-            made(2),
-            Some(made(1)),
-            Err(CreateError::Edit(EditError::NotShown)),
-        ),
-    ];
-    let mut client = drawing(rt.alloc())?;
-    for (kind, parent, after, wanted) in rows {
-        assert_eq!(rt;
-            create(&mut client, kind, parent, after),
-            wanted,
-            "at kind {kind}"
-        );
+/// An edit, and what it must answer.
+#[derive(Clone, Copy)]
+pub enum Edit {
+    /// An object of a kind in a parent, behind one of its children or before them all.
+    Create(u32, ObjId, Option<ObjId>, Result<(u64, ObjId), CreateError>),
+    /// A property of an object, and the JSON of its value.
+    Set(ObjId, &'static str, &'static str, Result<u64, SetError>),
+    /// A property of an object that it is to have no more.
+    Clear(ObjId, &'static str, Result<u64, ClearError>),
+    /// An object that goes to a parent, behind one of its children or before them all.
+    MoveTo(ObjId, ObjId, Option<ObjId>, Result<u64, EditError>),
+    /// An object that is deleted.
+    Delete(ObjId, Result<u64, EditError>),
+}
+
+/// Whether the client answers this edit as it must.
+pub fn does_edit(alloc: Global, client: &mut Client, edit: &Edit) -> bool {
+    match *edit {
+        Edit::Create(kind, parent, after, wanted) => create(client, kind, parent, after) == wanted,
+        Edit::Set(id, name, json, wanted) => {
+            set(alloc, client, id, name.as_bytes(), json.as_bytes()) == wanted
+        }
+        Edit::Clear(id, name, wanted) => clear(alloc, client, id, name.as_bytes()) == wanted,
+        Edit::MoveTo(id, parent, after, wanted) => move_to(client, id, parent, after) == wanted,
+        Edit::Delete(id, wanted) => delete(client, id) == wanted,
     }
-    Ok(())
 }
 
-#[test]
-fn properties(rt: HostRuntime) -> Result<(), Fail> {
-    let rows = [
-        ("x", "1", Ok(4)),
-        ("", "1", Err(SetError::Name(NameError::Empty))),
-        (
-            "an_unusually_long_name_of_33_bytes",
-            "1",
-            Err(SetError::Name(NameError::TooLong)),
-        ),
-        ("X", "1", Err(SetError::Name(NameError::BadByte))),
-        ("x", "", Err(SetError::Value(ValueError::NotJson))),
-        ("x", "{}", Err(SetError::Value(ValueError::NotAValue))),
-        ("name", "\"a\"", Ok(5)),
-    ];
-    let mut client = drawing(rt.alloc())?;
-    for (name, json, wanted) in rows {
-        assert_eq!(rt;
-            set(
-                rt.alloc(),
-                &mut client,
-                made(1),
-                name.as_bytes(),
-                json.as_bytes()
-            ),
-            wanted,
-            "at {name}"
-        );
-    }
-    assert_eq!(rt; clear(rt.alloc(), &mut client, made(1), b"x"), Ok(6));
-    assert_eq!(rt;
-        clear(rt.alloc(), &mut client, made(1), b"!"),
-        Err(ClearError::Name(NameError::BadByte))
-    );
-    assert_eq!(rt;
-        clear(rt.alloc(), &mut client, made(9), b"x"),
-        Err(ClearError::Edit(EditError::NotShown))
-    );
-    assert!(rt;
-        shows(
-            rt.alloc(),
-            &client,
-            "0:0 document\n  1:1 page O\n    .name \"a\"\n    1:2 frame O\n      1:3 shape O\n"
-        )?
-    );
-    Ok(())
-}
+/// Objects that are created in a drawing.
+pub const CREATIONS: &[Step] = &[
+    WELCOME,
+    Step::Draw,
+    Step::Edit(Edit::Create(1, ObjId::ROOT, None, Ok((4, FOURTH)))),
+    Step::Edit(Edit::Create(4, FRAME, Some(SHAPE), Ok((5, FIFTH)))),
+    Step::Edit(Edit::Create(0, ObjId::ROOT, None, Err(CreateError::NoKind))),
+    Step::Edit(Edit::Create(5, ObjId::ROOT, None, Err(CreateError::NoKind))),
+    Step::Edit(Edit::Create(
+        2,
+        ObjId::ROOT,
+        None,
+        Err(CreateError::Edit(EditError::BadParent)),
+    )),
+    Step::Edit(Edit::Create(
+        3,
+        ABSENT,
+        None,
+        Err(CreateError::Edit(EditError::ParentNotShown)),
+    )),
+    Step::Edit(Edit::Create(
+        3,
+        FRAME,
+        Some(PAGE),
+        Err(CreateError::Edit(EditError::NotShown)),
+    )),
+];
 
-#[test]
-fn moves_and_deletions(rt: HostRuntime) -> Result<(), Fail> {
-    let mut client = drawing(rt.alloc())?;
-    assert_eq!(rt;
-        move_to(&mut client, made(3), made(1), Some(made(2))),
-        Ok(4)
-    );
-    assert_eq!(rt;
-        move_to(&mut client, made(2), made(2), None),
-        Err(EditError::OwnDescendant)
-    );
-    assert_eq!(rt; delete(&mut client, made(2)), Ok(5));
-    assert_eq!(rt; delete(&mut client, ObjId::ROOT), Err(EditError::IsRoot));
-    assert!(rt;
-        shows(
-            rt.alloc(),
-            &client,
-            "0:0 document\n  1:1 page O\n    1:3 shape g\n"
-        )?
-    );
-    Ok(())
-}
+/// Properties that are set and cleared in a drawing.
+pub const PROPERTIES: &[Step] = &[
+    WELCOME,
+    Step::Draw,
+    Step::Edit(Edit::Set(PAGE, "x", "1", Ok(4))),
+    Step::Edit(Edit::Set(PAGE, "", "1", Err(SetError::Name(NameError::Empty)))),
+    Step::Edit(Edit::Set(
+        PAGE,
+        "an_unusually_long_name_of_33_bytes",
+        "1",
+        Err(SetError::Name(NameError::TooLong)),
+    )),
+    Step::Edit(Edit::Set(PAGE, "X", "1", Err(SetError::Name(NameError::BadByte)))),
+    Step::Edit(Edit::Set(PAGE, "x", "", Err(SetError::Value(ValueError::NotJson)))),
+    Step::Edit(Edit::Set(PAGE, "x", "{}", Err(SetError::Value(ValueError::NotAValue)))),
+    Step::Edit(Edit::Set(PAGE, "name", "\"a\"", Ok(5))),
+    Step::Edit(Edit::Clear(PAGE, "x", Ok(6))),
+    Step::Edit(Edit::Clear(PAGE, "!", Err(ClearError::Name(NameError::BadByte)))),
+    Step::Edit(Edit::Clear(ABSENT, "x", Err(ClearError::Edit(EditError::NotShown)))),
+    Step::Show(Shown::Tree(
+        "0:0 document\n  1:1 page O\n    .name \"a\"\n    1:2 frame O\n      1:3 shape O\n",
+    )),
+];
 
-// A page with so many frames in it, one in another.
-fn chain(alloc: Global, frames: u32) -> Result<Client, Fail> {
-    let mut client = welcomed(alloc)?;
-    let (_, mut at) = create(&mut client, 1, ObjId::ROOT, None)?;
-    for _ in 0..frames {
-        let (_, frame) = create(&mut client, 2, at, None)?;
-        at = frame;
-    }
-    Ok(client)
-}
+/// Objects of a drawing that are moved and deleted.
+pub const MOVES: &[Step] = &[
+    WELCOME,
+    Step::Draw,
+    Step::Edit(Edit::MoveTo(SHAPE, PAGE, Some(FRAME), Ok(4))),
+    Step::Edit(Edit::MoveTo(FRAME, FRAME, None, Err(EditError::OwnDescendant))),
+    Step::Edit(Edit::Delete(FRAME, Ok(5))),
+    Step::Edit(Edit::Delete(ObjId::ROOT, Err(EditError::IsRoot))),
+    Step::Show(Shown::Tree("0:0 document\n  1:1 page O\n    1:3 shape g\n")),
+];
 
-#[test]
-fn depth(rt: HostRuntime) -> Result<(), Fail> {
-    let mut client = chain(rt.alloc(), 99)?;
-    assert_eq!(rt;
-        create(&mut client, 2, made(100), None),
-        Err(CreateError::Edit(EditError::TooDeep))
-    );
-    let text = canvas_embed::tree_text(rt.alloc(), &client)?;
-    assert_eq!(rt; text.iter().filter(|byte| **byte == b'\n').count(), 101);
-    Ok(())
-}
+/// A page with 99 frames in it, one in another, and one more.
+pub const DEPTH: &[Step] = &[
+    WELCOME,
+    Step::Edit(Edit::Create(1, ObjId::ROOT, None, Ok((1, PAGE)))),
+    Step::Nest(99),
+    Step::Edit(Edit::Create(
+        2,
+        INNERMOST,
+        None,
+        Err(CreateError::Edit(EditError::TooDeep)),
+    )),
+    Step::Show(Shown::Number(Number::Lines, Some(101))),
+];

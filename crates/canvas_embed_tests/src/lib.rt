@@ -3,16 +3,20 @@
 #![tactic(auto)]
 
 #[cfg(test)]
-mod changes;
-#[cfg(test)]
-mod clients;
-#[cfg(test)]
 mod edits;
+#[cfg(test)]
+mod ids;
+#[cfg(test)]
+mod lists;
 #[cfg(test)]
 mod messages;
 #[cfg(test)]
 mod places;
 #[cfg(test)]
 mod saves;
+#[cfg(test)]
+mod shows;
+#[cfg(test)]
+mod steps;
 #[cfg(test)]
 mod values;
