@@ -1,11 +1,10 @@
 // Rooms that have no name yet, over new journals in memory.
-ghost use Rattle.std.specs.Prelude.{◌≡◌, []};
-ghost use Rattle.canvas_shelf.specs.Shelved.{disk_of};
+ghost use Rattle.std.specs.Prelude.{◌≡◌, [], IsTrue};
 
 use canvas_board::Opening;
 use canvas_journal::{Journal, open};
 use canvas_room::{BlankRoom, RoomError, blank_room};
-use canvas_shelf::MemShelf;
+use canvas_shelf::{MemShelf, Shelf};
 use std::alloc::Global;
 use std::test::Fail;
 
@@ -29,12 +28,12 @@ impl Bench {
 }
 
 /// A room of so many seats over a new journal on this shelf, or why there is none.
-pub fn room_on(
+pub fn room_on<S: Shelf + Drop>(
     alloc: Global,
-    shelf: MemShelf,
+    shelf: S,
     seats: usize,
-) -> Result<Result<BlankMem, RoomError>, Fail>
-    requires { disk_of shelf ≡ [] }
+) -> Result<Result<BlankRoom<Journal<S>>, RoomError>, Fail>
+    requires { IsTrue (S.honest shelf) → S.disk shelf ≡ [] }
 {
     let Ok((journal, state, version)) = open(alloc, shelf) else {
         return Err(Fail::from("a shelf that isn't opened"));

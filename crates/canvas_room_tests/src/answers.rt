@@ -1,22 +1,20 @@
-//! What seats answer, on one thread.
-ghost use Rattle.std.specs.Prelude.{◌≡◌, []};
+//! What rooms answer, on one thread.
+ghost use Rattle.std.specs.Prelude.{◌≡◌, [], IsTrue};
 
-use crate::folders::{remove, room_in_folder, version_in};
-use crate::seats::{join_by, reads, refusal_by};
+use crate::asks::{Ask, Asking, Asks, are_answered};
+use crate::folders::{remove, shelf_in, version_in};
+use crate::records::Recorded;
 use canvas_benches::{Bench, RoomTest, SeatOf, room_on, told_by, told_in_memory};
 use canvas_board::RoomName;
 use canvas_desk::{Refusal, SubmitError};
-use canvas_journal::{Journal, Keeper};
-use canvas_room::{Room, RoomError, Seat};
-use canvas_shelf::{Call, MemShelf};
+use canvas_journal::{KeepError, Keeper};
+use canvas_room::{Room, RoomError};
+use canvas_shelf::{MemShelf, Shelf};
 use std::alloc::Global;
 use std::fs::File;
 use std::rt::Files;
 use std::sync::Wait;
 use std::test::Fail;
-
-// Where this test keeps its room.
-const FOLDER: &str = "out/room-of-two";
 
 // Why there is no room of so many seats, if there is none.
 fn refusal_of(alloc: Global, seats: usize) -> Result<Option<RoomError>, Fail> {
@@ -37,52 +35,186 @@ fn seat_counts(rt: HostRuntime) -> Result<(), Fail> {
     Ok(())
 }
 
-// Whether an edit that one seat submits is read by another, that told it nothing.
-fn is_read_by_next<K: Keeper + Drop, N: RoomName, Q: Wait + Drop, W: Wait>(
-    rt: &W,
-    alloc: Global,
-    one: &mut SeatOf<K, N, Q>,
-    two: &mut SeatOf<K, N, Q>,
-) -> Result<bool, Fail> {
-    let before = reads(alloc, two, 0, &[])?;
-    join_by(rt, one)?;
-    let refusal = refusal_by(rt, alloc, one, 1, 1)?;
-    let after = reads(alloc, two, 0, &[(0, 0), (1, 1)])?;
-    Ok(before && refusal.is_none() && after && two.joined(1)? && !two.joined(2)?)
+// What a room's desk shows.
+#[derive(Clone, Copy, PartialEq, Eq)]
+enum Shown {
+    // It runs over the segment that it was opened with.
+    Running,
+    // It runs, and a checkpoint was written: the shelf was asked to make segment 2.
+    Tidied,
+    // Its keeper has failed, and no checkpoint was written.
+    Failed,
+    // Its keeper has failed behind a checkpoint.
+    FailedLater,
 }
 
-// Tells whether an edit by the first of two seats is read by the second.
-#[derive(Clone, Copy)]
-struct ReadByOther;
+// What the desk of a room shows.
+fn shown_by<K: Keeper + Recorded + Drop, N: RoomName, Q: Wait + Drop, W: Wait>(
+    rt: &W,
+    room: &Room<K, N, Q>,
+) -> Shown {
+    let desk = room.desk(rt);
+    match (desk.has_failed(), desk.keeper().has_made_second()) {
+        (false, false) => Shown::Running,
+        (false, true) => Shown::Tidied,
+        (true, false) => Shown::Failed,
+        (true, true) => Shown::FailedLater,
+    }
+}
 
-impl<K: Keeper + Drop> RoomTest<K> for ReadByOther {
+// Tells whether a room answers each of these in turn, and what its desk shows then.
+#[derive(Clone, Copy)]
+struct Scenes(&'static [(Asks, Shown)]);
+
+impl<K: Keeper + Recorded + Drop> RoomTest<K> for Scenes {
     type Told = bool;
 
     fn ask<N: RoomName, Q: Wait + Drop, W: Wait>(
         &self,
         rt: &W,
         alloc: Global,
-        _room: &Room<K, N, Q>,
+        room: &Room<K, N, Q>,
         seats: &mut [SeatOf<K, N, Q>],
     ) -> Result<bool, Fail> {
-        match seats {
-            [one, two] => is_read_by_next(rt, alloc, one, two),
-            _ => Ok(false),
+        for (asks, wanted) in self.0 {
+            if !are_answered(rt, alloc, seats, *asks)? || shown_by(rt, room) != *wanted {
+                return Ok(false);
+            }
         }
+        Ok(true)
     }
 }
 
+// An edit by the first of two seats is read by the second, which was told nothing.
+const READ_BY_OTHER: Asks = &[
+    (1, Ask::Read(0, Some(&[]))),
+    (0, Ask::Join(Ok(Some(1)))),
+    (0, Ask::Edit(1, 1, None)),
+    (1, Ask::Read(0, Some(&[(0, 0), (1, 1)]))),
+    (1, Ask::Joined(1, true)),
+    (1, Ask::Joined(2, false)),
+];
+
+// A stranger's edit is refused, and one behind a gap, and one that was made before.
+const REFUSALS: Asks = &[
+    (0, Ask::Join(Ok(Some(1)))),
+    (
+        0,
+        Ask::Edit(2, 1, Some(SubmitError::Refused(Refusal::Stranger))),
+    ),
+    (
+        0,
+        Ask::Edit(1, 2, Some(SubmitError::Refused(Refusal::Gap { done: 0 }))),
+    ),
+    (0, Ask::Edit(1, 1, None)),
+    (
+        0,
+        Ask::Edit(
+            1,
+            1,
+            Some(SubmitError::Refused(Refusal::Repeat { done: 1 })),
+        ),
+    ),
+    (0, Ask::Edit(1, 2, None)),
+];
+
+// No checkpoint is made where fewer than two entries stand after the floor.
+const TOO_EARLY: Asks = &[(0, Ask::Join(Ok(Some(1)))), (0, Ask::Tidy(2, Ok(false)))];
+
+// Nothing was passed then, and a checkpoint is made where one entry is enough.
+const IN_TIME: Asks = &[
+    (0, Ask::Read(0, Some(&[(0, 0)]))),
+    (0, Ask::Tidy(1, Ok(true))),
+];
+
+// Nothing is read from below the floor 1, and nothing is after it.
+const BEHIND_FLOOR: Asks = &[
+    (0, Ask::Read(0, None)),
+    (0, Ask::Read(1, Some(&[]))),
+    (0, Ask::Tidy(1, Ok(false))),
+];
+
+// A keeper that fails in its second commit is asked no more, and both seats read what was published.
+const FAILING: Asks = &[
+    (0, Ask::Join(Ok(Some(1)))),
+    (0, Ask::Join(Err(SubmitError::NotKept(KeepError::Device)))),
+    (0, Ask::Join(Err(SubmitError::NotKept(KeepError::Failed)))),
+    (
+        0,
+        Ask::Tidy(0, Err(SubmitError::NotKept(KeepError::Failed))),
+    ),
+    (0, Ask::Read(0, Some(&[(0, 0)]))),
+    (0, Ask::Joined(1, true)),
+    (0, Ask::Joined(2, false)),
+    (1, Ask::Read(0, Some(&[(0, 0)]))),
+    (1, Ask::Joined(1, true)),
+    (1, Ask::Joined(2, false)),
+];
+
+// What is tried, how many seats there are, which call of the shelf fails, and what is asked.
+const ROWS: &[(&str, usize, u64, Scenes)] = &[
+    ("tells", 2, 0, Scenes(&[(READ_BY_OTHER, Shown::Running)])),
+    ("refuses", 1, 0, Scenes(&[(REFUSALS, Shown::Running)])),
+    (
+        "tidies",
+        1,
+        0,
+        Scenes(&[
+            (TOO_EARLY, Shown::Running),
+            (IN_TIME, Shown::Tidied),
+            (BEHIND_FLOOR, Shown::Tidied),
+        ]),
+    ),
+    (
+        "fails once, by an append",
+        2,
+        7,
+        Scenes(&[(FAILING, Shown::Failed)]),
+    ),
+    (
+        "fails once, by a sync",
+        2,
+        8,
+        Scenes(&[(FAILING, Shown::Failed)]),
+    ),
+];
+
 #[test]
-fn tells(rt: HostRuntime) -> Result<(), Fail> {
-    assert!(rt; told_in_memory(rt, rt.alloc(), Bench::of(2), &ReadByOther)?);
+fn in_memory(rt: HostRuntime) -> Result<(), Fail> {
+    for (tried, seats, failing, scenes) in ROWS {
+        let bench = Bench {
+            seats: *seats,
+            failing: *failing,
+        };
+        if !told_in_memory(rt, rt.alloc(), bench, scenes)? {
+            return Err(Fail::from(*tried));
+        }
+    }
     Ok(())
+}
+
+// Where this test keeps its room.
+const FOLDER: &str = "out/room-of-two";
+
+// Whether a room of two over a new journal on this shelf shows one what the other does.
+fn tells_on<S: Shelf + Drop, W: Wait + Copy + Drop>(
+    rt: W,
+    alloc: Global,
+    shelf: S,
+) -> Result<bool, Fail>
+    requires { IsTrue (S.honest shelf) → S.disk shelf ≡ [] }
+{
+    match room_on(alloc, shelf, 2)? {
+        Ok(blank) => told_by(rt, alloc, blank, &Asking(READ_BY_OTHER)),
+        Err(_) => Err(Fail::from("no room")),
+    }
 }
 
 fn tells_in_folder<R: Wait + Files<File = File> + AllocGlobal + Clone + Copy + Drop>(
     rt: R,
 ) -> Result<bool, Fail> {
-    let blank = room_in_folder(&rt, FOLDER, 2)?;
-    told_by(rt, rt.alloc(), blank, &ReadByOther)
+    let shelf = shelf_in(&rt, FOLDER)?;
+    tells_on(rt, rt.alloc(), shelf)
 }
 
 #[test]
@@ -91,119 +223,5 @@ fn tells_and_keeps(rt: HostRuntime) -> Result<(), Fail> {
     assert!(rt; tells_in_folder(rt)?);
     assert_eq!(rt; version_in(&rt, FOLDER)?, 2);
     remove(&rt, FOLDER);
-    Ok(())
-}
-
-// Client and number of edits in this order, once client 1 has joined, and why each is refused.
-const REFUSALS: [(u32, u64, Option<SubmitError>); 5] = [
-    (2, 1, Some(SubmitError::Refused(Refusal::Stranger))),
-    (1, 2, Some(SubmitError::Refused(Refusal::Gap { done: 0 }))),
-    (1, 1, None),
-    (
-        1,
-        1,
-        Some(SubmitError::Refused(Refusal::Repeat { done: 1 })),
-    ),
-    (1, 2, None),
-];
-
-// Whether a seat refuses these edits so.
-fn refuses_each<K: Keeper + Drop, N: RoomName, Q: Wait + Drop, W: Wait>(
-    rt: &W,
-    alloc: Global,
-    seat: &mut SeatOf<K, N, Q>,
-) -> Result<bool, Fail> {
-    join_by(rt, seat)?;
-    for (client, seq, wanted) in REFUSALS {
-        if refusal_by(rt, alloc, seat, client, seq)? != wanted {
-            return Ok(false);
-        }
-    }
-    Ok(true)
-}
-
-// Tells whether the one seat of a room refuses what it has to.
-#[derive(Clone, Copy)]
-struct Refusing;
-
-impl<K: Keeper + Drop> RoomTest<K> for Refusing {
-    type Told = bool;
-
-    fn ask<N: RoomName, Q: Wait + Drop, W: Wait>(
-        &self,
-        rt: &W,
-        alloc: Global,
-        _room: &Room<K, N, Q>,
-        seats: &mut [SeatOf<K, N, Q>],
-    ) -> Result<bool, Fail> {
-        match seats {
-            [seat] => refuses_each(rt, alloc, seat),
-            _ => Ok(false),
-        }
-    }
-}
-
-#[test]
-fn refuses(rt: HostRuntime) -> Result<(), Fail> {
-    assert!(rt; told_in_memory(rt, rt.alloc(), Bench::of(1), &Refusing)?);
-    Ok(())
-}
-
-// Whether the shelf of a room's journal was asked to make that segment.
-fn has_made<N: RoomName, Q: Wait + Drop, W: Wait>(
-    rt: &W,
-    room: &Room<Journal<MemShelf>, N, Q>,
-    segment: u32,
-) -> bool {
-    let desk = room.desk(rt);
-    desk.keeper()
-        .shelf()
-        .calls()
-        .contains(&Call::Create(segment))
-}
-
-// Whether a seat reads nothing from below the floor 1, and nothing is after it.
-fn is_passed<N: RoomName, D: Drop>(alloc: Global, seat: &mut Seat<N, D>) -> Result<bool, Fail> {
-    let is_below = seat.tail(alloc, 0, 64)?.is_none();
-    Ok(is_below && reads(alloc, seat, 1, &[])?)
-}
-
-// Whether a checkpoint is made where enough entries stand after the floor, and not before, and is written.
-fn is_tidied<N: RoomName, Q: Wait + Drop, W: Wait>(
-    rt: &W,
-    alloc: Global,
-    room: &Room<Journal<MemShelf>, N, Q>,
-    seat: &mut SeatOf<Journal<MemShelf>, N, Q>,
-) -> Result<bool, Fail> {
-    join_by(rt, seat)?;
-    let is_early = seat.tidy(rt, 2)? || has_made(rt, room, 2) || !reads(alloc, seat, 0, &[(0, 0)])?;
-    let is_made = seat.tidy(rt, 1)? && has_made(rt, room, 2);
-    Ok(!is_early && is_made && is_passed(alloc, seat)? && !seat.tidy(rt, 1)?)
-}
-
-// Tells whether the one seat of a room makes checkpoints in time.
-#[derive(Clone, Copy)]
-struct Tidying;
-
-impl RoomTest<Journal<MemShelf>> for Tidying {
-    type Told = bool;
-
-    fn ask<N: RoomName, Q: Wait + Drop, W: Wait>(
-        &self,
-        rt: &W,
-        alloc: Global,
-        room: &Room<Journal<MemShelf>, N, Q>,
-        seats: &mut [SeatOf<Journal<MemShelf>, N, Q>],
-    ) -> Result<bool, Fail> {
-        match seats {
-            [seat] => is_tidied(rt, alloc, room, seat),
-            _ => Ok(false),
-        }
-    }
-}
-
-#[test]
-fn tidies(rt: HostRuntime) -> Result<(), Fail> {
-    assert!(rt; told_in_memory(rt, rt.alloc(), Bench::of(1), &Tidying)?);
     Ok(())
 }

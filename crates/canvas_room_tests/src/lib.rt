@@ -4,12 +4,12 @@
 #[cfg(test)]
 mod answers;
 #[cfg(test)]
-mod failing;
+mod asks;
 #[cfg(test)]
 mod folders;
 #[cfg(test)]
-mod seats;
+mod records;
 #[cfg(test)]
-mod syncs;
+mod seats;
 #[cfg(test)]
 mod threads;

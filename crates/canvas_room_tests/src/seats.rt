@@ -1,6 +1,6 @@
 //! What one seat does.
 use canvas_benches::SeatOf;
-use canvas_board::{RoomName, SeatError};
+use canvas_board::RoomName;
 use canvas_desk::SubmitError;
 use canvas_journal::Keeper;
 use canvas_judge::{Entry, Outcome};
@@ -11,8 +11,8 @@ use std::alloc::Global;
 use std::sync::Wait;
 use std::test::Fail;
 
-/// The request of a client's edit that makes a page with the edit's number as its counter.
-pub fn page(alloc: Global, client: u32, seq: u64) -> Result<Request, Fail> {
+// The request of a client's edit that makes a page with the edit's number as its counter.
+fn page(alloc: Global, client: u32, seq: u64) -> Result<Request, Fail> {
     let change = new_page(alloc, object(client, (seq % 1000) as u32))?;
     Ok(Request::Edit {
         client,
@@ -38,34 +38,52 @@ pub fn join_by<K: Keeper + Drop, N: RoomName, Q: Wait + Drop, W: Wait>(
     Ok(id_in(receipt.entry()))
 }
 
-/// Why a seat refuses a client's edit of that number, if it does.
-pub fn refusal_by<K: Keeper + Drop, N: RoomName, Q: Wait + Drop, W: Wait>(
+/// Whether a seat refuses a client's edit of that number so, or takes it where it is to.
+pub fn refuses<K: Keeper + Drop, N: RoomName, Q: Wait + Drop, W: Wait>(
     rt: &W,
     alloc: Global,
     seat: &mut SeatOf<K, N, Q>,
     client: u32,
     seq: u64,
-) -> Result<Option<SubmitError>, Fail> {
+    wanted: Option<SubmitError>,
+) -> Result<bool, Fail> {
     let request = page(alloc, client, seq)?;
-    Ok(seat.submit(rt, &request).err())
+    Ok(seat.submit(rt, &request).err() == wanted)
 }
 
-/// Whether the entries that a seat reads after a version are these: author and number of each.
+// Whether entries are these: author and number of each.
+fn are_these(entries: &[Entry], wanted: &[(u32, u64)]) -> bool {
+    entries
+        .iter()
+        .map(|entry| (entry.author, entry.seq))
+        .eq(wanted.iter().copied())
+}
+
+/// Whether the entries that a seat reads after a version are these: author and number of each. None where it is to read none there, since
+/// a checkpoint passed them.
 pub fn reads<N: RoomName, D: Drop>(
     alloc: Global,
     seat: &mut Seat<N, D>,
     from: u64,
-    wanted: &[(u32, u64)],
-) -> Result<bool, SeatError> {
-    let Some(entries) = seat.tail(alloc, from, 64)? else {
-        return Ok(false);
-    };
-    Ok(
-        entries
-            .iter()
-            .map(|entry| (entry.author, entry.seq))
-            .eq(wanted.iter().copied()),
-    )
+    wanted: Option<&[(u32, u64)]>,
+) -> bool {
+    match (seat.tail(alloc, from, 64), wanted) {
+        (Ok(Some(entries)), Some(wanted)) => are_these(&entries, wanted),
+        (Ok(None), None) => true,
+        _ => false,
+    }
+}
+
+/// The version of the copy of the document that a seat gives a client, if it gives one.
+pub fn copied<N: RoomName, D: Drop>(
+    alloc: Global,
+    seat: &mut Seat<N, D>,
+    client: u32,
+) -> Option<u64> {
+    match seat.copy(alloc, client) {
+        Ok(Some(copy)) => Some(copy.version),
+        _ => None,
+    }
 }
 
 // What the receipt of a Join tells: the id, and the versions before its entry and with it.
@@ -92,47 +110,46 @@ fn join_and_learn<K: Keeper + Drop, N: RoomName, Q: Wait + Drop, W: Wait>(
 }
 
 // Whether a seat that has learned of a Join reads its entry.
-fn reads_entry<N: RoomName, D: Drop>(
-    alloc: Global,
-    seat: &mut Seat<N, D>,
-    joined: Joined,
-) -> Result<bool, SeatError> {
-    let Some(entries) = seat.tail(alloc, joined.before, 1)? else {
-        return Ok(false);
-    };
-    Ok(entries.first().and_then(id_in) == Some(joined.id))
+fn reads_entry<N: RoomName, D: Drop>(alloc: Global, seat: &mut Seat<N, D>, joined: Joined) -> bool {
+    match seat.tail(alloc, joined.before, 1) {
+        Ok(Some(entries)) => entries.first().and_then(id_in) == Some(joined.id),
+        _ => false,
+    }
 }
 
 // Whether a seat that has learned of a Join gives the client a copy of the document that has seen it.
-fn copies<N: RoomName, D: Drop>(
-    alloc: Global,
-    seat: &mut Seat<N, D>,
-    joined: Joined,
-) -> Result<bool, SeatError> {
-    let Some(copy) = seat.copy(alloc, joined.id)? else {
-        return Ok(false);
-    };
-    Ok(copy.version >= joined.version)
+fn copies<N: RoomName, D: Drop>(alloc: Global, seat: &mut Seat<N, D>, joined: Joined) -> bool {
+    match copied(alloc, seat, joined.id) {
+        Some(version) => version >= joined.version,
+        None => false,
+    }
 }
 
 // Whether a seat that has learned of a Join reads it in each way.
-fn reads_own<N: RoomName, D: Drop>(
-    alloc: Global,
-    seat: &mut Seat<N, D>,
-    joined: Joined,
-) -> Result<bool, SeatError> {
-    Ok(reads_entry(alloc, seat, joined)? && copies(alloc, seat, joined)? && seat.joined(joined.id)?)
+fn reads_own<N: RoomName, D: Drop>(alloc: Global, seat: &mut Seat<N, D>, joined: Joined) -> bool {
+    reads_entry(alloc, seat, joined)
+        && copies(alloc, seat, joined)
+        && seat.joined(joined.id) == Ok(true)
 }
 
 /// Joins, learns of the receipt, and reads the entry: the id, where all of that came about.
 pub fn joins_and_reads<K: Keeper + Drop, N: RoomName, Q: Wait + Drop, W: Wait>(
     rt: &W,
     alloc: Global,
-    mut seat: SeatOf<K, N, Q>,
+    seat: &mut SeatOf<K, N, Q>,
 ) -> Option<u32> {
-    let joined = join_and_learn(rt, &mut seat)?;
-    match reads_own(alloc, &mut seat, joined) {
-        Ok(true) => Some(joined.id),
-        _ => None,
+    let joined = join_and_learn(rt, seat)?;
+    if reads_own(alloc, seat, joined) {
+        Some(joined.id)
+    } else {
+        None
     }
+}
+
+/// The id of the one client of a room, where a seat reads that it has joined in each way.
+pub fn reads_first<N: RoomName, D: Drop>(alloc: Global, seat: &mut Seat<N, D>) -> Option<u32> {
+    let is_read = seat.joined(1) == Ok(true)
+        && reads(alloc, seat, 0, Some(&[(0, 0)]))
+        && copied(alloc, seat, 1) == Some(1);
+    if is_read { Some(1) } else { None }
 }

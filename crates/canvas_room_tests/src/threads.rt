@@ -1,45 +1,132 @@
 //! Seats on several threads.
 ghost use Rattle.std.specs.Prelude.{◌≡◌};
 
-use crate::seats::{join_by, joins_and_reads, reads};
+use crate::records::Recorded;
+use crate::seats::{join_by, joins_and_reads, reads_first};
 use canvas_benches::{Bench, SeatOf, room_in_memory};
 use canvas_board::RoomName;
 use canvas_journal::Keeper;
-use canvas_room::{BlankRoom, Room, Seat};
-use std::alloc::{AllocError, Global};
+use canvas_room::{BlankRoom, Lock, Room, Seat};
+use std::alloc::Global;
 use std::marker::Brand;
 use std::sync::Wait;
-use std::sync::atomic::{AtomicBool, Ordering};
+use std::sync::atomic::{AtomicBool, AtomicUsize, Ordering};
 use std::test::Fail;
 use std::thread::{Threads, join, map_vec, yield_now};
 
-/// What one thread makes of a value that is sent to it, and what this one gives meanwhile.
-pub fn apart<S: Send + Drop, A: Send, B, F: Fn(S) -> A + Sync, G: FnOnce() -> B, R: Threads>(
-    rt: &R,
-    value: S,
-    there: &F,
-    here: G,
-) -> (A, B)
-    requires there { F.pre there.now value }
-    requires here { G.pre here }
-{
-    join(
-        rt,
-        move || -> A
-            requires { F.pre there.now value }
-        { there(value) },
-        here,
-    )
+// How often a thread that waits yields at most, and how often one that lets the others come to the lock does.
+const MOST_TURNS: u32 = 1_000_000;
+
+const LATE_TURNS: u32 = 10_000;
+
+// What each seat does on a thread of its own.
+#[derive(Clone, Copy)]
+enum Deed {
+    // It joins, and reads its own entry.
+    Join,
+    // It reads the one Join of its room, in each way.
+    Read,
 }
 
-// The ids that seats get, each joining and reading its own entry on a thread of its own.
-fn ids_of<
-    K: Keeper + Drop + Send,
-    N: RoomName + Send + Sync,
-    Q: Wait + Drop + Send,
-    R: Threads + Wait + Sync,
->(rt: &R, alloc: Global, seats: Vec<SeatOf<K, N, Q>>) -> Result<Vec<Option<u32>>, AllocError> {
-    map_vec(rt, seats, &|seat| joins_and_reads(rt, alloc, seat))
+// Seats that do something at once.
+#[derive(Clone, Copy)]
+struct Meeting {
+    // How many there are.
+    seats: usize,
+    deed: Deed,
+    // Whether one more thread holds the room's lock until all seats have read, or are about to join, and a while longer.
+    is_held: bool,
+}
+
+// What comes of it.
+#[derive(Clone, Copy, PartialEq, Eq)]
+struct Met {
+    // Whether the seats tell the first ids, each once.
+    are_first: bool,
+    // The room's version while the lock was held, where it was held until all had come.
+    held_at: Option<u64>,
+    // The room's version in the end.
+    version: u64,
+    // Whether the shelf was synced less often than there are seats, where that is asked: they met at the lock.
+    is_shared: bool,
+}
+
+// What threads tell each other.
+#[derive(Drop)]
+struct Flags {
+    // The lock is held, if it is to be.
+    held: AtomicBool,
+    // How many seats have read, or are about to join.
+    come: AtomicUsize,
+}
+
+// Waits until the lock is held.
+fn await_lock(flags: &Flags) {
+    for _ in 0..MOST_TURNS {
+        if flags.held.load(Ordering::SeqCst) {
+            return;
+        }
+        yield_now();
+    }
+}
+
+// Whether so many seats come within a million turns that yield.
+fn have_come(flags: &Flags, seats: usize) -> bool {
+    for _ in 0..MOST_TURNS {
+        if flags.come.load(Ordering::SeqCst) == seats {
+            return true;
+        }
+        yield_now();
+    }
+    false
+}
+
+// Lets others go on.
+fn stay() {
+    for _ in 0..LATE_TURNS {
+        yield_now();
+    }
+}
+
+// Holds the lock of a room until so many seats have come, and a while longer: the room's version then, if they have.
+fn holds<K: Keeper + Drop, N: RoomName, Q: Wait + Drop, W: Wait>(
+    rt: &W,
+    room: &Room<K, N, Q>,
+    flags: &Flags,
+    seats: usize,
+) -> Option<u64> {
+    let desk = room.desk(rt);
+    flags.held.store(true, Ordering::SeqCst);
+    let have_come = have_come(flags, seats);
+    stay();
+    if have_come {
+        Some(desk.version())
+    } else {
+        None
+    }
+}
+
+// A seat that does something on a thread. What is sent to threads is generic in it, since the type of a seat is large.
+trait Site: Drop {
+    // Does so, once the lock is held: the id that it gets or reads.
+    fn does<W: Wait>(&mut self, rt: &W, alloc: Global, deed: Deed, flags: &Flags) -> Option<u32>;
+}
+
+impl<K: Keeper + Drop, N: RoomName, Q: Wait + Drop> Site for Seat<N, Lock<K, N, Q>> {
+    fn does<W: Wait>(&mut self, rt: &W, alloc: Global, deed: Deed, flags: &Flags) -> Option<u32> {
+        await_lock(flags);
+        match deed {
+            Deed::Join => {
+                flags.come.fetch_add(1, Ordering::SeqCst);
+                joins_and_reads(rt, alloc, self)
+            }
+            Deed::Read => {
+                let id = reads_first(alloc, self);
+                flags.come.fetch_add(1, Ordering::SeqCst);
+                id
+            }
+        }
+    }
 }
 
 // Whether these are as many ids as there are, from 1 on, each once.
@@ -52,8 +139,36 @@ fn are_first(ids: &[Option<u32>]) -> bool {
     true
 }
 
-// Whether all seats of a room that join at once get the first ids, and how many entries the room then has.
-fn joined_by_all<
+// Does so by each of these seats, on a thread of its own: whether they tell the first ids.
+fn all_do<S: Site + Drop + Send, R: Threads + Wait + Sync>(
+    rt: &R,
+    alloc: Global,
+    seats: Vec<S>,
+    deed: Deed,
+    flags: &Flags,
+) -> bool {
+    match map_vec(rt, seats, &|mut seat| seat.does(rt, alloc, deed, flags)) {
+        Ok(ids) => are_first(&ids),
+        Err(_) => false,
+    }
+}
+
+// The same while this thread does something else, and what that gives.
+fn all_do_beside<S: Site + Drop + Send, B, H: FnOnce() -> B, R: Threads + Wait + Sync>(
+    rt: &R,
+    alloc: Global,
+    seats: Vec<S>,
+    deed: Deed,
+    flags: &Flags,
+    here: H,
+) -> (bool, B)
+    requires { H.pre here }
+{
+    join(rt, move || all_do(rt, alloc, seats, deed, flags), here)
+}
+
+// Whether these seats meet so and tell the first ids, and the version at which the lock was held.
+fn meet<
     K: Keeper + Drop + Send,
     N: RoomName + Send + Sync,
     Q: Wait + Drop + Send,
@@ -63,175 +178,161 @@ fn joined_by_all<
     alloc: Global,
     room: &Room<K, N, Q>,
     seats: Vec<SeatOf<K, N, Q>>,
-) -> Result<(bool, u64), Fail> {
-    let ids = ids_of(rt, alloc, seats)?;
-    Ok((are_first(&ids), room.desk(rt).version()))
+    meeting: Meeting,
+) -> (bool, Option<u64>) {
+    let flags = Flags {
+        held: AtomicBool::new(!meeting.is_held),
+        come: AtomicUsize::new(0),
+    };
+    all_do_beside(
+        rt,
+        alloc,
+        seats,
+        meeting.deed,
+        &flags,
+        || if meeting.is_held {
+            holds(rt, room, &flags, meeting.seats)
+        } else {
+            None
+        },
+    )
 }
 
-// The same for the seats of a room that is opened for this.
-fn joined_in<
-    N: RoomName + Send + Sync,
-    K: Keeper + Drop + Send,
-    R: Threads + Wait + Copy + Send + Sync + Drop,
->(rt: R, alloc: Global, blank: BlankRoom<K>) -> Result<(bool, u64), Fail>
-    requires book { blank.book ≡ N.book }
-    requires opening { blank.opening ≡ N.opening }
-{
-    let (room, seats) = blank.open::<N, R>(rt)?;
-    joined_by_all(&rt, alloc, &room, seats)
-}
-
-// The same for a room of so many seats in memory.
-fn joined_at_once<R: Threads + Wait + Copy + Send + Sync + Drop>(
-    rt: R,
-    alloc: Global,
-    seats: usize,
-) -> Result<(bool, u64), Fail> {
-    let blank = room_in_memory(alloc, Bench::of(seats))?;
-    joined_in::<Brand, _, _>(rt, alloc, blank)
-}
-
-#[test]
-fn two_seats(rt: HostRuntime) -> Result<(), Fail> {
-    assert_eq!(rt; joined_at_once(rt, rt.alloc(), 2)?, (true, 2));
-    Ok(())
-}
-
-#[test]
-fn eight_at_once(rt: HostRuntime) -> Result<(), Fail> {
-    assert_eq!(rt; joined_at_once(rt, rt.alloc(), 8)?, (true, 8));
-    Ok(())
-}
-
-// What two threads tell each other.
-#[derive(Drop)]
-struct Flags {
-    // The lock is held.
-    held: AtomicBool,
-    // All is read.
-    done: AtomicBool,
-}
-
-// Whether a flag is raised within a million turns that yield.
-fn is_raised(flag: &AtomicBool) -> bool {
-    for _ in 0..1_000_000 {
-        if flag.load(Ordering::SeqCst) {
-            return true;
-        }
-        yield_now();
+// Whether a meeting may begin: where seats are to read, the first of them joins.
+fn begins<K: Keeper + Drop, N: RoomName, Q: Wait + Drop, W: Wait>(
+    rt: &W,
+    seats: &mut [SeatOf<K, N, Q>],
+    deed: Deed,
+) -> bool {
+    match (deed, seats.first_mut()) {
+        (Deed::Join, _) => true,
+        (Deed::Read, Some(seat)) => join_by(rt, seat) == Ok(Some(1)),
+        (Deed::Read, None) => false,
     }
-    false
 }
 
-// Holds the lock of a room until the flag is raised: whether it was, so long as the lock was held.
-fn holds<K: Keeper + Drop, N: RoomName, Q: Wait + Drop, W: Wait>(
+// How often the shelf of a room's keeper was synced.
+fn sync_count<K: Keeper + Recorded + Drop, N: RoomName, Q: Wait + Drop, W: Wait>(
     rt: &W,
     room: &Room<K, N, Q>,
-    flags: &Flags,
-) -> bool {
-    let desk = room.desk(rt);
-    flags.held.store(true, Ordering::SeqCst);
-    is_raised(&flags.done) && desk.version() == 1
+) -> usize {
+    room.desk(rt).keeper().sync_count()
 }
 
-// Whether a seat reads the one Join of its room, each way.
-fn reads_first<N: RoomName, D: Drop>(alloc: Global, seat: &mut Seat<N, D>) -> bool {
-    let is_joined = seat.joined(1) == Ok(true);
-    let is_told = reads(alloc, seat, 0, &[(0, 0)]) == Ok(true);
-    let is_copied = matches!(seat.copy(alloc, 1), Ok(Some(copy)) if copy.version == 1);
-    is_joined && is_told && is_copied
-}
-
-// Reads each way by the first of these seats once the lock is held, and raises the flag then: whether what was read is right.
-fn reads_beside<N: RoomName, D: Drop>(
-    alloc: Global,
-    mut seats: Vec<Seat<N, D>>,
-    flags: &Flags,
-) -> bool {
-    if !is_raised(&flags.held) {
-        return false;
-    }
-    let is_read = match seats.first_mut() {
-        Some(seat) => reads_first(alloc, seat),
-        None => false,
-    };
-    flags.done.store(true, Ordering::SeqCst);
-    is_read
-}
-
-// Whether the first of these seats reads while this thread holds the room's lock, and whether that was held until then.
-fn read_and_hold<
-    K: Keeper + Drop + Send,
+// What comes of a meeting of these seats.
+fn met_by<
+    K: Keeper + Recorded + Drop + Send,
     N: RoomName + Send + Sync,
     Q: Wait + Drop + Send,
-    R: Threads + Wait,
+    R: Threads + Wait + Sync,
 >(
     rt: &R,
     alloc: Global,
     room: &Room<K, N, Q>,
-    seats: Vec<SeatOf<K, N, Q>>,
-    flags: &Flags,
-) -> (bool, bool) {
-    apart(
-        rt,
-        seats,
-        &|seats| reads_beside(alloc, seats, flags),
-        || holds(rt, room, flags),
-    )
-}
-
-// Whether the first of these seats joins.
-fn joins_first<K: Keeper + Drop, N: RoomName, Q: Wait + Drop, W: Wait>(
-    rt: &W,
-    seats: &mut [SeatOf<K, N, Q>],
-) -> bool {
-    match seats.first_mut() {
-        Some(seat) => join_by(rt, seat).is_ok(),
-        None => false,
+    mut seats: Vec<SeatOf<K, N, Q>>,
+    meeting: Meeting,
+) -> Met {
+    let has_begun = begins(rt, &mut seats, meeting.deed);
+    let before = sync_count(rt, room);
+    let (are_first, held_at) = meet(rt, alloc, room, seats, meeting);
+    let is_shared = sync_count(rt, room) < before.saturating_add(meeting.seats);
+    Met {
+        are_first: has_begun && are_first,
+        held_at,
+        version: room.desk(rt).version(),
+        is_shared: meeting.is_held && is_shared,
     }
-}
-
-// Whether a seat that has joined reads while another thread holds the room's lock, and whether that was held until then.
-fn read_while_held<
-    K: Keeper + Drop + Send,
-    N: RoomName + Send + Sync,
-    Q: Wait + Drop + Send,
-    R: Threads + Wait,
->(rt: &R, alloc: Global, room: &Room<K, N, Q>, mut seats: Vec<SeatOf<K, N, Q>>) -> (bool, bool) {
-    if !joins_first(rt, &mut seats) {
-        return (false, false);
-    }
-    let flags = Flags {
-        held: AtomicBool::new(false),
-        done: AtomicBool::new(false),
-    };
-    read_and_hold(rt, alloc, room, seats, &flags)
 }
 
 // The same for the seats of a room that is opened for this.
-fn read_in<
+fn met_in<
     N: RoomName + Send + Sync,
-    K: Keeper + Drop + Send,
+    K: Keeper + Recorded + Drop + Send,
     R: Threads + Wait + Copy + Send + Sync + Drop,
->(rt: R, alloc: Global, blank: BlankRoom<K>) -> Result<(bool, bool), Fail>
+>(rt: R, alloc: Global, blank: BlankRoom<K>, meeting: Meeting) -> Result<Met, Fail>
     requires book { blank.book ≡ N.book }
     requires opening { blank.opening ≡ N.opening }
 {
     let (room, seats) = blank.open::<N, R>(rt)?;
-    Ok(read_while_held(&rt, alloc, &room, seats))
+    Ok(met_by(&rt, alloc, &room, seats, meeting))
 }
 
-// The same for a room of one seat in memory.
-fn read_in_memory<R: Threads + Wait + Copy + Send + Sync + Drop>(
+// The same for a room in memory.
+fn met_in_memory<R: Threads + Wait + Copy + Send + Sync + Drop>(
     rt: R,
     alloc: Global,
-) -> Result<(bool, bool), Fail> {
-    let blank = room_in_memory(alloc, Bench::of(1))?;
-    read_in::<Brand, _, _>(rt, alloc, blank)
+    meeting: Meeting,
+) -> Result<Met, Fail> {
+    let blank = room_in_memory(alloc, Bench::of(meeting.seats))?;
+    met_in::<Brand, _, _>(rt, alloc, blank, meeting)
 }
 
+// What is tried, how seats meet, and what has to come of it.
+const MEETINGS: &[(&str, Meeting, Met)] = &[
+    (
+        "two seats",
+        Meeting {
+            seats: 2,
+            deed: Deed::Join,
+            is_held: false,
+        },
+        Met {
+            are_first: true,
+            held_at: None,
+            version: 2,
+            is_shared: false,
+        },
+    ),
+    (
+        "eight at once",
+        Meeting {
+            seats: 8,
+            deed: Deed::Join,
+            is_held: false,
+        },
+        Met {
+            are_first: true,
+            held_at: None,
+            version: 8,
+            is_shared: false,
+        },
+    ),
+    (
+        "eight share syncs",
+        Meeting {
+            seats: 8,
+            deed: Deed::Join,
+            is_held: true,
+        },
+        Met {
+            are_first: true,
+            held_at: Some(0),
+            version: 8,
+            is_shared: true,
+        },
+    ),
+    (
+        "a read waits for nobody",
+        Meeting {
+            seats: 1,
+            deed: Deed::Read,
+            is_held: true,
+        },
+        Met {
+            are_first: true,
+            held_at: Some(1),
+            version: 1,
+            is_shared: true,
+        },
+    ),
+];
+
 #[test]
-fn reads_wait_for_nobody(rt: HostRuntime) -> Result<(), Fail> {
-    assert_eq!(rt; read_in_memory(rt, rt.alloc())?, (true, true));
+fn at_once(rt: HostRuntime) -> Result<(), Fail> {
+    for (tried, meeting, wanted) in MEETINGS {
+        if met_in_memory(rt, rt.alloc(), *meeting)? != *wanted {
+            return Err(Fail::from(*tried));
+        }
+    }
     Ok(())
 }
