@@ -8,7 +8,7 @@ ghost use Rattle.canvas_desk.specs.Crashes.{FindsSeen};
 ghost use Rattle.canvas_desk.specs.Judging.{IsEntryFor};
 ghost use Rattle.canvas_desk_tests.specs.Crashes.{IsLeftFrom};
 
-use crate::desks::{DeskTest, MemDesk, pages, told_by};
+use crate::desks::{MemDesk, pages};
 use canvas_board::{Receipt, RoomName};
 use canvas_desk::{Desk, SubmitError, found_after_every_crash};
 use canvas_journal::{Keeper, open};
@@ -92,44 +92,16 @@ fn found_after_crash<N: RoomName, W: Wait>(
     }
 }
 
-// A Join, after which client 1 submits edits, and then a crash.
-#[derive(Clone, Copy)]
-struct Crashing;
-
-impl DeskTest for Crashing {
-    // The version of the receipt of the Join, and the version that is found after the crash.
-    type Told = (u64, u64);
-
-    fn ask<N: RoomName, W: Wait>(
-        &self,
-        rt: &W,
-        alloc: Global,
-        desk: &mut MemDesk<'_, N, W>,
-    ) -> Result<(u64, u64), Fail> {
-        let edits = pages(alloc, 1, &[1, 2])?;
-        let joined = joined_before(rt, desk, &edits)?;
-        if !desk.has_failed() && edits.len() <= 64 {
-            submit_all(rt, desk, &edits);
-        }
-        Ok((joined, found_after_crash(alloc, desk)?))
+/// The version of the receipt of a Join, after which client 1 submits edits, and the version that is found after a crash then.
+pub fn versions_by<N: RoomName, W: Wait>(
+    rt: &W,
+    alloc: Global,
+    desk: &mut MemDesk<'_, N, W>,
+) -> Result<(u64, u64), Fail> {
+    let edits = pages(alloc, 1, &[1, 2])?;
+    let joined = joined_before(rt, desk, &edits)?;
+    if !desk.has_failed() && edits.len() <= 64 {
+        submit_all(rt, desk, &edits);
     }
-}
-
-#[test]
-fn found_after_crashes(rt: HostRuntime) -> Result<(), Fail> {
-    let wanted = [
-        (None, 3),
-        (Some(7), 1),
-        (Some(8), 1),
-        (Some(9), 2),
-        (Some(10), 2),
-    ];
-    for (failing, version) in wanted {
-        assert_eq!(rt;
-            told_by(&rt, rt.alloc(), failing, &Crashing)?,
-            (1, version),
-            "at {failing:?}"
-        );
-    }
-    Ok(())
+    Ok((joined, found_after_crash(alloc, desk)?))
 }

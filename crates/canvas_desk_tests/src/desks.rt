@@ -1,10 +1,11 @@
-//! Desks to ask, and what they are asked.
+//! Desks to ask.
 ghost use Rattle.std.specs.Prelude.{◌≡◌, [], IsTrue, false};
 ghost use Rattle.canvas_desk.specs.Desks.{IsKeptAt};
 ghost use Rattle.canvas_desk_tests.specs.Desks.{first};
 ghost use Rattle.canvas_journal.specs.Meaning.{opening};
 ghost use Rattle.canvas_shelf.specs.Shelved.{disk_of};
 
+use crate::trials::{Asked, is_answered};
 use canvas_board::{Blank, Opening, Receipt, RoomName, open_board};
 use canvas_desk::{Desk, SubmitError};
 use canvas_journal::{Journal, Keeper, open};
@@ -70,49 +71,35 @@ fn desk_on<'a, N: RoomName, W: Wait>(
     }
 }
 
-/// What is asked of a desk, which is lent.
-pub trait DeskTest {
-    /// What it tells.
-    type Told;
-
-    /// Asks a desk with no entry.
-    fn ask<N: RoomName, W: Wait>(
-        &self,
-        rt: &W,
-        alloc: Global,
-        desk: &mut MemDesk<'_, N, W>,
-    ) -> Result<Self::Told, Fail>;
-}
-
-// What a test tells of a desk on this shelf.
-fn told_under<N: RoomName, W: Wait, T: DeskTest>(
+// What a desk with no entry on this shelf answers.
+fn answers_under<N: RoomName, W: Wait>(
     rt: &W,
     alloc: Global,
     blank: Blank,
     shelf: MemShelf,
-    test: &T,
-) -> Result<T::Told, Fail>
+    asked: &Asked,
+) -> Result<bool, Fail>
     requires book { blank.seen.book ≡ N.book }
     requires opening { N.opening ≡ first }
     requires empty { disk_of shelf ≡ [] }
 {
     let shared = Mutex::new(desk_on::<N, W>(rt, alloc, blank, shelf)?);
-    test.ask(rt, alloc, &mut shared.lock(rt))
+    is_answered(rt, alloc, &mut shared.lock(rt), asked)
 }
 
-/// What a test tells of a new desk, of whose shelf that call fails, if one is to fail.
-pub fn told_by<W: Wait, T: DeskTest>(
+/// Whether a new desk, of whose shelf that call fails, if one is to fail, answers as it has to.
+pub fn answers<W: Wait>(
     rt: &W,
     alloc: Global,
     failing: Option<u64>,
-    test: &T,
-) -> Result<T::Told, Fail> {
+    asked: &Asked,
+) -> Result<bool, Fail> {
     let shelf = empty_shelf(alloc, failing);
-    told_under::<Brand, W, T>(rt, alloc, Blank::new(), shelf, test)
+    answers_under::<Brand, W>(rt, alloc, Blank::new(), shelf, asked)
 }
 
-/// The request of a client's edit that makes a page with the edit's number as its counter.
-pub fn page(alloc: Global, client: u32, seq: u64) -> Result<Request, Fail> {
+// The request of a client's edit that makes a page with the edit's number as its counter.
+fn page(alloc: Global, client: u32, seq: u64) -> Result<Request, Fail> {
     let change = new_page(alloc, object(client, (seq % 1000) as u32))?;
     Ok(Request::Edit {
         client,
@@ -157,7 +144,7 @@ pub fn calls_of<N: RoomName, W: Wait>(desk: &MemDesk<'_, N, W>) -> usize {
 }
 
 /// What calls of a shelf come to.
-#[derive(Clone, Copy, Debug, PartialEq, Eq)]
+#[derive(Clone, Copy, PartialEq, Eq)]
 pub enum Calls {
     /// There are none.
     Nothing,

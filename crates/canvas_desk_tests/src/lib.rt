@@ -7,3 +7,5 @@ mod batches;
 mod crashes;
 #[cfg(test)]
 mod desks;
+#[cfg(test)]
+mod trials;
