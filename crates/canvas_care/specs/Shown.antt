@@ -6,7 +6,7 @@ use Rattle.canvas_model.specs.Document.{Doc}
 use Rattle.canvas_shelf.specs.Disk.{Segment, seen}
 use Rattle.canvas_journal.specs.Meaning.{Versioned}
 use Rattle.canvas_journal.specs.Found.{Finds, IsState}
-use Rattle.canvas_report.specs.Reports.{IsReportText}
+use Rattle.canvas_lines.specs.Reports.{IsReportText}
 use Rattle.canvas_care.specs.Texts.{rows_text}
 use Rattle.canvas_care.specs.declared.rows.Layout.{Layout}
 

@@ -2,15 +2,14 @@
 ghost use Rattle.std.specs.Prelude.{◌≡◌, ℕ, IfErr, IfOk, IsErrOf, IsTrue, OnOk};
 ghost use Rattle.canvas_journal.specs.Found.{Finds, IsDamaged};
 ghost use Rattle.canvas_shelf.specs.Disk.{seen};
-ghost use Rattle.canvas_report.specs.Reports.{WritesReport};
+ghost use Rattle.canvas_lines.specs.Reports.{WritesReport};
 ghost use Rattle.canvas_care.specs.Shown.{WritesRows, WritesRowsOf, WritesTreeOf};
 
 use crate::fault::Fault;
 use crate::folders::existing;
 use crate::rows::{Layout, rows_text};
 use canvas_journal::look;
-use canvas_lines::write_out;
-use canvas_report::report_text;
+use canvas_lines::{report_text, write_out};
 use canvas_shelf::Shelf;
 use std::alloc::Global;
 use std::fs::File;

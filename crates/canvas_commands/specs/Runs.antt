@@ -1,8 +1,8 @@
 -- What the program did, by what its words ask for.
 use Rattle.std.specs.Prelude.{◌≡◌, ◌⊎◌, ℕ, List, [], ◌∷◌, ◌++◌, codes, Option, Some, None, string_bytes}
 use Rattle.std.specs.Io.KnownBytes.{Appends}
-use Rattle.canvas_address.specs.declared.AddressError.{AddressError}
-use Rattle.canvas_address.specs.declared.AddressError.TheVariants.{NotAUrl, NotAName, Memory}
+use Rattle.canvas_identity.specs.declared.address.AddressError.{AddressError}
+use Rattle.canvas_identity.specs.declared.address.AddressError.TheVariants.{NotAUrl, NotAName, Memory}
 use Rattle.canvas_care.specs.Begun.{WritesBegun, WritesImported}
 use Rattle.canvas_care.specs.Checks.{WritesCheck, WritesShelf}
 use Rattle.canvas_care.specs.Faults.{Ends}
@@ -10,7 +10,7 @@ use Rattle.canvas_care.specs.Logs.{WritesLog}
 use Rattle.canvas_care.specs.Shown.{WritesRows}
 use Rattle.canvas_care.specs.declared.rows.Layout.{Layout}
 use Rattle.canvas_remote.specs.Faults as remote
-use Rattle.canvas_report.specs.Reports.{WritesReport}
+use Rattle.canvas_lines.specs.Reports.{WritesReport}
 use Rattle.canvas_words.specs.declared.asked.Asked.{Asked}
 use Rattle.canvas_words.specs.declared.asked.Asked.TheVariants.{Serve, Show, Import, Restore, Move, Check, Log}
 use Rattle.canvas_words.specs.declared.asked.Place.{Place}

@@ -5,7 +5,7 @@ ghost use Rattle.canvas_care.specs.Checks.{WritesCheck};
 ghost use Rattle.canvas_care.specs.Faults.{Ends};
 ghost use Rattle.canvas_care.specs.Logs.{WritesLog};
 ghost use Rattle.canvas_care.specs.Shown.{WritesRows};
-ghost use Rattle.canvas_report.specs.Reports.{WritesReport};
+ghost use Rattle.canvas_lines.specs.Reports.{WritesReport};
 
 use canvas_care::{
     Layout, begin_folder, check, finish, import_folder, log, read_backup, show_rows, show_tree,

@@ -6,10 +6,10 @@ ghost use Rattle.canvas_care.specs.Faults as folder;
 ghost use Rattle.canvas_care.specs.Logs.{WritesLog};
 ghost use Rattle.canvas_care.specs.Shown.{WritesRows};
 ghost use Rattle.canvas_remote.specs.Faults.{Ends};
-ghost use Rattle.canvas_report.specs.Reports.{WritesReport};
+ghost use Rattle.canvas_lines.specs.Reports.{WritesReport};
 
-use canvas_address::Address;
 use canvas_care::Layout;
+use canvas_identity::Address;
 use canvas_remote::{
     MoveFault, check, finish, import_document, log, move_in, move_out, show_rows, show_tree,
 };

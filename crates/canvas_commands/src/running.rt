@@ -7,10 +7,10 @@ use crate::caring::{run_check, run_import, run_log, run_restore, run_rows, run_t
 use crate::remote::{
     check_remote, import_remote, log_remote, run_move, show_remote_rows, show_remote_tree,
 };
-use canvas_address::AddressError;
 use canvas_care::Layout;
 use canvas_faults::{Fault, Told};
 use canvas_host::serve;
+use canvas_identity::AddressError;
 use canvas_words::{Asked, Options, Place, WordsError, read_words};
 use std::alloc::{AllocError, Global};
 use std::io::{Eprint, Print, Read, Write};

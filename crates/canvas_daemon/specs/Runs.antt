@@ -6,7 +6,7 @@ use Rattle.canvas_daemon.specs.Faults.{IsEnd}
 use Rattle.canvas_daemon.specs.Words.{Asked, AsksServe, AsksEdit, AsksShow, AsksTrial, AskFor}
 use Rattle.canvas_daemon.specs.Served.{BeginsServing, IsServeFault, WritesServed}
 use Rattle.canvas_daemon.specs.Shown.{IsShowFault}
-use Rattle.canvas_report.specs.Reports.{WritesReport}
+use Rattle.canvas_lines.specs.Reports.{WritesReport}
 use Rattle.canvas_daemon.specs.Trials.{WritesTrial}
 use Rattle.canvas_daemon.specs.Edited.{IsLeftBy, IsPlayed}
 

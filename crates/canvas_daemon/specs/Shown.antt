@@ -1,7 +1,7 @@
 -- What `canvasd show` writes.
 use Rattle.std.specs.Prelude.{ℕ, List, Option}
 use Rattle.std.specs.Io.KnownBytes.{Appends}
-use Rattle.canvas_report.specs.Reports.{IsReportText}
+use Rattle.canvas_lines.specs.Reports.{IsReportText}
 use Rattle.canvas_shelf.specs.Disk.{Segment, seen}
 use Rattle.canvas_journal.specs.Meaning.{Versioned}
 use Rattle.canvas_journal.specs.Found.{Finds, IsState}

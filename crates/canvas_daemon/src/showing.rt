@@ -3,14 +3,13 @@ ghost use Rattle.std.specs.Prelude.{◌≡◌, ℕ, IfErr, IfOk, IsErrOf, IsTrue
 ghost use Rattle.canvas_journal.specs.Found.{Finds, IsDamaged};
 ghost use Rattle.canvas_shelf.specs.Disk.{seen};
 ghost use Rattle.canvas_shelf.specs.Moments.{CountsFailure};
-ghost use Rattle.canvas_report.specs.Reports.{IsReport, WritesReport};
+ghost use Rattle.canvas_lines.specs.Reports.{IsReport, WritesReport};
 ghost use Rattle.canvas_daemon.specs.Shown.{IsReportOf, IsShowFault, WritesReportOf};
 
 use crate::fault::Fault;
 use canvas_folder::DirShelf;
 use canvas_journal::look;
-use canvas_lines::write_out;
-use canvas_report::report_text;
+use canvas_lines::{report_text, write_out};
 use canvas_shelf::Shelf;
 use std::alloc::Global;
 use std::fs::File;

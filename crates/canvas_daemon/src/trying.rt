@@ -2,7 +2,7 @@
 ghost use Rattle.std.specs.Prelude.{◌≡◌, ◌↔◌, IfErr, IfOk, IsTrue, Result, string_bytes};
 ghost use Rattle.canvas_daemon.specs.Faults.{IsMemoryOrDevice};
 ghost use Rattle.canvas_daemon.specs.Served.{IsServeFault};
-ghost use Rattle.canvas_report.specs.Reports.{IsReportText};
+ghost use Rattle.canvas_lines.specs.Reports.{IsReportText};
 ghost use Rattle.canvas_daemon.specs.Trials.{WritesTrial, equal_word, trial_line};
 
 use crate::editing::connect;
@@ -13,8 +13,7 @@ use canvas_board::RoomName;
 use canvas_client::{Client, EditError};
 use canvas_doc::{Kind, ObjId};
 use canvas_journal::Keeper;
-use canvas_lines::write_out;
-use canvas_report::report_text;
+use canvas_lines::{report_text, write_out};
 use canvas_room::{BlankRoom, Lock, Seat};
 use std::alloc::{AllocError, Global};
 use std::io::Write;

@@ -6,11 +6,11 @@ ghost use Rattle.canvas_journal.specs.Meaning.{opening};
 ghost use Rattle.canvas_shelf.specs.Shelved.{disk_of};
 
 use crate::trials::{Asked, is_answered};
+use canvas_benches::{new_page, object};
 use canvas_board::{Blank, Opening, Receipt, RoomName, open_board};
 use canvas_desk::{Desk, SubmitError};
 use canvas_journal::{Journal, Keeper, open};
 use canvas_judge::State;
-use canvas_samples::{new_page, object};
 use canvas_server::{Request, Server};
 use canvas_shelf::{Call, MemShelf};
 use std::alloc::Global;

@@ -1,5 +1,4 @@
 -- Meant for the crates above too.
-pub mod Members
 pub mod Forms
 pub mod RowForms
 pub mod Orders

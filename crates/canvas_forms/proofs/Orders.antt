@@ -1,13 +1,10 @@
--- Rows in order, by their JSON trees.
+-- What is written of rows in order.
 use Rattle.std.proofs.Common.{◌≡◌, ◌≢◌, ℕ, zero, suc, ◌+◌, ◌<◌, ◌⊎◌, inl, inr, pos, Bool, true, false, true≢false, cond, ◌&&◌, List, [], ◌∷◌, length, get_or, Option, Some, None, T, codes, bytes_eq, refl, ap, sym, ◌∙◌, arith, add-one}
 use Rattle.std.specs.Prelude.{IsTrue, is_some, not}
 use Rattle.std.specs.List.{list_all, IsAllAdjacentAnswer}
 use Rattle.std.specs.Ordering.{nat_cmp, int_cmp, ordering_then, is_lt, is_eq}
 use Rattle.std.specs.FinMap as map
 use Rattle.std.proofs.lemmas.Cmp.{tied_itself}
-use Rattle.serde_json.specs.Data.{Items, no_items, item}
-use Rattle.serde_json.specs.View.{view, items_view}
-use Rattle.serde_json.specs.declared.value.Value.{Value as Json}
 use Rattle.canvas_model.specs.declared.ObjId.{ObjId}
 use Rattle.canvas_model.specs.declared.Kind.{Kind}
 use Rattle.canvas_model.specs.declared.Kind.TheVariants.{Document, Page, Frame, Shape, Text}
@@ -20,52 +17,11 @@ use Rattle.canvas_doc.proofs.Searched.{second, head_below, below_at, rising_answ
 use Rattle.canvas_doc.proofs.Whole.{rooted_is_document}
 use Rattle.canvas_value.specs.Parts.{each_written, maybe_written}
 use Rattle.canvas_value.proofs.Forms.{both_hold, both_true}
-use Rattle.canvas_forms.specs.JsonTree.{count}
 use Rattle.canvas_forms.specs.Places.{place_form}
 use Rattle.canvas_forms.specs.Rows.{row_form, rows_form}
-use Rattle.canvas_forms.specs.RowOrder.{wide_cmp, wide_root, two_in, four_in, head_in, is_given, is_root, is_row, is_after, are_after, are_each_after, are_in_order}
-use Rattle.canvas_forms.specs.declared.order.WideId.{WideId}
-use Rattle.canvas_forms.specs.declared.order.RowHead.{RowHead}
-
--- ---- members of another number
-
-pub not_two : (ds : Items) → count ds ≢ 2 → two_in ds ≡ None
-not_two no_items n = refl
-not_two (item a no_items) n = refl
-not_two (item a (item b no_items)) n = absurd (n refl)
-not_two (item a (item b (item c ds))) n = refl
-
-pub not_four : (ds : Items) → count ds ≢ 4 → four_in ds ≡ None
-not_four no_items n = refl
-not_four (item a no_items) n = refl
-not_four (item a (item b no_items)) n = refl
-not_four (item a (item b (item c no_items))) n = refl
-not_four (item a (item b (item c (item d no_items)))) n = absurd (n refl)
-not_four (item a (item b (item c (item d (item e ds))))) n = refl
-
--- ---- neighbours
-
-each_after : (vs : List Json) → ((k : ℕ) (d : Json) → k + 1 < length vs → true ≡ is_after (head_in (view (get_or vs k d))) (head_in (view (get_or vs (k + 1) d)))) → are_each_after (items_view vs) ≡ true
-each_after [] h = refl
-each_after (v ∷ []) h = refl
-each_after (v ∷ w ∷ vs) h =
-    both_true _ _ (sym (h 0 v (omega arith))) (each_after (w ∷ vs) (λ k d lt. rw add-one (rw add-one at (h (suc k) d (omega (arith, lt))))))
-
-not_after : (vs : List Json) (k : ℕ) → k + 1 < length vs → ((d : Json) → false ≡ is_after (head_in (view (get_or vs k d))) (head_in (view (get_or vs (k + 1) d)))) → are_each_after (items_view vs) ≡ false
-not_after [] k lt h = absurd (omega (arith, lt))
-not_after (v ∷ []) k lt h = absurd (omega (arith, lt))
-not_after (v ∷ w ∷ vs) zero lt h = rw (sym (h v)) refl
-not_after (v ∷ w ∷ vs) (suc k) lt h =
-    let rest = not_after (w ∷ vs) k (omega (arith, lt)) (λ d. rw add-one (rw add-one at (h d))) in
-    rw rest (and_false (is_after (head_in (view v)) (head_in (view w))))
-  where
-    and_false : (a : Bool) → (a && false) ≡ false
-    and_false true = refl
-    and_false false = refl
-
-pub after_answer : (vs : List Json) (r : Bool) → IsAllAdjacentAnswer (λ v w b. b ≡ is_after (head_in (view v)) (head_in (view w))) vs r → r ≡ are_each_after (items_view vs)
-after_answer vs true h = sym (each_after vs h)
-after_answer vs false h = sym (not_after vs h.0 h.1 h.2)
+use Rattle.canvas_json.specs.RowOrder.{wide_cmp, wide_root, head_in, is_given, is_root, is_row, is_after, are_after, are_in_order}
+use Rattle.canvas_json.specs.declared.order.WideId.{WideId}
+use Rattle.canvas_json.specs.declared.order.RowHead.{RowHead}
 
 -- ---- what is written of rows
 

@@ -1,12 +1,11 @@
 pub mod Version
 pub mod Numbered
 pub mod Only
-pub mod JsonTree
 pub mod Ids
 pub mod Kinds
 pub mod Places
 pub mod Changes
 pub mod Outcomes
 pub mod Rows
-pub mod RowOrder
+pub mod InOrder
 pub mod Shallow

@@ -6,9 +6,7 @@
 
 pub mod changes;
 mod ids;
-pub mod json_tree;
 mod kinds;
-mod order;
 pub mod outcomes;
 mod places;
 pub mod rows;

@@ -4,11 +4,10 @@ ghost use Rattle.canvas_http.specs.Identities.{IsIdentity};
 ghost use Rattle.canvas_faults.specs.Faults.{IsNamingFault, IsOpeningFault, of_document};
 
 use crate::opening::{Counted, OpenRoom, room_of};
-use canvas_address::Address;
 use canvas_etcd::EtcdShelf;
 use canvas_faults::Fault;
 use canvas_gateway::copy_hosts;
-use canvas_identity::{identity_in, made_identity};
+use canvas_identity::{Address, identity_in, made_identity};
 use canvas_places::{DocumentShelf, NoWitness};
 use canvas_store::{EtcdStore, Lease};
 use canvas_watch::Watched;

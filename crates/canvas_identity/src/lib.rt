@@ -1,12 +1,15 @@
-//! Which document a folder holds: 128 random bits as 32 hex digits, in the file `identity` beside the segments.
+//! Which document it is. A folder's is told by 128 random bits as 32 hex digits, in the file `identity` beside the segments, and where
+//! one in an etcd is, by the hosts and its name.
 #![tactic(auto)]
 
+mod address;
 mod error;
 mod files;
 
 ghost use Rattle.std.specs.Prelude.{IfOk, string_bytes};
 ghost use Rattle.canvas_http.specs.Identities.{IsIdentity};
 
+pub use address::{Address, AddressError};
 use canvas_http::is_identity;
 pub use error::IdentityError;
 pub use files::{identity, keep_identity, made_identity, read_identity, remove_identity};

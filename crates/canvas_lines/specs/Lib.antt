@@ -3,6 +3,7 @@ pub mod Errors
 pub mod Faults
 pub mod Lines
 pub mod Reading
+pub mod Reports
 pub mod Seen
 pub mod Spelling
 pub mod Verbs

@@ -1,17 +1,17 @@
 // The commands that care for a document in an etcd.
 ghost use Rattle.std.specs.Prelude.{◌≡◌, IfErr, OnOk};
 ghost use Rattle.std.specs.Io.KnownBytes.{Appends};
-ghost use Rattle.canvas_report.specs.Reports.{WritesReport};
+ghost use Rattle.canvas_lines.specs.Reports.{WritesReport};
 ghost use Rattle.canvas_care.specs.Begun.{WritesImported, begun_line};
 ghost use Rattle.canvas_care.specs.Checks.{WritesShelf};
 ghost use Rattle.canvas_care.specs.Logs.{WritesLog};
 ghost use Rattle.canvas_care.specs.Shown.{WritesRows};
 
 use crate::opening::{existing, taken};
-use canvas_address::Address;
 use canvas_care::{
     Fault, Layout, check_shelf, import, log_shelf, plant, show_rows_of, show_tree_of,
 };
+use canvas_identity::Address;
 use canvas_judge::State;
 use canvas_lines::write_out;
 use std::alloc::Global;

@@ -5,10 +5,11 @@ ghost use Rattle.canvas_care.specs.Begun.{WritesBegun};
 use crate::carrying::carry;
 use crate::commands::tell_begun;
 use crate::opening::{Remote, fault_of_store, taken};
-use canvas_address::Address;
 use canvas_care::{Fault, check};
 use canvas_folder::{DirShelf, OsFolder};
-use canvas_identity::{IdentityError, identity_in, keep_identity, read_identity, remove_identity};
+use canvas_identity::{
+    Address, IdentityError, identity_in, keep_identity, read_identity, remove_identity,
+};
 use canvas_judge::State;
 use canvas_shelf::Shelf;
 use canvas_store::{Lease, StoreError};

@@ -2,10 +2,10 @@
 ghost use Rattle.std.specs.Prelude.{◌≡◌};
 ghost use Rattle.canvas_remote.specs.Faults.{fault_of_etcd};
 
-use canvas_address::Address;
 use canvas_care::Fault;
 use canvas_etcd::{EtcdError, EtcdShelf};
 use canvas_gateway::copy_hosts;
+use canvas_identity::Address;
 use canvas_shelf::Shelf;
 use canvas_store::{EtcdStore, Lease, StoreError};
 use std::net::{Net, TcpStream};

@@ -1,11 +1,10 @@
 //! What one seat does.
-use canvas_benches::SeatOf;
+use canvas_benches::{SeatOf, new_page, object};
 use canvas_board::RoomName;
 use canvas_desk::SubmitError;
 use canvas_journal::Keeper;
 use canvas_judge::{Entry, Outcome};
 use canvas_room::Seat;
-use canvas_samples::{new_page, object};
 use canvas_server::Request;
 use std::alloc::Global;
 use std::sync::Wait;

@@ -1,8 +1,8 @@
 // What the program is asked to do.
 ghost use Rattle.std.specs.Prelude.{◌≡◌};
 
-use canvas_address::Address;
 use canvas_care::Layout;
+use canvas_identity::Address;
 
 /// Where a document is.
 #[derive(Debug)]

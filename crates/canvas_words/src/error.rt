@@ -1,5 +1,5 @@
 // Why words ask for nothing.
-use canvas_address::AddressError;
+use canvas_identity::AddressError;
 use clap::Error;
 use std::alloc::{AllocError, AllocFailed};
 

@@ -2,8 +2,8 @@
 
 use crate::asked::{Asked, Options, Place, Serving};
 use crate::error::WordsError;
-use canvas_address::{Address, AddressError};
 use canvas_care::Layout;
+use canvas_identity::{Address, AddressError};
 use clap::{Arg, ArgAction, ArgGroup, ArgMatches, Command, value_parser};
 use std::alloc::{AllocError, Global};
 

@@ -1,8 +1,15 @@
 //! `rally` has clients edit the document of a folder at once, in one process and without sockets, and tells whether they agree.
 #![tactic(auto)]
 
+mod fault;
+mod page;
+mod rallying;
+mod running;
+mod words;
+
+use crate::fault::end;
+use crate::running::run;
 use canvas_daemon::Fault;
-use canvas_rally::{end, run};
 use std::env;
 use std::io::{self, ErrorKind};
 use std::process::ExitCode;

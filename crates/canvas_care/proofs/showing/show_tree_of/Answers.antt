@@ -1,7 +1,7 @@
 use Rattle.std.proofs.Common.{List, ℕ, subst}
 use Rattle.std.specs.Io.KnownBytes.{Appends}
 use Rattle.canvas_model.specs.Document.{Doc}
-use Rattle.canvas_report.specs.Reports.{IsReportText}
+use Rattle.canvas_lines.specs.Reports.{IsReportText}
 use Rattle.canvas_care.proofs.showing.show_tree_of.Goals as goal
 
 pub returns-clause-found : goal.returns-clause-found

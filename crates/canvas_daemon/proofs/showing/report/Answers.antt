@@ -1,6 +1,6 @@
 use Rattle.std.proofs.Common.{subst}
 use Rattle.canvas_model.specs.Document.{Doc}
-use Rattle.canvas_report.specs.Reports.{IsReportText}
+use Rattle.canvas_lines.specs.Reports.{IsReportText}
 use Rattle.canvas_daemon.proofs.showing.report.Goals as goal
 
 pub returns-clause-found : goal.returns-clause-found

@@ -1,0 +1,2 @@
+pub mod JsonTree
+pub mod RowOrder

@@ -1,5 +1,0 @@
-use Rattle.canvas_rally.specs.Pages.{AsksForPage}
-use Rattle.canvas_rally.proofs.page.PagePlan.edits.Given as goal
-
-abbrev pub invariant-loop-n : goal.invariant-loop-n
-invariant-loop-n l = AsksForPage l.id l.n l.edits.items

@@ -1,7 +1,0 @@
-use Rattle.std.proofs.Common.{take}
-use Rattle.std.specs.Prelude.{All}
-use Rattle.canvas_rally.specs.Rallied.{AgreeWith}
-use Rattle.canvas_rally.proofs.rallying.agree_with.Given as goal
-
-abbrev pub invariant-loop-client : goal.invariant-loop-client
-invariant-loop-client l = All (AgreeWith l.first) (take l.client-index l.clients)
