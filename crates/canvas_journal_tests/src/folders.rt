@@ -1,136 +1,131 @@
-//! Folders as shelves, calls that are made of them, and what they hold.
-ghost use Rattle.std.specs.Prelude.{◌≡◌, false};
-
-use canvas_folder::{DirShelf, OsFolder};
-use canvas_shelf::{Shelf, ShelfError};
-use std::alloc::Global;
+// Shelves in real folders.
+use canvas_folder::{DirShelf, FolderError, OsFolder};
+use canvas_shelf::{CreateError, DeviceFailed, Shelf, ShelfError};
 use std::fs;
 use std::test::Fail;
 
-/// A call of a shelf.
-#[derive(Clone, Copy)]
-pub enum Call<'a> {
-    /// Makes a segment.
-    Create(u32),
-    /// Puts bytes at the end of a segment.
-    Append(u32, &'a [u8]),
-    /// Makes sure of a segment.
-    Sync(u32),
-    /// Takes a segment off the list.
-    Retire(u32),
-    /// Reads a segment, which has these bytes.
-    Read(u32, &'a [u8]),
-    /// Reads all that is listed: these segments with these bytes, the first one highest.
-    Holds(&'a [(u32, &'a [u8])]),
-}
-
-/// The shelf of a folder.
-pub fn shelf_in(rt: &HostRuntime, folder: &str) -> Result<DirShelf<OsFolder<HostRuntime>>, Fail> {
+// The shelf of a folder for writing.
+fn open(rt: &HostRuntime, folder: &str) -> Result<DirShelf<OsFolder<HostRuntime>>, Fail> {
     Ok(DirShelf::new(rt.clone()?, folder)?)
 }
 
-/// Makes a folder anew, where nothing stood or this test's own files did.
-pub fn renew(rt: &HostRuntime, folder: &str) -> Result<(), Fail> {
-    let _ = fs::remove_dir_all(rt, folder);
-    shelf_in(rt, folder)?;
+// Why there is no shelf of a folder for writing, if there is none.
+fn unmade(rt: &HostRuntime, folder: &str) -> Result<Option<FolderError>, Fail> {
+    Ok(DirShelf::new(rt.clone()?, folder).err())
+}
+
+// Why there is no shelf of a folder for reading, if there is none.
+fn missing(rt: &HostRuntime, folder: &str) -> Result<Option<FolderError>, Fail> {
+    Ok(DirShelf::existing(rt.clone()?, folder).err())
+}
+
+// A shelf's life: a segment, a newer one in its place, and what is there then.
+fn lives(rt: &HostRuntime, folder: &str) -> Result<bool, Fail> {
+    let mut shelf = open(rt, folder)?;
+    shelf.create(1)?;
+    shelf.append(1, b"abc")?;
+    shelf.sync(1)?;
+    shelf.create(2)?;
+    shelf.append(2, b"xyz")?;
+    shelf.sync(2)?;
+    shelf.retire(1)?;
+    let listed = shelf.list(rt.alloc())?;
+    let read = shelf.read(rt.alloc(), 2)?;
+    Ok(listed.as_slice() == [2].as_slice() && read.as_slice() == b"xyz".as_slice())
+}
+
+#[test]
+fn a_life(rt: HostRuntime) -> Result<(), Fail> {
+    let folder = "folder-life";
+    let _ = fs::remove_dir_all(&rt, folder);
+    assert!(rt; lives(&rt, folder)?);
+    let mut again = open(&rt, folder)?;
+    again.append(2, b".")?;
+    let read = again.read(rt.alloc(), 2)?;
+    assert!(rt; read.as_slice() == b"xyz.".as_slice());
+    assert_eq!(rt; again.create(0), Err(CreateError::Device));
+    assert_eq!(rt; again.failures(), 1);
+    let _ = fs::remove_dir_all(&rt, folder);
     Ok(())
 }
 
-/// Writes a file of a folder.
-pub fn write(rt: &HostRuntime, folder: &str, name: &str, bytes: &[u8]) -> Result<(), Fail> {
-    let path = format!(in rt.alloc(); "{folder}/{name}")?;
-    fs::write(rt, path.as_str(), bytes)?;
+#[test]
+fn a_second_shelf(rt: HostRuntime) -> Result<(), Fail> {
+    let folder = "folder-second";
+    let _ = fs::remove_dir_all(&rt, folder);
+    let first = open(&rt, folder)?;
+    assert_eq!(rt; unmade(&rt, folder)?, Some(FolderError::InUse));
+    assert_eq!(rt; missing(&rt, folder)?, None);
+    drop(first);
+    assert_eq!(rt; unmade(&rt, folder)?, None);
+    let _ = fs::remove_dir_all(&rt, folder);
     Ok(())
 }
 
-/// Whether a file of a folder holds these bytes.
-pub fn is_file(rt: &HostRuntime, folder: &str, name: &str, bytes: &[u8]) -> Result<bool, Fail> {
-    let path = format!(in rt.alloc(); "{folder}/{name}")?;
-    let read = fs::read(rt, path.as_str())?;
-    Ok(read.as_slice() == bytes)
+// Whether a shelf for reading changes nothing beside one for writing.
+fn changes_nothing(rt: &HostRuntime, folder: &str) -> Result<bool, Fail> {
+    let mut writing = open(rt, folder)?;
+    writing.create(7)?;
+    let mut reading = DirShelf::existing(rt.clone()?, folder)?;
+    let failed = reading.create(8) == Err(CreateError::Device)
+        && reading.append(7, b"x") == Err(DeviceFailed)
+        && reading.sync(7) == Err(DeviceFailed)
+        && reading.retire(7) == Err(DeviceFailed);
+    let read = reading.read(rt.alloc(), 7)?;
+    let listed = writing.list(rt.alloc())?;
+    Ok(
+        failed
+            && reading.failures() == 4
+            && read.as_slice().is_empty()
+            && listed.as_slice() == [7].as_slice(),
+    )
 }
 
-// Whether a shelf lists these segments, the first one highest, and reads these bytes of them.
-fn holds<S: Shelf>(
-    alloc: Global,
-    shelf: &mut S,
-    segments: &[(u32, &[u8])],
-) -> Result<bool, ShelfError>
-    requires { S.honest shelf.old ≡ false }
-    ensures { S.honest shelf.new ≡ S.honest shelf.old }
-{
-    let listed = shelf.list(alloc)?;
-    let mut wanted = segments.iter();
-    for number in &listed {
-        let bytes = shelf.read(alloc, *number)?;
-        if wanted.next() != Some(&(*number, bytes.as_slice())) {
-            return Ok(false);
-        }
-    }
-    Ok(wanted.next().is_none())
+#[test]
+fn a_reading_shelf(rt: HostRuntime) -> Result<(), Fail> {
+    let folder = "folder-reading";
+    let _ = fs::remove_dir_all(&rt, folder);
+    assert!(rt; changes_nothing(&rt, folder)?);
+    let _ = fs::remove_dir_all(&rt, folder);
+    Ok(())
 }
 
-// Whether a shelf reads these bytes of a segment.
-fn reads<S: Shelf>(
-    alloc: Global,
-    shelf: &mut S,
-    number: u32,
-    bytes: &[u8],
-) -> Result<bool, ShelfError>
-    requires { S.honest shelf.old ≡ false }
-    ensures { S.honest shelf.new ≡ S.honest shelf.old }
-{
-    let read = shelf.read(alloc, number)?;
-    Ok(read.as_slice() == bytes)
+// Whether a segment is listed and not read, since no regular file has its name.
+fn is_no_file(rt: &HostRuntime, folder: &str, number: u32) -> Result<bool, Fail> {
+    let mut shelf = open(rt, folder)?;
+    let listed = shelf.list(rt.alloc())?;
+    let read = shelf.read(rt.alloc(), number);
+    let appended = shelf.append(number, b"x");
+    Ok(
+        listed.as_slice() == [number].as_slice()
+            && read.err() == Some(ShelfError::Device)
+            && appended == Err(DeviceFailed)
+            && shelf.failures() == 2,
+    )
 }
 
-// Whether a shelf does what it is called for.
-fn does<S: Shelf>(alloc: Global, shelf: &mut S, call: Call) -> bool
-    requires { S.honest shelf.old ≡ false }
-    ensures { S.honest shelf.new ≡ S.honest shelf.old }
-{
-    match call {
-        Call::Create(number) => shelf.create(number).is_ok(),
-        Call::Append(number, bytes) => shelf.append(number, bytes).is_ok(),
-        Call::Sync(number) => shelf.sync(number).is_ok(),
-        Call::Retire(number) => shelf.retire(number).is_ok(),
-        Call::Read(number, bytes) => reads(alloc, shelf, number, bytes) == Ok(true),
-        Call::Holds(segments) => holds(alloc, shelf, segments) == Ok(true),
-    }
+#[test]
+fn a_folder_in_a_files_place(rt: HostRuntime) -> Result<(), Fail> {
+    let folder = "folder-place";
+    let _ = fs::remove_dir_all(&rt, folder);
+    fs::create_dir_all(&rt, "folder-place/segment-0000000003")?;
+    fs::create_dir_all(&rt, "folder-place/segment-0000000000")?;
+    assert!(rt; is_no_file(&rt, folder, 3)?);
+    let _ = fs::remove_dir_all(&rt, folder);
+    Ok(())
 }
 
-// The first of these calls of a shelf that isn't done though it is said to be, or the other way round.
-fn first_other<S: Shelf>(alloc: Global, shelf: &mut S, calls: &[(Call, bool)]) -> Option<usize>
-    requires { S.honest shelf.old ≡ false }
-{
-    for (i, (call, is_done)) in calls.iter().enumerate() {
-        if does(alloc, shelf, *call) != *is_done {
-            return Some(i);
-        }
-    }
-    None
-}
-
-// The same, and how many calls failed, as the shelf counts them.
-fn play<S: Shelf>(alloc: Global, shelf: &mut S, calls: &[(Call, bool)]) -> (Option<usize>, u64)
-    requires { S.honest shelf.old ≡ false }
-{
-    let other = first_other(alloc, shelf, calls);
-    (other, shelf.failures())
-}
-
-/// Makes calls of a shelf that is opened for that, each with whether it is done. The first of which this isn't so, and how many failed, as
-/// the shelf counts them.
-pub fn played(
-    rt: &HostRuntime,
-    folder: &str,
-    calls: &[(Call, bool)],
-) -> Result<(Option<usize>, u64), Fail> {
-    let mut shelf = shelf_in(rt, folder)?;
-    Ok(play(rt.alloc(), &mut shelf, calls))
-}
-
-/// Whether a folder's segments are these, the highest first, as a shelf opened anew reads them.
-pub fn is_there(rt: &HostRuntime, folder: &str, segments: &[(u32, &[u8])]) -> Result<bool, Fail> {
-    Ok(played(rt, folder, &[(Call::Holds(segments), true)])? == (None, 0))
+#[test]
+fn folders_that_are_made(rt: HostRuntime) -> Result<(), Fail> {
+    let device = Some(FolderError::Device);
+    let _ = fs::remove_dir_all(&rt, "folder-made");
+    assert_eq!(rt; missing(&rt, "folder-made")?, device);
+    assert_eq!(rt; unmade(&rt, "folder-made/deep/er/")?, None);
+    assert_eq!(rt; missing(&rt, "folder-made/deep/er")?, None);
+    fs::write(&rt, "folder-made/file", b"x")?;
+    assert_eq!(rt; missing(&rt, "folder-made/file")?, device);
+    assert_eq!(rt; unmade(&rt, "folder-made/file/below")?, device);
+    assert_eq!(rt; unmade(&rt, "")?, device);
+    let _ = fs::remove_dir_all(&rt, "folder-made");
+    Ok(())
 }

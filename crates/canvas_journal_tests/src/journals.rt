@@ -1,6 +1,6 @@
 //! Journals in real folders.
 use crate::bytes::{ABC, AFTER_JOIN, EMPTY, JOINED, JOINED_TWICE, OLD_JOINED};
-use crate::folders::{is_file, is_there, renew, shelf_in, write};
+use crate::documents::{is_file, is_there, renew, shelf_in, write};
 use canvas_journal::{KeepError, Keeper, OpenError, open};
 use canvas_judge::{Entry, Outcome, State, What};
 use std::fs;

@@ -4,7 +4,7 @@ ghost use Rattle.canvas_shelf.specs.Disk.{is_listed};
 ghost use Rattle.canvas_shelf.specs.Shelved.{disk_of};
 
 use crate::bytes::JOINED;
-use crate::folders::{renew, shelf_in, write};
+use crate::documents::{renew, shelf_in, write};
 use canvas_shelf::{MemShelf, Shelf, ShelfError};
 use refusing::Refusing;
 use std::alloc::Global;

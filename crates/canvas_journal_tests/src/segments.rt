@@ -1,5 +1,5 @@
 //! Shelves in real folders.
-use crate::folders::{Call, is_there, played, renew, shelf_in, write};
+use crate::documents::{Call, is_there, played, renew, shelf_in, write};
 use canvas_folder::{DirShelf, FolderError};
 use std::fs;
 use std::test::Fail;

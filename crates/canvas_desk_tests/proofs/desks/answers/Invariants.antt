@@ -1,6 +1,0 @@
-use Rattle.canvas_desk_tests.specs.Desks.{first}
-use Rattle.canvas_desk_tests.proofs.desks.answers.Given as goal
-
--- the room that was just made
-abbrev pub ghosts-answers_under : goal.ghosts-answers_under
-ghosts-answers_under g a = record { book = a.blank.seen.book; opening = first }
