@@ -436,9 +436,16 @@ const sleeper = (milliseconds) => {
   return { slept, wake: () => { clearTimeout(timer); wake(); } };
 };
 
+// The URL with a slash at its path's end, so that what is below it is the server's: a proxy may have it below a path.
+const folderOf = (url) => {
+  const at = new URL(url);
+  if (!at.pathname.endsWith('/')) at.pathname += '/';
+  return at;
+};
+
 // A client's way to a server: it joins, sends what waits, asks for what is new, and connects again where the connection is lost.
 //
-// `url` is the server's, as ws://127.0.0.1:7411/. `told` has functions, each of which may be left out: `state(link)` when the state is
+// `url` is the server's, as ws://127.0.0.1:7411/ or wss://canvas.example/drawing/. `told` has functions, each of which may be left out: `state(link)` when the state is
 // another, `changed()` when the client took something, `refused(refusal)` when the server refused an edit of the client's, and `sends()`
 // before an edit is sent, which waits for what that answers: so a program can keep the client first.
 export class Link {
@@ -446,7 +453,7 @@ export class Link {
 
   constructor(client, url, told = {}, options = {}) {
     this.client = client;
-    this.url = new URL(url);
+    this.url = folderOf(url);
     this.state = 'connecting';
     this.words = '';
     this.document = options.document || null;      // the identity of the document, once it is known
@@ -500,7 +507,7 @@ export class Link {
     if (this.#ended) this.#tell('closed');
   }
 
-  // The server's answer to a GET of this path, or null. Other servers than `lugcurrant` have none.
+  // The server's answer to a GET of this path below its own, or null. Other servers than `lugcurrant` have none.
   async #get(path) {
     try {
       const at = new URL(path, this.url);
@@ -512,7 +519,7 @@ export class Link {
 
   // Connects to the very document of which the client has heard; whether it could.
   async #connect() {
-    const identity = this.#asksDocument ? await this.#get('/document') : null;
+    const identity = this.#asksDocument ? await this.#get('document') : null;
     if (this.#isTold && !identity) return false;                 // it has told its identity before: it is away
     if (identity && /^[0-9a-f]{32}$/.test(identity)) {
       if (this.document && this.document !== identity) {
@@ -522,7 +529,7 @@ export class Link {
       this.document = identity;
       this.#isTold = true;
     }
-    const at = this.document ? new URL(`/document/${this.document}`, this.url) : this.url;
+    const at = this.document ? new URL(`document/${this.document}`, this.url) : this.url;
     this.#inbox = [];
     return new Promise((resolve) => {
       const socket = new this.#Socket(at.href.replace(/^http/, 'ws'));
@@ -537,7 +544,7 @@ export class Link {
 
   // Why there is no connection. A browser isn't told, so the server is asked how it is.
   async #tellWhy() {
-    const health = this.#asksDocument ? await this.#get('/health') : null;
+    const health = this.#asksDocument ? await this.#get('health') : null;
     if (this.#isOffline) return;
     if (health) this.#tell('no seat', 'every seat of the server is taken; it is tried again');
     else this.#tell('no server', 'no server answers; it is tried again');

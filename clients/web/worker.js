@@ -55,9 +55,9 @@ class Kept {
   }
 }
 
-const [module, kept] = await Promise.all([compile(fetch('canvas.wasm')), Kept.open(await identityOf('/document'), self.name || null)]);
+const [module, kept] = await Promise.all([compile(fetch('canvas.wasm')), Kept.open(await identityOf('document'), self.name || null)]);
 const client = await again(kept.bytes) ?? await Client.load(module);
-const server = new URL('/', location.href.replace(/^http/, 'ws'));
+const server = new URL('./', location.href.replace(/^http/, 'ws'));
 const link = new Link(client, server, {
   state: () => { if (link.state === 'stranger') kept.end(); tellState(); },
   changed: () => { isKept = false; soon(); keepSoon(); },

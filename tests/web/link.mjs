@@ -3,6 +3,8 @@
 //     node --experimental-websocket link.mjs LUGCURRANT
 import assert from 'node:assert';
 import { cpSync, readFileSync, rmSync } from 'node:fs';
+import { createServer, request } from 'node:http';
+import { connect } from 'node:net';
 import { join } from 'node:path';
 import { Client, Link, ROOT, compile } from '../../clients/web/lugcurrant.js';
 import { Server, endAfter } from './server.mjs';
@@ -46,6 +48,36 @@ second.close();
 await becomes(second, 'closed');
 await becomes(third, 'online');
 assert(await settled(third) && third.client.id === 3);
+
+// Below a path of a proxy, as deploy/nginx.conf has it: the proxy takes the path off, and knows nothing beside it.
+const below = (path) => path.startsWith('/drawing/') ? path.slice('/drawing'.length) : null;
+const proxy = createServer((asked, answer) => {
+  const path = below(asked.url);
+  if (!path) return answer.writeHead(404).end();
+  return request({ port: server.port, path, headers: asked.headers }, (given) => given.pipe(answer.writeHead(given.statusCode, given.headers))).end();
+});
+proxy.on('upgrade', (asked, socket) => {
+  const path = below(asked.url), head = asked.rawHeaders.reduce((text, word, at) => text + word + (at % 2 ? '\r\n' : ': '), '');
+  if (!path) return socket.destroy();
+  const beyond = connect(server.port, '127.0.0.1', () => { beyond.write(`GET ${path} HTTP/1.1\r\n${head}\r\n`); beyond.pipe(socket).pipe(beyond); });
+  for (const it of [beyond, socket]) it.on('error', () => { beyond.destroy(); socket.destroy(); });
+  return beyond;
+});
+await new Promise((resolve) => { proxy.listen(0, '127.0.0.1', resolve); });
+for (const path of ['drawing/', 'drawing']) {
+  const one = new Link(await Client.load(module), `ws://127.0.0.1:${proxy.address().port}/${path}`, {}, { retry: 50, mostRetry: 400 });
+  third.offline = true;
+  await becomes(third, 'offline');
+  await becomes(one, 'online');
+  assert(await settled(one));
+  assert.equal(one.document, first.document);
+  one.close();
+  await becomes(one, 'closed');
+  third.offline = false;
+  await becomes(third, 'online');
+  assert(await settled(third));
+}
+proxy.close();
 
 // A backup in the folder's place that keeps its identity, against the manual: it knows the first client alone.
 const replace = async (act) => { await server.kill(); rmSync(folder, { recursive: true }); act(); await server.run(server.port); };
