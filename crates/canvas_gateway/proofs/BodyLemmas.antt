@@ -199,3 +199,15 @@ more_bytes s status body longer past buf chunk size at begins longer_is =
       subst (λ (t : List ℕ). ArePieces (text ++ t) longer) (sym text_is) (subst (ArePieces (text ++ print_piece begins.1)) (sym body_is)
           (one_piece_more text body begins.1 held.1 begins.2)),
     )))
+
+-- a head came
+pub head_came : (s new : Stage) (before : ℕ) (body past bytes : List ℕ) (head : ResponseHead) (said : AnswerHead) → s ≡ stage.Head
+    → Begins bytes head → head_of head ≡ Some said
+    → ((status : ℕ) (past : List ℕ) → IsBehindHead past status (λ framing text. (framing ≡ said.framing) × (text ≡ [])) → has_read new status [] past)
+    → has_read s before body past → has_read new said.status body (past ++ take said.length bytes)
+head_came s new before body past bytes head said at begins is then so_far =
+    let nothing : has_read stage.Head before body past = subst (λ (s : Stage). has_read s before body past) at so_far in
+    let front = take said.length bytes in
+    let read : has_read new said.status [] front = then said.status front (start bytes head said _ begins is (refl, refl)) in
+    subst (λ (b : List ℕ). has_read new said.status b (past ++ front)) (sym nothing.1)
+    (subst (λ (p : List ℕ). has_read new said.status [] (p ++ front)) (sym nothing.0) read)

@@ -1,6 +1,7 @@
 // Answers, read as they come.
 ghost use Rattle.std.specs.Prelude.{◌≡◌, ◌≤◌, ◌++◌, ◌↔◌, ℕ, [], List, IfOk, IfSome, IsTrue, IsSome, Ok, length, take};
-ghost use Rattle.canvas_gateway.specs.Bodies.{HasNothingFor, HasRead, IsAnswer, IsWhole};
+ghost use Rattle.canvas_gateway.specs.Bodies.{HasNothingFor, HasRead, IsAnswer, IsBehindHead, IsWhole, has_read};
+ghost use Rattle.canvas_gateway.specs.declared.reader.Stage.TheVariants.{Sized};
 
 use crate::chunk::{Chunk, read_chunk};
 use crate::error::GatewayError;
@@ -82,12 +83,7 @@ impl AnswerReader {
         let Some(head) = read_head(bytes)? else {
             return Ok(0);
         };
-        self.stage = match head.framing {
-            Framing::Sized(0) => Stage::Whole,
-            Framing::Sized(size) if size > self.limit => return Err(GatewayError::TooLarge),
-            Framing::Sized(size) => Stage::Sized(size),
-            Framing::Chunked => Stage::Chunks,
-        };
+        self.stage = stage_behind(head.framing, self.limit)?;
         self.status = head.status;
         Ok(head.length)
     }
@@ -101,12 +97,7 @@ impl AnswerReader {
     {
         let count = bytes.len().min(left as usize);
         self.body.extend_from_slice(&bytes[..count])?;
-        let left = left - count as u64;
-        self.stage = if left == 0 {
-            Stage::Whole
-        } else {
-            Stage::Sized(left)
-        };
+        self.stage = sized_stage(left - count as u64);
         Ok(count)
     }
 
@@ -150,5 +141,27 @@ impl AnswerReader {
         ensures { IsTrue result ↔ IsWhole self.now }
     {
         self.stage == Stage::Whole
+    }
+}
+
+// The stage behind a head.
+fn stage_behind(framing: Framing, limit: u64) -> Result<Stage, GatewayError>
+    ensures { IfOk result (λ stage. (status : ℕ) (past : List ℕ) → IsBehindHead past status (λ said text. (said ≡ framing) × (text ≡ [])) → has_read stage status [] past) }
+{
+    match framing {
+        Framing::Sized(size) if size > limit => Err(GatewayError::TooLarge),
+        Framing::Sized(size) => Ok(sized_stage(size)),
+        Framing::Chunked => Ok(Stage::Chunks),
+    }
+}
+
+// The stage where so many bytes of a body are to come.
+fn sized_stage(left: u64) -> Stage
+    ensures { (status : ℕ) (body past : List ℕ) → has_read (Sized left) status body past → has_read result status body past }
+{
+    if left == 0 {
+        Stage::Whole
+    } else {
+        Stage::Sized(left)
     }
 }

@@ -1,11 +1,11 @@
 // A document in an etcd, and what is made of its answers.
 use crate::asked::Asked;
 use crate::lease::Lease;
-use crate::wire::{StoreError, Wire};
+use crate::wire::{StoreError, Wire, require_done};
 use canvas_etcd::Standing;
 use canvas_gateway::{
-    Change, Found, Host, KeyValue, Keys, Place, all_chunks, chunk_key, chunks_of, one_key,
-    owner_key, place_of, read_committed, read_found, read_granted,
+    Change, Committed, Found, Host, KeyValue, Keys, Place, all_chunks, chunk_key, chunks_of,
+    one_key, owner_key, place_of, read_found,
 };
 use std::alloc::{AllocError, Allocator};
 use std::net::{Net, TcpStream};
@@ -83,17 +83,8 @@ impl<R: Net<Stream = TcpStream> + AllocGlobal + Clone + Drop> Document<R> {
         if self.owner_now()? != 0 {
             return Ok(false);
         }
-        let alloc = self.wire.alloc();
-        let key = owner_key(alloc, &self.name)?;
-        let body = self.wire.ask(&Asked::Grant(self.lease_seconds))?;
-        let lease = read_granted(alloc, &body)?.number;
-        let changes = [Change::Put {
-            key: &key,
-            value: &self.name,
-            lease,
-        }];
-        let body = self.wire.ask(&Asked::Commit(&key, 0, &changes))?;
-        let committed = read_committed(alloc, &body)?;
+        let lease = self.wire.grant(self.lease_seconds)?;
+        let committed = self.claim(lease)?;
         if committed.done {
             self.lease = lease;
             self.owner = committed.revision;
@@ -113,21 +104,8 @@ impl<R: Net<Stream = TcpStream> + AllocGlobal + Clone + Drop> Document<R> {
 
     // Lists the segments that stand, all at one revision.
     pub(crate) fn look(&mut self) -> Result<(), StoreError> {
-        let alloc = self.wire.alloc();
-        let mut keys = all_chunks(alloc, &self.name)?;
-        let mut last: Vec<Place> = Vec::new(alloc);
-        let mut revision = 0;
-        for _ in 0..u64::MAX {
-            let found = self.names(&keys, revision)?;
-            if revision == 0 {
-                revision = found.revision;
-            }
-            self.note_places(&found.pairs, &mut last)?;
-            if !step(&mut keys, &found)? {
-                break;
-            }
-        }
-        self.looked = revision;
+        let mut last: Vec<Place> = Vec::new(self.wire.alloc());
+        self.looked = self.note_all(&mut last)?;
         self.segments.clear();
         for place in last.iter().rev() {
             let size = self.size_of(*place)?;
@@ -137,6 +115,33 @@ impl<R: Net<Stream = TcpStream> + AllocGlobal + Clone + Drop> Document<R> {
             })?;
         }
         Ok(())
+    }
+
+    // Notes the last chunk of each segment, and answers the revision at which they stood.
+    fn note_all(&mut self, last: &mut Vec<Place>) -> Result<u64, StoreError> {
+        let mut keys = all_chunks(self.wire.alloc(), &self.name)?;
+        let mut revision = 0;
+        for _ in 0..u64::MAX {
+            if !self.note_next(&mut keys, &mut revision, last)? {
+                break;
+            }
+        }
+        Ok(revision)
+    }
+
+    // The same of the next keys alone, at this revision, or at that of the answer where it is 0. Tells whether there are more.
+    fn note_next(
+        &mut self,
+        keys: &mut Keys,
+        revision: &mut u64,
+        last: &mut Vec<Place>,
+    ) -> Result<bool, StoreError> {
+        let found = self.names(keys, *revision)?;
+        if *revision == 0 {
+            *revision = found.revision;
+        }
+        self.note_places(&found.pairs, last)?;
+        Ok(step(keys, &found)?)
     }
 
     // Notes the last chunk of each segment, of these keys in their order.
@@ -152,6 +157,17 @@ impl<R: Net<Stream = TcpStream> + AllocGlobal + Clone + Drop> Document<R> {
             last.push(place)?;
         }
         Ok(())
+    }
+
+    // Writes the owner's key under this lease, where it isn't there.
+    fn claim(&mut self, lease: u64) -> Result<Committed, StoreError> {
+        let key = owner_key(self.wire.alloc(), &self.name)?;
+        let change = Change::Put {
+            key: &key,
+            value: &self.name,
+            lease,
+        };
+        self.wire.commit(&self.name, 0, &[change])
     }
 
     // How many bytes a segment has whose last chunk this is.
@@ -171,20 +187,39 @@ impl<R: Net<Stream = TcpStream> + AllocGlobal + Clone + Drop> Document<R> {
         number: u32,
         bytes: &mut Vec<u8, A>,
     ) -> Result<(), StoreError> {
-        let alloc = self.wire.alloc();
-        let mut keys = chunks_of(alloc, &self.name, number)?;
-        let revision = if self.owner == 0 { self.looked } else { 0 };
-        for _ in 0..u64::MAX {
-            let found = self.values(&keys, revision)?;
-            self.join(number, &found.pairs, bytes)?;
-            if !step(&mut keys, &found)? {
-                break;
-            }
-        }
+        self.read_all(number, bytes)?;
         if self.owner != 0 && self.owner_now()? != self.owner {
             return Err(StoreError::Lost);
         }
         Ok(())
+    }
+
+    // The same, whoever owns the document.
+    fn read_all<A: Allocator>(
+        &mut self,
+        number: u32,
+        bytes: &mut Vec<u8, A>,
+    ) -> Result<(), StoreError> {
+        let mut keys = chunks_of(self.wire.alloc(), &self.name, number)?;
+        for _ in 0..u64::MAX {
+            if !self.read_next(number, &mut keys, bytes)? {
+                break;
+            }
+        }
+        Ok(())
+    }
+
+    // Reads the next chunks alone. Tells whether there are more.
+    fn read_next<A: Allocator>(
+        &mut self,
+        number: u32,
+        keys: &mut Keys,
+        bytes: &mut Vec<u8, A>,
+    ) -> Result<bool, StoreError> {
+        let revision = if self.owner == 0 { self.looked } else { 0 };
+        let found = self.values(keys, revision)?;
+        self.join(number, &found.pairs, bytes)?;
+        Ok(step(keys, &found)?)
     }
 
     // Puts chunks behind the bytes of a segment, where they follow these.
@@ -222,7 +257,12 @@ impl<R: Net<Stream = TcpStream> + AllocGlobal + Clone + Drop> Document<R> {
         }];
         self.commit(&changes)?;
         let size = at.saturating_add(bytes.len() as u64);
-        let standing = Standing { number, size };
+        Ok(self.stand(Standing { number, size })?)
+    }
+
+    // Keeps how a segment stands.
+    fn stand(&mut self, standing: Standing) -> Result<(), AllocError> {
+        let number = standing.number;
         let i = self.segments.iter().position(|it| it.number <= number);
         match i {
             Some(i) if self.segments[i].number == number => self.segments[i] = standing,
@@ -242,17 +282,10 @@ impl<R: Net<Stream = TcpStream> + AllocGlobal + Clone + Drop> Document<R> {
 
     // Makes changes, where the document is still owned.
     fn commit(&mut self, changes: &[Change<'_>]) -> Result<(), StoreError> {
-        let alloc = self.wire.alloc();
-        let key = owner_key(alloc, &self.name)?;
         if self.owner == 0 {
             return Err(StoreError::Lost);
         }
-        let body = self.wire.ask(&Asked::Commit(&key, self.owner, changes))?;
-        if read_committed(alloc, &body)?.done {
-            Ok(())
-        } else {
-            Err(StoreError::Lost)
-        }
+        require_done(self.wire.commit(&self.name, self.owner, changes)?)
     }
 
     // The key of a chunk.
@@ -271,8 +304,7 @@ impl<R: Net<Stream = TcpStream> + AllocGlobal + Clone + Drop> Document<R> {
 
     // The same with their values.
     fn values(&mut self, keys: &Keys, revision: u64) -> Result<Found, StoreError> {
-        let body = self.wire.ask(&Asked::Values(keys, CHUNKS, revision))?;
-        Ok(read_found(self.wire.alloc(), &body)?)
+        self.wire.values(keys, CHUNKS, revision)
     }
 }
 

@@ -1,9 +1,7 @@
 // What who owns a document holds beside its segments: a lease that has to be kept alive, and the document's identity.
 use crate::asked::Asked;
-use crate::wire::{StoreError, Wire};
-use canvas_gateway::{
-    Change, Keys, identity_key, one_key, owner_key, read_committed, read_found, read_kept,
-};
+use crate::wire::{StoreError, Wire, require_done};
+use canvas_gateway::{Change, Keys, identity_key, one_key, read_kept};
 use std::alloc::AllocError;
 use std::net::{Net, TcpStream};
 
@@ -72,8 +70,7 @@ impl<R: Net<Stream = TcpStream> + AllocGlobal + Clone + Drop> Lease<R> {
     /// `Unreachable` or `Unanswered` where no endpoint told. `Memory` where memory was refused.
     pub fn identity(&mut self) -> Result<Option<Vec<u8>>, StoreError> {
         let keys = self.identity_keys()?;
-        let body = self.wire.ask(&Asked::Values(&keys, 1, 0))?;
-        let mut found = read_found(self.wire.alloc(), &body)?;
+        let mut found = self.wire.values(&keys, 1, 0)?;
         Ok(found.pairs.pop().map(|pair| pair.value))
     }
 
@@ -104,13 +101,6 @@ impl<R: Net<Stream = TcpStream> + AllocGlobal + Clone + Drop> Lease<R> {
 
     // Makes a change, where the document is still owned.
     fn commit(&mut self, change: Change<'_>) -> Result<(), StoreError> {
-        let alloc = self.wire.alloc();
-        let key = owner_key(alloc, &self.name)?;
-        let body = self.wire.ask(&Asked::Commit(&key, self.owner, &[change]))?;
-        if read_committed(alloc, &body)?.done {
-            Ok(())
-        } else {
-            Err(StoreError::Lost)
-        }
+        require_done(self.wire.commit(&self.name, self.owner, &[change])?)
     }
 }

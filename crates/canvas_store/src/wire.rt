@@ -2,7 +2,10 @@
 ghost use Rattle.std.specs.Prelude.{◌≤◌, IfOk, length};
 
 use crate::asked::Asked;
-use canvas_gateway::{Answer, AnswerReader, GatewayError, Host, copy_hosts};
+use canvas_gateway::{
+    Answer, AnswerReader, Change, Committed, Found, GatewayError, Host, Keys, copy_hosts,
+    owner_key, read_committed, read_found, read_granted,
+};
 use std::alloc::{AllocError, AllocFailed, Global};
 use std::io;
 use std::io::{ErrorKind, Read, Write};
@@ -138,23 +141,83 @@ impl<R: Net<Stream = TcpStream> + AllocGlobal + Clone + Drop> Wire<R> {
 
     // The body of this endpoint's answer.
     fn ask_here(&mut self, asked: &Asked<'_>) -> Result<Vec<u8>, StoreError> {
-        let alloc = self.net.alloc();
+        let request = self.request(asked)?;
+        let mut stream = self.connection()?;
+        let answer = exchange(self.net.alloc(), &mut stream, &request)?;
+        self.stream = Some(stream);
+        body_of(answer)
+    }
+
+    // What is sent to this endpoint.
+    fn request(&self, asked: &Asked<'_>) -> Result<Vec<u8>, StoreError> {
         let Some(host) = self.hosts.get(self.at) else {
             return Err(StoreError::Unreachable);
         };
-        let request = asked.write(alloc, host)?;
-        let mut stream = match self.stream.take() {
-            Some(stream) if is_open(&stream) => stream,
-            _ => connect(&self.net, host.text.as_str())?,
+        Ok(asked.write(self.net.alloc(), host)?)
+    }
+
+    // The connection to this endpoint, or a new one where it has ended.
+    fn connection(&mut self) -> Result<TcpStream, StoreError> {
+        let Some(host) = self.hosts.get(self.at) else {
+            return Err(StoreError::Unreachable);
         };
-        stream.write_all(&request)?;
-        let answer = receive(alloc, &mut stream)?;
-        self.stream = Some(stream);
-        if answer.status == 200 {
-            Ok(answer.body)
-        } else {
-            Err(StoreError::Unanswered)
+        match self.stream.take() {
+            Some(stream) if is_open(&stream) => Ok(stream),
+            _ => connect(&self.net, host.text.as_str()),
         }
+    }
+
+    // A lease of so many seconds.
+    pub(crate) fn grant(&mut self, seconds: u64) -> Result<u64, StoreError> {
+        let body = self.ask(&Asked::Grant(seconds))?;
+        Ok(read_granted(self.alloc(), &body)?.number)
+    }
+
+    // Makes changes, where the key of the owner of the document of this name was written at this revision.
+    pub(crate) fn commit(
+        &mut self,
+        name: &[u8],
+        owner: u64,
+        changes: &[Change<'_>],
+    ) -> Result<Committed, StoreError> {
+        let key = owner_key(self.alloc(), name)?;
+        let body = self.ask(&Asked::Commit(&key, owner, changes))?;
+        Ok(read_committed(self.alloc(), &body)?)
+    }
+
+    // These keys with their values, so many at most, as they stood at this revision.
+    pub(crate) fn values(
+        &mut self,
+        keys: &Keys,
+        most: u64,
+        revision: u64,
+    ) -> Result<Found, StoreError> {
+        let body = self.ask(&Asked::Values(keys, most, revision))?;
+        Ok(read_found(self.alloc(), &body)?)
+    }
+}
+
+// `Lost`, where the changes weren't made.
+pub(crate) fn require_done(committed: Committed) -> Result<(), StoreError> {
+    if committed.done {
+        Ok(())
+    } else {
+        Err(StoreError::Lost)
+    }
+}
+
+// Sends a request on this connection, and answers what comes.
+fn exchange(alloc: Global, stream: &mut TcpStream, request: &[u8]) -> Result<Answer, StoreError> {
+    stream.write_all(request)?;
+    receive(alloc, stream)
+}
+
+// The body of an answer that says that all is well.
+fn body_of(answer: Answer) -> Result<Vec<u8>, StoreError> {
+    if answer.status == 200 {
+        Ok(answer.body)
+    } else {
+        Err(StoreError::Unanswered)
     }
 }
 
@@ -191,13 +254,8 @@ fn is_open(stream: &TcpStream) -> bool {
 fn receive(alloc: Global, stream: &mut TcpStream) -> Result<Answer, StoreError> {
     let mut reader = AnswerReader::new(alloc, MAX_BODY);
     let mut waiting: Vec<u8> = Vec::new(alloc);
-    let mut piece = [0u8; 16384];
     for _ in 0..u64::MAX {
-        let count = stream.read(&mut piece)?;
-        if count == 0 {
-            return Err(StoreError::Unanswered);
-        }
-        waiting.extend_from_slice(&piece[..count])?;
+        read_next(stream, &mut waiting)?;
         let taken = take_all(&mut reader, &waiting)?;
         waiting.drain(..taken);
         if reader.is_whole() {
@@ -208,6 +266,17 @@ fn receive(alloc: Global, stream: &mut TcpStream) -> Result<Answer, StoreError> 
         Some(answer) if waiting.is_empty() => Ok(answer),
         _ => Err(StoreError::Unanswered),
     }
+}
+
+// Puts what comes next behind what waits.
+fn read_next(stream: &mut TcpStream, waiting: &mut Vec<u8>) -> Result<(), StoreError> {
+    let mut piece = [0u8; 16384];
+    let count = stream.read(&mut piece)?;
+    if count == 0 {
+        return Err(StoreError::Unanswered);
+    }
+    waiting.extend_from_slice(&piece[..count])?;
+    Ok(())
 }
 
 // Takes as much as there is, and answers how much that was.
