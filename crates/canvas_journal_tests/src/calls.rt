@@ -1,7 +1,7 @@
 // Watched shelves, and calls that are made of them in turn.
 ghost use Rattle.std.specs.Prelude.{◌≡◌, false};
 
-use canvas_folder::{DirShelf, OsFolder};
+use crate::documents::{Access, shelf_for};
 use canvas_shelf::Shelf;
 use canvas_watch::{Counts, ShelfCall, SumFiles, Watched};
 use std::alloc::Global;
@@ -10,15 +10,6 @@ use std::test::Fail;
 
 // A call of a shelf, and the bytes that it appends or is to read.
 pub type Step = (ShelfCall, &'static [u8]);
-
-// What a folder's shelf is opened for.
-#[derive(Clone, Copy)]
-pub enum Access {
-    // All calls.
-    Writing,
-    // Its list and its bytes: all calls that would change something fail.
-    Reading,
-}
 
 // What stands in a file's place.
 #[derive(Clone, Copy)]
@@ -103,18 +94,6 @@ fn watch<S: Shelf + Drop + Send>(
     })
 }
 
-// The shelf of a folder that is there.
-fn open(
-    rt: &HostRuntime,
-    folder: &str,
-    access: Access,
-) -> Result<DirShelf<OsFolder<HostRuntime>>, Fail> {
-    match access {
-        Access::Writing => Ok(DirShelf::new(rt.clone()?, folder)?),
-        Access::Reading => Ok(DirShelf::existing(rt.clone()?, folder)?),
-    }
-}
-
 // Makes these calls of the watched shelf of a folder that is there. What is told of it then.
 pub fn watched(
     rt: &HostRuntime,
@@ -122,7 +101,7 @@ pub fn watched(
     access: Access,
     steps: &[Step],
 ) -> Result<Told, Fail> {
-    watch(rt, open(rt, folder, access)?, folder, steps)
+    watch(rt, shelf_for(rt, folder, access)?, folder, steps)
 }
 
 // Makes a folder anew, with this in the place of the sums of its second segment.

@@ -2,7 +2,7 @@
 ghost use Rattle.std.specs.Prelude.{◌≡◌, false};
 
 use canvas_folder::{DirShelf, OsFolder};
-use canvas_shelf::{Shelf, ShelfError};
+use canvas_shelf::{CreateError, Shelf, ShelfError};
 use std::alloc::Global;
 use std::fs;
 use std::test::Fail;
@@ -12,6 +12,8 @@ use std::test::Fail;
 pub enum Call<'a> {
     /// Makes a segment.
     Create(u32),
+    /// Makes a segment, which the device refuses.
+    Refused(u32),
     /// Puts bytes at the end of a segment.
     Append(u32, &'a [u8]),
     /// Makes sure of a segment.
@@ -20,13 +22,38 @@ pub enum Call<'a> {
     Retire(u32),
     /// Reads a segment, which has these bytes.
     Read(u32, &'a [u8]),
+    /// Reads a segment, which the device refuses.
+    Unread(u32),
+    /// Lists the segments: these, the first one highest.
+    Lists(&'a [u32]),
     /// Reads all that is listed: these segments with these bytes, the first one highest.
     Holds(&'a [(u32, &'a [u8])]),
 }
 
+/// What a folder's shelf is opened for.
+#[derive(Clone, Copy)]
+pub enum Access {
+    /// All calls.
+    Writing,
+    /// Its list and its bytes: all calls that would change something fail.
+    Reading,
+}
+
+/// The shelf of a folder, opened for that.
+pub fn shelf_for(
+    rt: &HostRuntime,
+    folder: &str,
+    access: Access,
+) -> Result<DirShelf<OsFolder<HostRuntime>>, Fail> {
+    match access {
+        Access::Writing => Ok(DirShelf::new(rt.clone()?, folder)?),
+        Access::Reading => Ok(DirShelf::existing(rt.clone()?, folder)?),
+    }
+}
+
 /// The shelf of a folder.
 pub fn shelf_in(rt: &HostRuntime, folder: &str) -> Result<DirShelf<OsFolder<HostRuntime>>, Fail> {
-    Ok(DirShelf::new(rt.clone()?, folder)?)
+    shelf_for(rt, folder, Access::Writing)
 }
 
 /// Makes a folder anew, where nothing stood or this test's own files did.
@@ -70,6 +97,15 @@ fn holds<S: Shelf>(
     Ok(wanted.next().is_none())
 }
 
+// Whether a shelf lists these segments, the first one highest.
+fn lists<S: Shelf>(alloc: Global, shelf: &mut S, numbers: &[u32]) -> Result<bool, ShelfError>
+    requires { S.honest shelf.old ≡ false }
+    ensures { S.honest shelf.new ≡ S.honest shelf.old }
+{
+    let listed = shelf.list(alloc)?;
+    Ok(listed.as_slice() == numbers)
+}
+
 // Whether a shelf reads these bytes of a segment.
 fn reads<S: Shelf>(
     alloc: Global,
@@ -91,10 +127,13 @@ fn does<S: Shelf>(alloc: Global, shelf: &mut S, call: Call) -> bool
 {
     match call {
         Call::Create(number) => shelf.create(number).is_ok(),
+        Call::Refused(number) => shelf.create(number) == Err(CreateError::Device),
         Call::Append(number, bytes) => shelf.append(number, bytes).is_ok(),
         Call::Sync(number) => shelf.sync(number).is_ok(),
         Call::Retire(number) => shelf.retire(number).is_ok(),
         Call::Read(number, bytes) => reads(alloc, shelf, number, bytes) == Ok(true),
+        Call::Unread(number) => shelf.read(alloc, number).err() == Some(ShelfError::Device),
+        Call::Lists(numbers) => lists(alloc, shelf, numbers) == Ok(true),
         Call::Holds(segments) => holds(alloc, shelf, segments) == Ok(true),
     }
 }
@@ -121,13 +160,23 @@ fn play<S: Shelf>(alloc: Global, shelf: &mut S, calls: &[(Call, bool)]) -> (Opti
 
 /// Makes calls of a shelf that is opened for that, each with whether it is done. The first of which this isn't so, and how many failed, as
 /// the shelf counts them.
+pub fn played_for(
+    rt: &HostRuntime,
+    folder: &str,
+    access: Access,
+    calls: &[(Call, bool)],
+) -> Result<(Option<usize>, u64), Fail> {
+    let mut shelf = shelf_for(rt, folder, access)?;
+    Ok(play(rt.alloc(), &mut shelf, calls))
+}
+
+/// The same of a shelf for all calls.
 pub fn played(
     rt: &HostRuntime,
     folder: &str,
     calls: &[(Call, bool)],
 ) -> Result<(Option<usize>, u64), Fail> {
-    let mut shelf = shelf_in(rt, folder)?;
-    Ok(play(rt.alloc(), &mut shelf, calls))
+    played_for(rt, folder, Access::Writing, calls)
 }
 
 /// Whether a folder's segments are these, the highest first, as a shelf opened anew reads them.

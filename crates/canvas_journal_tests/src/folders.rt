@@ -1,13 +1,8 @@
-// Shelves in real folders.
-use canvas_folder::{DirShelf, FolderError, OsFolder};
-use canvas_shelf::{CreateError, DeviceFailed, Shelf, ShelfError};
+// Shelves in real folders: how one goes on, who may have one, one for reading, and what is no file.
+use crate::documents::{Access, Call, played, played_for, renew, shelf_in};
+use canvas_folder::{DirShelf, FolderError};
 use std::fs;
 use std::test::Fail;
-
-// The shelf of a folder for writing.
-fn open(rt: &HostRuntime, folder: &str) -> Result<DirShelf<OsFolder<HostRuntime>>, Fail> {
-    Ok(DirShelf::new(rt.clone()?, folder)?)
-}
 
 // Why there is no shelf of a folder for writing, if there is none.
 fn unmade(rt: &HostRuntime, folder: &str) -> Result<Option<FolderError>, Fail> {
@@ -19,32 +14,31 @@ fn missing(rt: &HostRuntime, folder: &str) -> Result<Option<FolderError>, Fail> 
     Ok(DirShelf::existing(rt.clone()?, folder).err())
 }
 
-// A shelf's life: a segment, a newer one in its place, and what is there then.
-fn lives(rt: &HostRuntime, folder: &str) -> Result<bool, Fail> {
-    let mut shelf = open(rt, folder)?;
-    shelf.create(1)?;
-    shelf.append(1, b"abc")?;
-    shelf.sync(1)?;
-    shelf.create(2)?;
-    shelf.append(2, b"xyz")?;
-    shelf.sync(2)?;
-    shelf.retire(1)?;
-    let listed = shelf.list(rt.alloc())?;
-    let read = shelf.read(rt.alloc(), 2)?;
-    Ok(listed.as_slice() == [2].as_slice() && read.as_slice() == b"xyz".as_slice())
-}
+// A segment, a newer one in its place, and what is there then.
+const LIFE: &[(Call, bool)] = &[
+    (Call::Create(1), true),
+    (Call::Append(1, b"abc"), true),
+    (Call::Sync(1), true),
+    (Call::Create(2), true),
+    (Call::Append(2, b"xyz"), true),
+    (Call::Sync(2), true),
+    (Call::Retire(1), true),
+    (Call::Holds(&[(2, b"xyz")]), true),
+];
+
+// The same folder, opened anew.
+const AGAIN: &[(Call, bool)] = &[
+    (Call::Append(2, b"."), true),
+    (Call::Read(2, b"xyz."), true),
+    (Call::Refused(0), true),
+];
 
 #[test]
 fn a_life(rt: HostRuntime) -> Result<(), Fail> {
     let folder = "folder-life";
-    let _ = fs::remove_dir_all(&rt, folder);
-    assert!(rt; lives(&rt, folder)?);
-    let mut again = open(&rt, folder)?;
-    again.append(2, b".")?;
-    let read = again.read(rt.alloc(), 2)?;
-    assert!(rt; read.as_slice() == b"xyz.".as_slice());
-    assert_eq!(rt; again.create(0), Err(CreateError::Device));
-    assert_eq!(rt; again.failures(), 1);
+    renew(&rt, folder)?;
+    assert_eq!(rt; played(&rt, folder, LIFE)?, (None, 0));
+    assert_eq!(rt; played(&rt, folder, AGAIN)?, (None, 1));
     let _ = fs::remove_dir_all(&rt, folder);
     Ok(())
 }
@@ -52,8 +46,8 @@ fn a_life(rt: HostRuntime) -> Result<(), Fail> {
 #[test]
 fn a_second_shelf(rt: HostRuntime) -> Result<(), Fail> {
     let folder = "folder-second";
-    let _ = fs::remove_dir_all(&rt, folder);
-    let first = open(&rt, folder)?;
+    renew(&rt, folder)?;
+    let first = shelf_in(&rt, folder)?;
     assert_eq!(rt; unmade(&rt, folder)?, Some(FolderError::InUse));
     assert_eq!(rt; missing(&rt, folder)?, None);
     drop(first);
@@ -62,55 +56,49 @@ fn a_second_shelf(rt: HostRuntime) -> Result<(), Fail> {
     Ok(())
 }
 
-// Whether a shelf for reading changes nothing beside one for writing.
-fn changes_nothing(rt: &HostRuntime, folder: &str) -> Result<bool, Fail> {
-    let mut writing = open(rt, folder)?;
-    writing.create(7)?;
-    let mut reading = DirShelf::existing(rt.clone()?, folder)?;
-    let failed = reading.create(8) == Err(CreateError::Device)
-        && reading.append(7, b"x") == Err(DeviceFailed)
-        && reading.sync(7) == Err(DeviceFailed)
-        && reading.retire(7) == Err(DeviceFailed);
-    let read = reading.read(rt.alloc(), 7)?;
-    let listed = writing.list(rt.alloc())?;
-    Ok(
-        failed
-            && reading.failures() == 4
-            && read.as_slice().is_empty()
-            && listed.as_slice() == [7].as_slice(),
-    )
-}
+// What a shelf for reading does, in whose folder segment 7 was made.
+const READING: &[(Call, bool)] = &[
+    (Call::Refused(8), true),
+    (Call::Append(7, b"x"), false),
+    (Call::Sync(7), false),
+    (Call::Retire(7), false),
+    (Call::Read(7, b""), true),
+    (Call::Lists(&[7]), true),
+];
 
 #[test]
 fn a_reading_shelf(rt: HostRuntime) -> Result<(), Fail> {
     let folder = "folder-reading";
-    let _ = fs::remove_dir_all(&rt, folder);
-    assert!(rt; changes_nothing(&rt, folder)?);
+    renew(&rt, folder)?;
+    assert_eq!(rt; played(&rt, folder, &[(Call::Create(7), true)])?, (None, 0));
+    let writing = shelf_in(&rt, folder)?;
+    assert_eq!(rt;
+        played_for(&rt, folder, Access::Reading, READING)?,
+        (None, 4)
+    );
+    drop(writing);
+    assert_eq!(rt;
+        played(&rt, folder, &[(Call::Lists(&[7]), true)])?,
+        (None, 0)
+    );
     let _ = fs::remove_dir_all(&rt, folder);
     Ok(())
 }
 
-// Whether a segment is listed and not read, since no regular file has its name.
-fn is_no_file(rt: &HostRuntime, folder: &str, number: u32) -> Result<bool, Fail> {
-    let mut shelf = open(rt, folder)?;
-    let listed = shelf.list(rt.alloc())?;
-    let read = shelf.read(rt.alloc(), number);
-    let appended = shelf.append(number, b"x");
-    Ok(
-        listed.as_slice() == [number].as_slice()
-            && read.err() == Some(ShelfError::Device)
-            && appended == Err(DeviceFailed)
-            && shelf.failures() == 2,
-    )
-}
+// A segment that is listed and not read, since no regular file has its name.
+const NO_FILE: &[(Call, bool)] = &[
+    (Call::Lists(&[3]), true),
+    (Call::Unread(3), true),
+    (Call::Append(3, b"x"), false),
+];
 
 #[test]
 fn a_folder_in_a_files_place(rt: HostRuntime) -> Result<(), Fail> {
     let folder = "folder-place";
-    let _ = fs::remove_dir_all(&rt, folder);
-    fs::create_dir_all(&rt, "folder-place/segment-0000000003")?;
-    fs::create_dir_all(&rt, "folder-place/segment-0000000000")?;
-    assert!(rt; is_no_file(&rt, folder, 3)?);
+    renew(&rt, folder)?;
+    fs::create_dir(&rt, "folder-place/segment-0000000003")?;
+    fs::create_dir(&rt, "folder-place/segment-0000000000")?;
+    assert_eq!(rt; played(&rt, folder, NO_FILE)?, (None, 2));
     let _ = fs::remove_dir_all(&rt, folder);
     Ok(())
 }

@@ -1,5 +1,6 @@
 // What is noted of a shelf, calls of which fail.
-use crate::calls::{Access, Standing, Step, renew, watched};
+use crate::calls::{Standing, Step, renew, watched};
+use crate::documents::Access;
 use canvas_watch::ShelfCall;
 use std::test::Fail;
 

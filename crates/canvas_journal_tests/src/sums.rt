@@ -1,5 +1,6 @@
 // The sums of segments in a real folder.
-use crate::calls::{Access, Standing, Step, renew, watched};
+use crate::calls::{Standing, Step, renew, watched};
+use crate::documents::Access;
 use canvas_sums::{SumFault, check_sums};
 use canvas_watch::{Counts, ShelfCall, read_sums};
 use std::fs;
