@@ -15,7 +15,7 @@ use Rattle.canvas_words.specs.declared.asked.Asked.{Asked}
 use Rattle.canvas_words.specs.declared.asked.Asked.TheVariants.{Serve, Show, Import, Restore, Move, Check, Log}
 use Rattle.canvas_words.specs.declared.asked.Place.{Place}
 use Rattle.canvas_words.specs.declared.asked.Place.TheVariants.{Folder, Document}
-use Rattle.canvas_faults.specs.Faults.{IsServed}
+use Rattle.canvas_places.specs.Faults.{IsServed}
 
 -- the folder of a document, or its name in an etcd
 abbrev pub place_bytes : Place → List ℕ

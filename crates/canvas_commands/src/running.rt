@@ -1,6 +1,6 @@
 // The program: its words, and the status that it ends with.
 ghost use Rattle.std.specs.Prelude.{◌≡◌, IfOk, string_bytes};
-ghost use Rattle.canvas_faults.specs.Faults.{IsEnd, IsServed};
+ghost use Rattle.canvas_places.specs.Faults.{IsEnd, IsServed};
 ghost use Rattle.canvas_commands.specs.Runs.{Does, IsRefused, IsRun, Shows, place_bytes};
 
 use crate::caring::{run_check, run_import, run_log, run_restore, run_rows, run_tree};
@@ -8,9 +8,9 @@ use crate::remote::{
     check_remote, import_remote, log_remote, run_move, show_remote_rows, show_remote_tree,
 };
 use canvas_care::Layout;
-use canvas_faults::{Fault, Told};
 use canvas_host::serve;
 use canvas_identity::AddressError;
+use canvas_places::{Fault, Told};
 use canvas_words::{Asked, Options, Place, WordsError, read_words};
 use std::alloc::{AllocError, Global};
 use std::io::{Eprint, Print, Read, Write};

@@ -1,14 +1,13 @@
 // What a server of a document in an etcd has before it serves: the document, which it has taken over, and the lease of that.
 ghost use Rattle.std.specs.Prelude.{◌≡◌, IfErr, IfOk, string_bytes};
 ghost use Rattle.canvas_http.specs.Identities.{IsIdentity};
-ghost use Rattle.canvas_faults.specs.Faults.{IsNamingFault, IsOpeningFault, of_document};
+ghost use Rattle.canvas_places.specs.Faults.{IsNamingFault, IsOpeningFault, of_document};
 
 use crate::opening::{Counted, OpenRoom, room_of};
 use canvas_etcd::EtcdShelf;
-use canvas_faults::Fault;
 use canvas_gateway::copy_hosts;
 use canvas_identity::{Address, identity_in, made_identity};
-use canvas_places::{DocumentShelf, NoWitness};
+use canvas_places::{DocumentShelf, Fault, NoWitness};
 use canvas_store::{EtcdStore, Lease};
 use canvas_watch::Watched;
 use std::alloc::Global;

@@ -1,7 +1,7 @@
 // What `lugcurrant serve` does: a room over the journal of a document, whose seats serve clients for as long as it runs.
 ghost use Rattle.std.specs.Prelude.{◌≡◌, IfErr, IfOk, string_bytes};
 ghost use Rattle.canvas_http.specs.Identities.{IsIdentity};
-ghost use Rattle.canvas_faults.specs.Faults.{IsJournalFault, IsPreparingFault, IsRunningFault, IsServeFault};
+ghost use Rattle.canvas_places.specs.Faults.{IsJournalFault, IsPreparingFault, IsRunningFault, IsServeFault};
 
 use crate::copies::Copies;
 use crate::documents::{DocumentJournal, Ownership, open_document, ownership_of};
@@ -9,12 +9,11 @@ use crate::opening::{FolderJournal, OpenRoom, listen, open_room, opened};
 use crate::tasks::{DoorTask, LeaseTask, SeatTask, begin_task};
 use canvas_board::RoomName;
 use canvas_doors::{Figures, Limits, Shared};
-use canvas_faults::Fault;
 use canvas_folder::Removed;
 use canvas_http::Site;
 use canvas_identity::{Address, identity};
 use canvas_journal::Keeper;
-use canvas_places::DocumentShelf;
+use canvas_places::{DocumentShelf, Fault};
 use canvas_room::{BlankRoom, Lock, Room, Seat};
 use canvas_shelf::Shelf;
 use canvas_store::Lease;

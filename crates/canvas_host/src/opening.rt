@@ -1,14 +1,13 @@
 // What a server has before it serves: its port, and the room of its document.
 ghost use Rattle.std.specs.Prelude.{◌≡◌, IfErr, IfOk, false, length};
-ghost use Rattle.canvas_faults.specs.Faults.{IsOpeningFault, IsPortFault};
+ghost use Rattle.canvas_places.specs.Faults.{IsOpeningFault, IsPortFault};
 ghost use Rattle.canvas_host.specs.Rooms.{fault_of_room};
 
 use canvas_board::{Opening, RoomName};
-use canvas_faults::Fault;
 use canvas_folder::{DirShelf, Removed};
 use canvas_journal::{Journal, Keeper, open};
 use canvas_meter::{Meter, Metered};
-use canvas_places::{FolderShelf, guard};
+use canvas_places::{Fault, FolderShelf, guard};
 use canvas_room::{BlankRoom, Lock, Room, RoomError, Seat, blank_room};
 use canvas_shelf::Shelf;
 use canvas_watch::{Notes, SumFiles, Watched};

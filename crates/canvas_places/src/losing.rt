@@ -2,10 +2,10 @@
 ghost use Rattle.std.specs.Prelude.{◌≡◌, false, IfErr, IsTrue, None, OnOk};
 ghost use Rattle.canvas_shelf.specs.Disk.{numbers};
 ghost use Rattle.canvas_care.specs.Losing.{TellsLoss};
-ghost use Rattle.canvas_faults.specs.Faults.{IsLossFault};
+ghost use Rattle.canvas_places.specs.Faults.{IsLossFault};
 
+use crate::fault::Fault;
 use canvas_care::{FolderSums, find_loss};
-use canvas_faults::Fault;
 use canvas_shelf::Shelf;
 use std::fs::{self, OpenOptions};
 use std::io::{self, ErrorKind, Write};

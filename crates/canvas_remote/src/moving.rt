@@ -72,15 +72,30 @@ where
     let alloc = net.alloc();
     look_first(&files, dir)?;
     let mut folder = locked(&files, dir)?;
+    let (state, version) = take_in(net, &files, dir, &mut folder, address)?;
+    told(alloc, &state, version, output)
+}
+
+// Carries the document of a folder into an etcd, with its identity.
+fn take_in<R, D>(
+    net: &R,
+    files: &D,
+    dir: &str,
+    folder: &mut DirShelf<OsFolder<D>>,
+    address: &Address,
+) -> Result<(State, u64), MoveFault>
+where
+    R: Net<Stream = TcpStream> + AllocGlobal + Clone + Drop,
+    D: Files<File = File> + AllocGlobal + Clone + Drop,
+{
     let (mut shelf, mut lease) = document(net, address)?;
-    let done = match carry(alloc, &mut folder, &mut shelf) {
-        Ok(found) => hand_in(&files, dir, &mut lease, found),
+    let done = match carry(net.alloc(), folder, &mut shelf) {
+        Ok(found) => hand_in(files, dir, &mut lease, found),
         Err(fault) => Err(fault_of_in(fault)),
     };
     // A lease that isn't released ends by itself.
     let _ = lease.release();
-    let (state, version) = done?;
-    told(alloc, &state, version, output)
+    done
 }
 
 // Takes the identity out of the folder, and gives it to the document.
@@ -150,21 +165,46 @@ where
     R: Net<Stream = TcpStream> + AllocGlobal + Clone + Drop,
     D: Files<File = File> + AllocGlobal + Clone + Drop,
 {
-    let alloc = files.alloc();
-    is_there(alloc, shelf)?;
+    is_there(files.alloc(), shelf)?;
     let mut folder = locked(files, dir)?;
+    let found = fill(files, dir, shelf, &mut folder)?;
+    match hand_out(files, dir, lease) {
+        Ok(()) => Ok(found),
+        Err(fault) => Err(fault),
+    }
+}
+
+// Carries a document out of an etcd into a folder that has no identity.
+fn fill<R, D>(
+    files: &D,
+    dir: &str,
+    shelf: &mut Remote<R>,
+    folder: &mut DirShelf<OsFolder<D>>,
+) -> Result<(State, u64), MoveFault>
+where
+    R: Net<Stream = TcpStream> + AllocGlobal + Clone + Drop,
+    D: Files<File = File> + AllocGlobal + Clone + Drop,
+{
     if read_identity(files, dir)?.is_some() {
         return Err(MoveFault::Folder(Fault::Taken));
     }
-    let found = match carry(alloc, shelf, &mut folder) {
-        Ok(found) => found,
-        Err(fault) => return Err(fault_of_out(fault)),
-    };
+    match carry(files.alloc(), shelf, folder) {
+        Ok(found) => Ok(found),
+        Err(fault) => Err(fault_of_out(fault)),
+    }
+}
+
+// Takes the identity from the document, and gives it to the folder.
+fn hand_out<R, D>(files: &D, dir: &str, lease: &mut Lease<R>) -> Result<(), MoveFault>
+where
+    R: Net<Stream = TcpStream> + AllocGlobal + Clone + Drop,
+    D: Files<File = File> + AllocGlobal,
+{
     if let Some(text) = lease.identity()? {
         lease.remove_identity()?;
         keep_text(files, dir, &text)?;
     }
-    Ok(found)
+    Ok(())
 }
 
 // Of which place a fault of carrying a document out of an etcd is.

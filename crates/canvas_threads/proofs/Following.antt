@@ -17,12 +17,12 @@ use Rattle.canvas_client.specs.declared.error.EditError.TheVariants as error
 use Rattle.canvas_board.specs.Marks.{IsLegal, Mark, Opening}
 use Rattle.canvas_nodes.specs.GoesOn.{GoesOn}
 use Rattle.canvas_front.specs.Table.{SeesOn}
-use Rattle.canvas_follow.specs.Follows.{AreFirstOf}
-use Rattle.canvas_follow.specs.Histories.{FollowsAt, OpensAfter, log_of}
-use Rattle.canvas_follow.specs.Exchanges.{CatchesUpAt, JoinsAt, KeepsFollowing}
-use Rattle.canvas_follow.specs.Laws.{EachEditIsFollowed}
-use Rattle.canvas_follow.proofs.Histories.{first_before, records, seen_legal, seen_longer}
-use Rattle.canvas_follow.proofs.Nexts.{all_first}
+use Rattle.canvas_threads.specs.Follows.{AreFirstOf}
+use Rattle.canvas_threads.specs.Histories.{FollowsAt, OpensAfter, log_of}
+use Rattle.canvas_threads.specs.Exchanges.{CatchesUpAt, JoinsAt, KeepsFollowing}
+use Rattle.canvas_threads.specs.Laws.{EachEditIsFollowed}
+use Rattle.canvas_threads.proofs.Histories.{first_before, records, seen_legal, seen_longer}
+use Rattle.canvas_threads.proofs.Nexts.{all_first}
 use Rattle.canvas_threads.specs.Worked.{AreMadeOf, HasWorked, IsMadeOf, IsRefused}
 use Rattle.canvas_threads.specs.Shown.{Ends, FollowsRoom, HasFollowed, ShowsPlan, ShowsTheRoom}
 
@@ -114,7 +114,7 @@ edit_follows law o requests seen old new request made f = record {
       let g = f.follows past opens c (sym same ∙ id) (fewer_first c f.edits (made.0 ∷ []) (log_of past seen) first) in
       record {
         legal = f.legal;
-        follows = subst (λ (x : Client). Rattle.canvas_follow.specs.Follows.Follows (log_of past seen) c (f.edits ++ made.0 ∷ []) x) (sym made.2)
+        follows = subst (λ (x : Client). Rattle.canvas_threads.specs.Follows.Follows (log_of past seen) c (f.edits ++ made.0 ∷ []) x) (sym made.2)
             (law (log_of past seen) (records o past opens seen f.legal).legal c f.edits old g.follows request made.0 made.1);
       };
 }

@@ -1,3 +1,17 @@
+pub mod Edits
+pub mod Takes
+pub mod Nexts
+pub mod Truth
+pub mod Making
+pub mod Histories
+pub mod News
+pub mod Heard
+pub mod Rounds
+pub mod Exchanging
+pub mod Headlines
+pub mod Joining
+pub mod Crashes
+pub mod AtSeats
 pub mod Following
 pub mod Lists
 pub mod Sends

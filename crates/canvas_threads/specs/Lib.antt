@@ -1,3 +1,7 @@
+pub mod Follows
+pub mod Histories
+pub mod Exchanges
+pub mod Laws
 pub mod Worked
 pub mod Shown
 pub mod Errors

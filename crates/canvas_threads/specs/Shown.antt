@@ -5,9 +5,9 @@ use Rattle.canvas_model.specs.Client.{Client, last_number}
 use Rattle.canvas_model.specs.Local.{EditRequest}
 use Rattle.canvas_model.specs.Log.{Entry}
 use Rattle.canvas_board.specs.Marks.{IsLegal, Mark, Opening}
-use Rattle.canvas_follow.specs.Follows.{AreAllOf, AreFirstOf}
-use Rattle.canvas_follow.specs.Histories.{FollowsAt, OpensAfter, log_of}
-use Rattle.canvas_follow.specs.Exchanges.{HasHeadline, IsUpToDate}
+use Rattle.canvas_threads.specs.Follows.{AreAllOf, AreFirstOf}
+use Rattle.canvas_threads.specs.Histories.{FollowsAt, OpensAfter, log_of}
+use Rattle.canvas_threads.specs.Exchanges.{HasHeadline, IsUpToDate}
 use Rattle.canvas_threads.specs.Worked.{AreMadeOf}
 
 -- The client has joined and has made all edits of these requests that it didn't refuse. It follows what its seat has seen, where no other

@@ -6,10 +6,11 @@ ghost use Rattle.canvas_threads.specs.Shown.{FollowsRoom, ShowsTheRoom};
 
 use crate::Gate;
 use crate::error::broken_off;
+use crate::laws::every_follower;
+use crate::seats::{exchange_at, join_at};
 use canvas_board::RoomName;
 use canvas_client::{Client, EditError, EditRequest};
 use canvas_desk::SubmitError;
-use canvas_follow::{every_follower, exchange_at, join_at};
 use canvas_front::SeatLink;
 use canvas_journal::{KeepError, Keeper};
 use canvas_room::Lock;

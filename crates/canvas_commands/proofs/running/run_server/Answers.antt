@@ -1,5 +1,5 @@
 use Rattle.std.proofs.Common.{inl, inr}
-use Rattle.canvas_faults.specs.declared.fault.Fault.TheVariants.{Memory}
+use Rattle.canvas_places.specs.declared.fault.Fault.TheVariants.{Memory}
 use Rattle.canvas_commands.proofs.running.run_server.Goals as goal
 
 -- the sentence of want of memory names no place

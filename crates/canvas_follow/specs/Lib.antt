@@ -1,4 +1,0 @@
-pub mod Follows
-pub mod Histories
-pub mod Exchanges
-pub mod Laws

@@ -1,0 +1,36 @@
+// Laws of clients that follow a log.
+ghost use Rattle.canvas_threads.specs.Laws.{EachAcknowledgedIsFound, EachEditIsFollowed, EachFollowerShows, EachPlacedEditIsFollowed, EachTruthIsFollowed, FollowersAgree, NewRoomOpens};
+
+use canvas_board::RoomName;
+use canvas_client::{every_placed_edit, every_told_entry};
+use canvas_desk::found_after_every_crash;
+use canvas_journal::Keeper;
+use canvas_model::{every_log, every_view};
+
+/// A client that follows a log in which no other edit took a number of its edits goes on to follow it, by each true message and each edit
+/// of its own, also one at a place that the caller names; it shows the document at its version with what waits laid over it, and its acknowledged edits stand in the log once; two
+/// that are at one version with nothing waiting show equal documents. A room that begins with nothing opens after no entries. It does
+/// nothing when it runs: call it where a proof needs the law.
+pub fn every_follower()
+    ensures truths { EachTruthIsFollowed }
+    ensures edits { EachEditIsFollowed }
+    ensures placed { EachPlacedEditIsFollowed }
+    ensures shows { EachFollowerShows }
+    ensures agree { FollowersAgree }
+    ensures opens { NewRoomOpens }
+{
+    every_log();
+    every_view();
+    every_told_entry();
+    every_placed_edit();
+}
+
+/// A law, for every honest keeper and every room: where a seat has seen what was due at a moment at which the desk hadn't failed, and a
+/// client follows what the seat has seen, what is found after any crash since then is the board of one legal history in which each edit
+/// that the client knows to be judged stands once. A room that opens again on it opens after a legal log, which the client follows
+/// still. It does nothing when it runs: call it where a proof needs the law.
+pub fn found_again<K: Keeper, N: RoomName>()
+    ensures { EachAcknowledgedIsFound N.opening K.honest K.moment K.left_since K.finds K.keeps }
+{
+    found_after_every_crash::<K, N>();
+}
