@@ -15,14 +15,14 @@ use std::io::{self, ErrorKind};
 use std::process::ExitCode;
 
 // The words that follow the program's name.
-fn words(rt: &HostRuntime) -> io::Result<Vec<String>> {
+fn arguments(rt: &HostRuntime) -> io::Result<Vec<String>> {
     let words: Vec<String> = env::args(rt)?.skip(1).collect(rt.alloc())?;
     Ok(words)
 }
 
 fn main(rt: HostRuntime) -> ExitCode {
     let mut faults = rt.stderr();
-    let status = match words(&rt) {
+    let status = match arguments(&rt) {
         Ok(words) => run(&rt, rt, &words, &mut rt.stdout(), &mut faults),
         Err(error) => {
             if error.kind() == ErrorKind::OutOfMemory {
