@@ -1,17 +1,32 @@
 // Shelves in real folders: how one goes on, who may have one, one for reading, and what is no file.
-use crate::documents::{Access, Call, played, played_for, renew, shelf_in};
+use crate::documents::{Access, Call, is_there, played, played_for, renew, shelf_in};
 use canvas_folder::{DirShelf, FolderError};
 use std::fs;
 use std::test::Fail;
 
-// Why there is no shelf of a folder for writing, if there is none.
-fn unmade(rt: &HostRuntime, folder: &str) -> Result<Option<FolderError>, Fail> {
-    Ok(DirShelf::new(rt.clone()?, folder).err())
+/// Why there is no shelf of a folder, opened for that, if there is none.
+pub fn why_not(
+    rt: &HostRuntime,
+    access: Access,
+    folder: &str,
+) -> Result<Option<FolderError>, Fail> {
+    match access {
+        Access::Writing => Ok(DirShelf::new(rt.clone()?, folder).err()),
+        Access::Reading => Ok(DirShelf::existing(rt.clone()?, folder).err()),
+    }
 }
 
-// Why there is no shelf of a folder for reading, if there is none.
-fn missing(rt: &HostRuntime, folder: &str) -> Result<Option<FolderError>, Fail> {
-    Ok(DirShelf::existing(rt.clone()?, folder).err())
+// A folder, what a shelf of it is opened for, and why there is none.
+type Row = (&'static str, Access, Option<FolderError>);
+
+// The first row of which another reason is told.
+fn first_other(rt: &HostRuntime, rows: &[Row]) -> Result<Option<usize>, Fail> {
+    for (i, (folder, access, why)) in rows.iter().enumerate() {
+        if why_not(rt, *access, folder)? != *why {
+            return Ok(Some(i));
+        }
+    }
+    Ok(None)
 }
 
 // A segment, a newer one in its place, and what is there then.
@@ -43,15 +58,24 @@ fn a_life(rt: HostRuntime) -> Result<(), Fail> {
     Ok(())
 }
 
+// The folder of a shelf, while that is there and once it has gone.
+const IN_USE: &[Row] = &[
+    ("folder-second", Access::Writing, Some(FolderError::InUse)),
+    ("folder-second", Access::Reading, None),
+];
+
+const FREE: &[Row] = &[("folder-second", Access::Writing, None)];
+
 #[test]
 fn a_second_shelf(rt: HostRuntime) -> Result<(), Fail> {
     let folder = "folder-second";
     renew(&rt, folder)?;
+    assert_eq!(rt; played(&rt, folder, &[(Call::Create(1), true)])?, (None, 0));
     let first = shelf_in(&rt, folder)?;
-    assert_eq!(rt; unmade(&rt, folder)?, Some(FolderError::InUse));
-    assert_eq!(rt; missing(&rt, folder)?, None);
+    assert_eq!(rt; first_other(&rt, IN_USE)?, None);
     drop(first);
-    assert_eq!(rt; unmade(&rt, folder)?, None);
+    assert_eq!(rt; first_other(&rt, FREE)?, None);
+    assert!(rt; is_there(&rt, folder, &[(1, b"")])?);
     let _ = fs::remove_dir_all(&rt, folder);
     Ok(())
 }
@@ -103,17 +127,34 @@ fn a_folder_in_a_files_place(rt: HostRuntime) -> Result<(), Fail> {
     Ok(())
 }
 
+// A folder that isn't there is made for writing, with those above it.
+const MADE: &[Row] = &[
+    ("folder-made", Access::Reading, Some(FolderError::Device)),
+    ("folder-made/deep/er/", Access::Writing, None),
+    ("folder-made/deep/er", Access::Reading, None),
+    ("", Access::Writing, Some(FolderError::Device)),
+];
+
+// Where a file stands there is none, nor below it.
+const A_FILE: &[Row] = &[
+    (
+        "folder-made/file",
+        Access::Reading,
+        Some(FolderError::Device),
+    ),
+    (
+        "folder-made/file/below",
+        Access::Writing,
+        Some(FolderError::Device),
+    ),
+];
+
 #[test]
 fn folders_that_are_made(rt: HostRuntime) -> Result<(), Fail> {
-    let device = Some(FolderError::Device);
     let _ = fs::remove_dir_all(&rt, "folder-made");
-    assert_eq!(rt; missing(&rt, "folder-made")?, device);
-    assert_eq!(rt; unmade(&rt, "folder-made/deep/er/")?, None);
-    assert_eq!(rt; missing(&rt, "folder-made/deep/er")?, None);
+    assert_eq!(rt; first_other(&rt, MADE)?, None);
     fs::write(&rt, "folder-made/file", b"x")?;
-    assert_eq!(rt; missing(&rt, "folder-made/file")?, device);
-    assert_eq!(rt; unmade(&rt, "folder-made/file/below")?, device);
-    assert_eq!(rt; unmade(&rt, "")?, device);
+    assert_eq!(rt; first_other(&rt, A_FILE)?, None);
     let _ = fs::remove_dir_all(&rt, "folder-made");
     Ok(())
 }

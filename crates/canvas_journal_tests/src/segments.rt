@@ -1,6 +1,6 @@
 //! Shelves in real folders.
-use crate::documents::{Call, is_there, played, renew, shelf_in, write};
-use canvas_folder::{DirShelf, FolderError};
+use crate::documents::{Access, Call, is_there, played, renew, write};
+use crate::folders::why_not;
 use std::fs;
 use std::test::Fail;
 
@@ -52,7 +52,7 @@ const REFUSED: &[(Call, bool)] = &[
 ];
 
 #[test]
-fn foreign_and_cut_files(rt: HostRuntime) -> Result<(), Fail> {
+fn foreign_files(rt: HostRuntime) -> Result<(), Fail> {
     let folder = "shelf-foreign-files";
     renew(&rt, folder)?;
     assert_eq!(rt; played(&rt, folder, IN_TURN)?, (None, 0));
@@ -60,6 +60,15 @@ fn foreign_and_cut_files(rt: HostRuntime) -> Result<(), Fail> {
     write(&rt, folder, "notes.txt", b"x")?;
     fs::create_dir(&rt, "shelf-foreign-files/folder")?;
     assert!(rt; is_there(&rt, folder, &[(2, b"b"), (1, b"ac")])?);
+    let _ = fs::remove_dir_all(&rt, folder);
+    Ok(())
+}
+
+#[test]
+fn a_cut_file(rt: HostRuntime) -> Result<(), Fail> {
+    let folder = "shelf-cut-file";
+    renew(&rt, folder)?;
+    assert_eq!(rt; played(&rt, folder, IN_TURN)?, (None, 0));
     write(&rt, folder, "segment-0000000002", b"")?;
     assert!(rt; is_there(&rt, folder, &[(2, b""), (1, b"ac")])?);
     assert_eq!(rt; played(&rt, folder, REFUSED)?, (None, 5));
@@ -97,52 +106,10 @@ fn names_of_segments(rt: HostRuntime) -> Result<(), Fail> {
     Ok(())
 }
 
-// Why there is no shelf of this folder, or none where there is.
-fn missing(rt: &HostRuntime, folder: &str) -> Result<Option<FolderError>, Fail> {
-    Ok(DirShelf::existing(rt.clone()?, folder).err())
-}
-
-// Why no shelf can be made there, or none where one was.
-fn unmade(rt: &HostRuntime, folder: &str) -> Result<Option<FolderError>, Fail> {
-    Ok(DirShelf::new(rt.clone()?, folder).err())
-}
-
-#[test]
-fn a_missing_folder(rt: HostRuntime) -> Result<(), Fail> {
-    let device = Some(FolderError::Device);
-    let _ = fs::remove_dir_all(&rt, "shelf-missing");
-    assert_eq!(rt; missing(&rt, "shelf-missing")?, device);
-    assert_eq!(rt; unmade(&rt, "shelf-missing/deep/er")?, None);
-    assert_eq!(rt; missing(&rt, "shelf-missing/deep/er")?, None);
-    write(&rt, "shelf-missing", "file", b"x")?;
-    assert_eq!(rt; missing(&rt, "shelf-missing/file")?, device);
-    assert_eq!(rt; unmade(&rt, "shelf-missing/file/below")?, device);
-    let _ = fs::remove_dir_all(&rt, "shelf-missing");
-    Ok(())
-}
-
-// Why there is no second shelf of a folder that has one.
-fn second(rt: &HostRuntime, folder: &str) -> Result<Option<FolderError>, Fail> {
-    let _shelf = shelf_in(rt, folder)?;
-    unmade(rt, folder)
-}
-
-#[test]
-fn a_folder_in_use(rt: HostRuntime) -> Result<(), Fail> {
-    let folder = "shelf-in-use";
-    renew(&rt, folder)?;
-    assert_eq!(rt; played(&rt, folder, &[(Call::Create(1), true)])?, (None, 0));
-    assert_eq!(rt; second(&rt, folder)?, Some(FolderError::InUse));
-    assert_eq!(rt; missing(&rt, folder)?, None);
-    assert!(rt; is_there(&rt, folder, &[(1, b"")])?);
-    let _ = fs::remove_dir_all(&rt, folder);
-    Ok(())
-}
-
 // In the system's folder of processes nobody may make a file: where there is such a folder, it is a shelf that makes no segment.
 #[test]
 fn a_folder_without_rights(rt: HostRuntime) -> Result<(), Fail> {
-    if unmade(&rt, "/proc")?.is_none() {
+    if why_not(&rt, Access::Writing, "/proc")?.is_none() {
         let calls: &[(Call, bool)] = &[(Call::Create(1), false), (Call::Holds(&[]), true)];
         assert_eq!(rt; played(&rt, "/proc", calls)?, (None, 1));
     }
