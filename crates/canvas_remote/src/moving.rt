@@ -168,10 +168,8 @@ where
     is_there(files.alloc(), shelf)?;
     let mut folder = locked(files, dir)?;
     let found = fill(files, dir, shelf, &mut folder)?;
-    match hand_out(files, dir, lease) {
-        Ok(()) => Ok(found),
-        Err(fault) => Err(fault),
-    }
+    hand_out(files, dir, lease)?;
+    Ok(found)
 }
 
 // Carries a document out of an etcd into a folder that has no identity.
