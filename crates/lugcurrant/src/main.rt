@@ -1,7 +1,11 @@
 //! `lugcurrant` serves a document to clients over WebSockets for as long as it is left running, and cares for folders that are not served.
 #![tactic(auto)]
 
-use canvas_commands::run;
+mod caring;
+mod remote;
+mod running;
+
+use running::run;
 use std::env;
 use std::io::{self, ErrorKind, Input};
 use std::process::ExitCode;

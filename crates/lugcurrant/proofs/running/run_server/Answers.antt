@@ -1,6 +1,6 @@
 use Rattle.std.proofs.Common.{inl, inr}
 use Rattle.canvas_places.specs.declared.fault.Fault.TheVariants.{Memory}
-use Rattle.canvas_commands.proofs.running.run_server.Goals as goal
+use Rattle.lugcurrant.proofs.running.run_server.Goals as goal
 
 -- the sentence of want of memory names no place
 pub returns-in-Err : goal.returns-in-Err

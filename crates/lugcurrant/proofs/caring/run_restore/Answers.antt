@@ -3,7 +3,7 @@ use Rattle.std.specs.Prelude.{OnOk}
 use Rattle.canvas_journal.proofs.Results.{ok_map}
 use Rattle.canvas_care.specs.Begun.{WritesBegun}
 use Rattle.canvas_care.proofs.Ends.{ended}
-use Rattle.canvas_commands.proofs.caring.run_restore.Goals as goal
+use Rattle.lugcurrant.proofs.caring.run_restore.Goals as goal
 
 pub returns-in-Ok : goal.returns-in-Ok
 returns-in-Ok g c =

@@ -1,5 +1,5 @@
 use Rattle.std.proofs.Common.{inl}
-use Rattle.canvas_commands.proofs.running.run.Goals as goal
+use Rattle.lugcurrant.proofs.running.run.Goals as goal
 
 pub returns-in-Ok : goal.returns-in-Ok
 returns-in-Ok g c = inl (c.in-Ok.asked, c.carry_out.ensures)

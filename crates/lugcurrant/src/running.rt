@@ -1,7 +1,7 @@
 // The program: its words, and the status that it ends with.
 ghost use Rattle.std.specs.Prelude.{◌≡◌, IfOk, string_bytes};
 ghost use Rattle.canvas_places.specs.Faults.{IsEnd, IsServed};
-ghost use Rattle.canvas_commands.specs.Runs.{Does, IsRefused, IsRun, Shows, place_bytes};
+ghost use Rattle.lugcurrant.specs.Runs.{Does, IsRefused, IsRun, Shows, place_bytes};
 
 use crate::caring::{run_check, run_import, run_log, run_restore, run_rows, run_tree};
 use crate::remote::{
