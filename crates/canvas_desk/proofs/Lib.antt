@@ -1,6 +1,4 @@
-pub mod Keeping
 pub mod Running
 pub mod Told
-pub mod Batching
 pub mod Batched
 pub mod Crashes

@@ -1,6 +1,4 @@
-pub mod Faults
 pub mod Desks
-pub mod Judging
 pub mod Submitting
 pub mod Flooring
 pub mod Batches

@@ -25,3 +25,4 @@ mod Revised
 mod Replaced
 mod Putting
 mod Known
+pub mod Shallow

@@ -16,7 +16,7 @@ use Rattle.canvas_model.specs.Document.{Doc, Object, Place, place_of, IsDocument
 use Rattle.canvas_doc.specs.Whole.{AreDocument, AreRooted, IsRoot, is_placed}
 use Rattle.canvas_doc.proofs.Maps.{exact_ids, ids_total, same_or_differ}
 use Rattle.canvas_doc.proofs.Searched.{below_less, below_at, head_below, missing, pair_at}
-use Rattle.canvas_value.proofs.Forms.{both_hold, both_true}
+use Rattle.canvas_value.proofs.Tests.{both_hold, both_true}
 use Rattle.canvas_doc.proofs.Standing.{some_is}
 
 -- every other id is greater than that of the root

@@ -7,7 +7,7 @@ use Rattle.canvas_model.specs.Position.{IsPosition}
 use Rattle.canvas_model.specs.Value.{Value}
 use Rattle.canvas_model.specs.Document.{Doc, Name, Object, Place}
 use Rattle.canvas_model.specs.Change.{Change, Create, Set, Move, Delete}
-use Rattle.canvas_value.specs.Json.{fits}
+use Rattle.canvas_value.specs.Range.{fits}
 use Rattle.canvas_value.specs.Names.{IsName}
 use Rattle.canvas_value.specs.Props.{IsProp}
 

@@ -4,3 +4,4 @@ pub mod Seen
 pub mod Whole
 pub mod Known
 pub mod Levels
+pub mod Shallow

@@ -5,10 +5,10 @@ ghost use Rattle.canvas_edit_lines.specs.Edits.{SpellsEdit, SpellsEditRest, Spel
 
 use crate::words::{read_after, read_id, read_kind};
 use canvas_client::EditRequest;
+use canvas_codec::json::every_spelling;
 use canvas_doc::{Name, ObjId, Value};
 use canvas_lines::LineError;
 use canvas_lines::words::{Verb, cut_word, read_name, read_value, read_verb};
-use canvas_value::json::every_spelling;
 use std::alloc::Global;
 
 /// The edit that the text spells: a verb, a blank, and what that verb wants. The errors: `Unreadable`, where it spells none; `Memory`,

@@ -3,7 +3,7 @@ use Rattle.std.proofs.Common.{◌≡◌, ◌≤◌, List, [], ◌∷◌, false, 
 use Rattle.serde_json.specs.Data as D
 use Rattle.serde_json.specs.Written.{items_have_float}
 use Rattle.canvas_model.specs.declared.ObjId.{ObjId}
-use Rattle.canvas_value.specs.Parts.{each_written}
+use Rattle.canvas_codec.specs.Parts.{each_written}
 use Rattle.canvas_forms.specs.Ids.{id_form}
 
 pub ids_no_float : (ids : List ObjId) → items_have_float (each_written id_form.write ids) ≡ false

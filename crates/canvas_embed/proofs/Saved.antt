@@ -16,13 +16,13 @@ use Rattle.canvas_model.specs.Ids.{id_cmp}
 use Rattle.canvas_model.specs.Document.{Object}
 use Rattle.canvas_model.specs.Change.{Change, HoldsShallow}
 use Rattle.canvas_model.specs.Client.{Client}
-use Rattle.canvas_value.specs.Shape.{shape}
-use Rattle.canvas_value.specs.Codec.{IsCodec, AreMembers, StandsFor}
-use Rattle.canvas_value.specs.Parts.{maybe, each_test, each_written, after}
-use Rattle.canvas_value.specs.Faults.{RefusesShape}
-use Rattle.canvas_value.specs.declared.json_fault.JsonFault.{JsonFault}
-use Rattle.canvas_value.specs.declared.json_fault.JsonFault.TheVariants as value
-use Rattle.canvas_value.proofs.Forms.{first, stands_for, reads_what_stands, out_of_range, no_shape, whole_is, maybe_is, end_is, member_is, each_is, array_is, headed_is, after_is}
+use Rattle.canvas_codec.specs.Shape.{shape}
+use Rattle.canvas_codec.specs.Codec.{IsCodec, AreMembers, StandsFor}
+use Rattle.canvas_codec.specs.Parts.{maybe, each_test, each_written, after}
+use Rattle.canvas_codec.specs.Faults.{RefusesShape}
+use Rattle.canvas_codec.specs.declared.json_fault.JsonFault.{JsonFault}
+use Rattle.canvas_codec.specs.declared.json_fault.JsonFault.TheVariants as value
+use Rattle.canvas_codec.proofs.Forms.{first, stands_for, reads_what_stands, out_of_range, no_shape, whole_is, maybe_is, end_is, member_is, each_is, array_is, headed_is, after_is}
 use Rattle.canvas_doc.specs.Whole.{AreDocument}
 use Rattle.canvas_forms.specs.Ids.{client_form}
 use Rattle.canvas_json.specs.JsonTree.{worded}
@@ -30,7 +30,8 @@ use Rattle.canvas_forms.specs.Changes.{change_form}
 use Rattle.canvas_forms.specs.Rows.{rows_form}
 use Rattle.canvas_json.specs.RowOrder.{are_in_order}
 use Rattle.canvas_forms.specs.InOrder.{rows_in}
-use Rattle.canvas_forms.proofs.Docs.{rows_nest, rows_no_float, same_doc}
+use Rattle.canvas_forms.proofs.Docs.{rows_nest, rows_no_float}
+use Rattle.canvas_doc.proofs.Shallow.{same_doc}
 use Rattle.canvas_forms.proofs.Forms.{client_is, version_is, change_is}
 use Rattle.canvas_json.proofs.Members.{no_word, word_first}
 use Rattle.canvas_forms.proofs.Orders.{ordered_document}

@@ -6,8 +6,8 @@ use Rattle.canvas_model.specs.declared.Kind.{Kind}
 use Rattle.canvas_model.specs.Value.{Value, IsShallow}
 use Rattle.canvas_model.specs.Client.{Client}
 use Rattle.canvas_model.specs.Local.{Create, Set, Clear, Target}
-use Rattle.canvas_value.specs.Codec.{HasShape, IsOutOfRange, StandsFor}
-use Rattle.canvas_value.specs.Json.{value_form}
+use Rattle.canvas_codec.specs.Codec.{HasShape, IsOutOfRange, StandsFor}
+use Rattle.canvas_codec.specs.Json.{value_form}
 use Rattle.canvas_value.specs.Names.{IsName}
 use Rattle.canvas_value.specs.NameErrors.{IsNameError}
 use Rattle.canvas_client.specs.Asked.{IsRefusal, refusal}

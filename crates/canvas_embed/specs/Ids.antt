@@ -4,8 +4,8 @@ use Rattle.std.specs.Str.{IsUtf8}
 use Rattle.serde_json.specs.Read.{read as read_text}
 use Rattle.serde_json.specs.Written.{compact_text}
 use Rattle.canvas_model.specs.declared.ObjId.{ObjId}
-use Rattle.canvas_value.specs.Codec.{Codec}
-use Rattle.canvas_value.specs.Parts.{array_of, each}
+use Rattle.canvas_codec.specs.Codec.{Codec}
+use Rattle.canvas_codec.specs.Parts.{array_of, each}
 use Rattle.canvas_forms.specs.Ids.{id_form}
 
 -- `[[client,counter],..]`

@@ -1,6 +1,5 @@
 -- Clients as JSON: what is kept of one while no program holds it.
-use Rattle.std.specs.Prelude.{◌≡◌, ℕ, List, Bool, true, Option, None, codes, if◌then◌else◌}
-use Rattle.std.specs.Prelude.{map as list_map}
+use Rattle.std.specs.Prelude.{◌≡◌, Bool, List, None, Option, codes, if◌then◌else◌, map as list_map, true, ℕ}
 use Rattle.std.specs.FinMap as map
 use Rattle.std.specs.List.{All}
 use Rattle.serde_json.specs.Data as D
@@ -11,10 +10,10 @@ use Rattle.canvas_model.specs.Document.{Object}
 use Rattle.canvas_model.specs.Change.{Change, HoldsShallow}
 use Rattle.canvas_model.specs.Client.{Client}
 use Rattle.canvas_model.specs.Storable.{IsShallowDoc}
-use Rattle.canvas_value.specs.Codec.{Codec, Members, HasShape, StandsFor}
-use Rattle.canvas_value.specs.Parts.{whole, maybe, array_of, each, headed, after, member, end}
-use Rattle.canvas_value.specs.declared.json_fault.JsonFault.{JsonFault}
-use Rattle.canvas_value.specs.declared.json_fault.JsonFault.TheVariants as fault
+use Rattle.canvas_codec.specs.Codec.{Codec, Members, HasShape, StandsFor}
+use Rattle.canvas_codec.specs.Parts.{whole, maybe, array_of, each, headed, after, member, end}
+use Rattle.canvas_codec.specs.declared.json_fault.JsonFault.{JsonFault}
+use Rattle.canvas_codec.specs.declared.json_fault.JsonFault.TheVariants as fault
 use Rattle.canvas_doc.specs.Seen.{seen}
 use Rattle.canvas_forms.specs.Ids.{client_form, version_form}
 use Rattle.canvas_forms.specs.Changes.{change_form}

@@ -1,15 +1,15 @@
 // Names and values as bytes.
 ghost use Rattle.std.specs.Prelude.{IfErr, IfOk};
 ghost use Rattle.serde_json.specs.View.{view};
-ghost use Rattle.canvas_value.specs.Codec.{StandsFor};
-ghost use Rattle.canvas_value.specs.Json.{value_form};
+ghost use Rattle.canvas_codec.specs.Codec.{StandsFor};
+ghost use Rattle.canvas_codec.specs.Json.{value_form};
 ghost use Rattle.canvas_wire.specs.Faults.{IsJson};
 ghost use Rattle.canvas_embed.specs.Faults.{IsUnjudged, IsUnparsed, IsValueError};
 ghost use Rattle.canvas_embed.specs.Values.{IsValueText};
 
 use crate::ValueError;
+use canvas_codec::{JsonFault, from_json};
 use canvas_doc::Value;
-use canvas_value::JsonFault;
 use serde_json::Value as Json;
 use std::alloc::Global;
 
@@ -31,7 +31,7 @@ fn judge(alloc: Global, json: &Json) -> Result<Value, ValueError>
     ensures ok { IfOk result (StandsFor value_form (view json.now)) }
     ensures err { IfErr result (IsUnjudged (view json.now)) }
 {
-    match Value::from_json(alloc, json) {
+    match from_json(alloc, json) {
         Ok(value) => Ok(value),
         Err(JsonFault::NotAValue) => Err(ValueError::NotAValue),
         Err(JsonFault::OutOfRange) => Err(ValueError::OutOfRange),

@@ -16,37 +16,27 @@ use Rattle.serde_json.specs.View.{items_of}
 use Rattle.canvas_model.specs.declared.ObjId.{ObjId}
 use Rattle.canvas_model.specs.declared.Kind.{Kind}
 use Rattle.canvas_model.specs.declared.Kind.TheVariants.{Document, Page, Frame, Shape, Text}
-use Rattle.canvas_model.specs.Ids.{id_cmp}
 use Rattle.canvas_model.specs.Value.{Value, IsShallow, depth}
 use Rattle.canvas_model.specs.Document.{Doc, Object, Place, Name, IsDocument}
 use Rattle.canvas_model.specs.Storable.{IsShallowDoc, IsShallowObject}
-use Rattle.canvas_model.proofs.Tests.{le_true}
 use Rattle.canvas_value.specs.Props.{IsProp}
-use Rattle.canvas_value.specs.Parts.{each_test, each_written, maybe_test, maybe_written}
-use Rattle.canvas_value.proofs.Forms.{both_true}
+use Rattle.canvas_codec.specs.Parts.{each_test, each_written, maybe_test, maybe_written}
+use Rattle.canvas_value.proofs.Tests.{both_true}
 use Rattle.canvas_value.proofs.NameText.{is_name-from}
-use Rattle.canvas_value.proofs.Texts.{no_float, nests}
+use Rattle.canvas_codec.proofs.Texts.{no_float, nests}
 use Rattle.canvas_doc.specs.Known.{IsObject, IsPlace, IsRow, HasObjects}
-use Rattle.canvas_doc.proofs.Maps.{exact_ids, ids_total, found_at}
-use Rattle.canvas_doc.proofs.Searched.{pair_at}
-use Rattle.canvas_doc.proofs.Props.{names_total, exact_names}
+use Rattle.canvas_doc.proofs.Maps.{ids_total}
+use Rattle.canvas_doc.proofs.Props.{names_total}
 use Rattle.canvas_forms.specs.Kinds.{kind_form}
 use Rattle.canvas_forms.specs.Places.{place_form}
 use Rattle.canvas_forms.specs.Rows.{prop_form, row_form, rows_form}
 use Rattle.canvas_json.specs.RowOrder.{are_in_order}
-use Rattle.canvas_forms.specs.Shallow.{is_shallow_prop, is_shallow_row}
+use Rattle.canvas_doc.specs.Shallow.{is_shallow_row}
 use Rattle.canvas_forms.proofs.Tested.{t_true}
 use Rattle.canvas_json.proofs.Members.{each_view}
 use Rattle.canvas_forms.proofs.Positions.{is_position_from}
 use Rattle.canvas_forms.proofs.Orders.{document_ordered}
-
--- what holds of whatever a map has at a key holds of each of its pairs
-pub each_entry : {K X : Type 0} {R : K → K → Ordering} → IsTotalOrder R → (m : map.FinMap R X) (P : K × X → Type 0) → ((k : K) (x : X) → map.get m k ≡ Some x → P (k, x)) → All P (map.entries m)
-each_entry {K} {X} {R} o m P h i d lt =
-    let es = map.entries m in
-    let e = get_or es i d in
-    let tied : (w : K × X) → R (get_or es i w).0 e.0 ≡ Equal = λ w. ap (λ (f : K × X). R f.0 e.0) (get_or_default es i w d lt) ∙ tied_itself o e.0 in
-    h e.0 e.1 (map.get-entries m e.0 ∙ pair_at o es (map.entries_sorted m) e.0 i lt tied d)
+use Rattle.canvas_doc.proofs.Shallow.{each_entry, object_told, same_doc}
 
 -- ---- the texts of rows are of their kinds
 
@@ -78,9 +68,6 @@ pub rows_sound : (d : Doc) → HasObjects d → rows_form.sound (map.entries d) 
 rows_sound d has = each_sound (map.entries d) (each_entry ids_total d IsRow has)
 
 -- ---- the rows of a document stand in order
-
-pub same_doc : (d : Doc) → map.from_sorted (map.entries d) ≡ d
-same_doc d = map.same_entries_map _ _ (map.entries-from_sorted id_cmp (map.entries d) (map.entries_sorted d))
 
 pub doc_ordered : (d : Doc) → IsDocument d → are_in_order (rows_form.write (map.entries d)) ≡ true
 doc_ordered d is = document_ordered (map.entries d) (record { sorted = map.entries_sorted d; document = subst IsDocument (sym (same_doc d)) is })
@@ -150,31 +137,6 @@ rows_nest d shallow = each_nests (map.entries d) (each_entry ids_total d (λ e. 
 
 -- ---- whether values are too deep, row by row
 
-pub true_le : (m n : ℕ) → m ≤ n → nat_le m n ≡ true
-true_le m n e = grind (arith, e)
-
-object_told : (o : Object) → list_all is_shallow_prop (map.entries o.props) ≡ true → IsShallowObject o
-object_told o all name value found =
-    let pair = found_at exact_names (map.entries o.props) name value (sym (map.get-entries o.props name) ∙ found) in
-    let here = AllPass-from_list_all is_shallow_prop (map.entries o.props) all pair.0 (name, value) pair.1 in
-    le_true (depth value) 16 (sym (ap is_shallow_prop (pair.2 (name, value))) ∙ here)
-
 -- a row whose values aren't too deep nests little deeper
 pub shallow_row_nests : (e : ObjId × Object) → is_shallow_row e ≡ true → D.depth (row_form.write e) ≤ 20
 shallow_row_nests e h = row_nests e (object_told e.1 h)
-
-object_tells : (o : Object) → IsShallowObject o → list_all is_shallow_prop (map.entries o.props) ≡ true
-object_tells o h =
-    list_all-from_AllPass is_shallow_prop (map.entries o.props)
-    (each_entry names_total o.props (λ e. is_shallow_prop e ≡ true) (λ name value found. true_le (depth value) 16 (h name value found)))
-
-pub doc_told : (d : Doc) → list_all is_shallow_row (map.entries d) ≡ true → IsShallowDoc d
-doc_told d all q o found =
-    let pair = found_at exact_ids (map.entries d) q o (sym (map.get-entries d q) ∙ found) in
-    let here = AllPass-from_list_all is_shallow_row (map.entries d) all pair.0 (q, o) pair.1 in
-    object_told o (sym (ap is_shallow_row (pair.2 (q, o))) ∙ here)
-
-pub doc_tells : (d : Doc) → IsShallowDoc d → list_all is_shallow_row (map.entries d) ≡ true
-doc_tells d h =
-    list_all-from_AllPass is_shallow_row (map.entries d)
-    (each_entry ids_total d (λ e. is_shallow_row e ≡ true) (λ q o found. object_tells o (h q o found)))

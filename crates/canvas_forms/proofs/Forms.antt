@@ -13,12 +13,13 @@ use Rattle.canvas_model.specs.Document.{Place, Name}
 use Rattle.canvas_model.specs.Text.{kind_word}
 use Rattle.canvas_model.specs.Change.{Change, Create, Set, Move, Delete}
 use Rattle.canvas_model.specs.Verdict.{Outcome, Joined, Created, WasSet, Moved, Removed, Refused, number_of}
-use Rattle.canvas_value.specs.Shape.{shape}
-use Rattle.canvas_value.specs.Codec.{IsCodec, AreMembers, IsWorded}
-use Rattle.canvas_value.specs.Parts.{is_within, whole_in, with_fit, choice, after, array_of, each, end, headed}
-use Rattle.canvas_value.specs.Json.{name_form}
-use Rattle.canvas_value.proofs.Forms.{first, second, whole_is, text_is, via_is, maybe_is, end_is, member_is, each_is, array_is, headed_is, after_is, choice_is, some_mapped}
-use Rattle.canvas_value.proofs.Laws.{value_is}
+use Rattle.canvas_codec.specs.Shape.{shape}
+use Rattle.canvas_codec.specs.Codec.{IsCodec, AreMembers, IsWorded}
+use Rattle.canvas_value.specs.Range.{is_within}
+use Rattle.canvas_codec.specs.Parts.{whole_in, with_fit, choice, after, array_of, each, end, headed}
+use Rattle.canvas_codec.specs.Json.{name_form}
+use Rattle.canvas_codec.proofs.Forms.{first, second, whole_is, text_is, via_is, maybe_is, end_is, member_is, each_is, array_is, headed_is, after_is, choice_is, some_mapped}
+use Rattle.canvas_codec.proofs.Laws.{value_is}
 use Rattle.canvas_value.specs.Names.{is_name}
 use Rattle.canvas_forms.specs.Version.{Version}
 use Rattle.canvas_forms.specs.Numbered.{numbered}

@@ -15,8 +15,8 @@ use Rattle.canvas_doc.specs.Whole.{AreDocument, IsRoot, is_placed}
 use Rattle.canvas_doc.proofs.Maps.{ids_total, same_exact}
 use Rattle.canvas_doc.proofs.Searched.{second, head_below, below_at, rising_answer}
 use Rattle.canvas_doc.proofs.Whole.{rooted_is_document}
-use Rattle.canvas_value.specs.Parts.{each_written, maybe_written}
-use Rattle.canvas_value.proofs.Forms.{both_hold, both_true}
+use Rattle.canvas_codec.specs.Parts.{each_written, maybe_written}
+use Rattle.canvas_value.proofs.Tests.{both_hold, both_true}
 use Rattle.canvas_forms.specs.Places.{place_form}
 use Rattle.canvas_forms.specs.Rows.{row_form, rows_form}
 use Rattle.canvas_json.specs.RowOrder.{wide_cmp, wide_root, head_in, is_given, is_root, is_row, is_after, are_after, are_in_order}

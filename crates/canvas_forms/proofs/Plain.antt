@@ -19,9 +19,11 @@ use Rattle.canvas_model.specs.declared.ObjId.{ObjId}
 use Rattle.canvas_model.specs.Value as value
 use Rattle.canvas_model.specs.Value.{Value, Values, no_more, more}
 use Rattle.canvas_model.specs.Document.{Object, Place, Name}
-use Rattle.canvas_value.specs.Json as value_json
-use Rattle.canvas_value.specs.Parts.{is_within, each_test, each_written, maybe_test, maybe_written}
-use Rattle.canvas_value.proofs.Forms.{both_hold, both_true}
+use Rattle.canvas_codec.specs.Json as value_json
+use Rattle.canvas_value.specs.Range as range
+use Rattle.canvas_value.specs.Range.{is_within}
+use Rattle.canvas_codec.specs.Parts.{each_test, each_written, maybe_test, maybe_written}
+use Rattle.canvas_value.proofs.Tests.{both_hold, both_true}
 use Rattle.canvas_forms.specs.Ids.{client_form, id_form}
 use Rattle.canvas_forms.specs.Places.{place_form}
 use Rattle.canvas_forms.specs.Rows.{prop_form, row_form}
@@ -119,7 +121,7 @@ pub small_of_64 : (n : ℕ) → is_within 0 4294967295 n ≡ true → nat_lt n (
 small_of_64 n e = grind (arith, e)
 
 mutual
-  value_plain : (v : Value) → value_json.fits v ≡ true → is_plain (value_json.json v) ≡ true
+  value_plain : (v : Value) → range.fits v ≡ true → is_plain (value_json.json v) ≡ true
   value_plain (value.number (pos n)) e = of_64 n e
   value_plain (value.number (negsuc n)) e = e
   value_plain (value.truth b) e = refl
@@ -127,9 +129,9 @@ mutual
   value_plain (value.text s) e = refl
   value_plain (value.list vs) e = values_plain vs e
 
-  values_plain : (vs : Values) → value_json.all_fit vs ≡ true → are_plain (value_json.jsons vs) ≡ true
+  values_plain : (vs : Values) → range.all_fit vs ≡ true → are_plain (value_json.jsons vs) ≡ true
   values_plain no_more e = refl
-  values_plain (more v vs) e = let h = both_hold (value_json.fits v) (value_json.all_fit vs) e in both_true (is_plain (value_json.json v)) (are_plain (value_json.jsons vs)) (value_plain v h.0) (values_plain vs h.1)
+  values_plain (more v vs) e = let h = both_hold (range.fits v) (range.all_fit vs) e in both_true (is_plain (value_json.json v)) (are_plain (value_json.jsons vs)) (value_plain v h.0) (values_plain vs h.1)
 
 id_plain : (id : ObjId) → id_form.fits id ≡ true → is_plain (id_form.write id) ≡ true
 id_plain id e =
@@ -145,7 +147,7 @@ props_plain : (es : List (Name × Value)) → each_test prop_form.fits es ≡ tr
 props_plain [] e = refl
 props_plain (p ∷ ps) e =
     let h = both_hold (prop_form.fits p) (each_test prop_form.fits ps) e in
-    let k = both_hold (value_json.fits p.1) true h.0 in
+    let k = both_hold (range.fits p.1) true h.0 in
     rw (value_plain p.1 k.0, props_plain ps h.1) refl
 
 row_plain : (row : ObjId × Object) → row_form.fits row ≡ true → is_plain (row_form.write row) ≡ true

@@ -9,7 +9,7 @@ use Rattle.canvas_pos.specs.declared.PosError.{PosError}
 use Rattle.canvas_pos.specs.declared.PosError.TheVariants.{Empty, TooLong, BadByte, TrailingZero, Memory}
 use Rattle.canvas_value.proofs.NameText.{is_name-from, not_name}
 use Rattle.serde_json.specs.Data.{string}
-use Rattle.canvas_value.specs.Faults.{RefusesShape}
+use Rattle.canvas_codec.specs.Faults.{RefusesShape}
 use Rattle.canvas_forms.specs.Places.{pos_form, pos_fault, is_digit, is_position}
 
 digit_passes : (b : ℕ) → IsDigitByte b → is_digit b ≡ true

@@ -10,8 +10,8 @@ use Rattle.canvas_model.specs.Document.{Doc, Object, Name, Place}
 use Rattle.canvas_model.specs.Value.{Value}
 use Rattle.canvas_model.specs.Change.{Change, Create, Set, Move, Delete}
 use Rattle.canvas_value.specs.Props.{IsProp}
-use Rattle.canvas_value.specs.Parts.{each_test, maybe_test}
-use Rattle.canvas_value.proofs.Forms.{both_true}
+use Rattle.canvas_codec.specs.Parts.{each_test, maybe_test}
+use Rattle.canvas_value.proofs.Tests.{both_true}
 use Rattle.canvas_doc.specs.Known.{IsPlace, IsChange, IsRow, HasObjects}
 use Rattle.canvas_doc.proofs.Maps.{ids_total}
 use Rattle.canvas_doc.proofs.Props.{names_total}
@@ -21,7 +21,7 @@ use Rattle.canvas_forms.specs.Places.{place_form}
 use Rattle.canvas_forms.specs.Changes.{change_form}
 use Rattle.canvas_forms.specs.Outcomes.{reason_form}
 use Rattle.canvas_forms.specs.Rows.{prop_form, row_form, rows_form}
-use Rattle.canvas_forms.proofs.Docs.{each_entry}
+use Rattle.canvas_doc.proofs.Shallow.{each_entry}
 use Rattle.canvas_forms.proofs.Positions.{is_position_from}
 
 pub client_fits : (n : ℕ) → n < 4294967296 → client_form.fits n ≡ true

@@ -7,10 +7,11 @@ use Rattle.std.specs.Ordering.{is_lt}
 use Rattle.serde_json.specs.Data.{Data, string, array, Items, no_items, item}
 use Rattle.canvas_model.specs.Value.{Value}
 use Rattle.canvas_model.specs.Document.{Name, name_cmp}
-use Rattle.canvas_value.specs.Shape.{shape}
-use Rattle.canvas_value.specs.Codec.{Form, IsForm, IsCodec}
-use Rattle.canvas_value.proofs.Forms.{first, both_hold, both_true, via_is, maybe_is, end_is, member_is, each_is, array_is}
-use Rattle.canvas_value.proofs.Laws.{value_is}
+use Rattle.canvas_codec.specs.Shape.{shape}
+use Rattle.canvas_codec.specs.Codec.{Form, IsForm, IsCodec}
+use Rattle.canvas_codec.proofs.Forms.{first, via_is, maybe_is, end_is, member_is, each_is, array_is}
+use Rattle.canvas_value.proofs.Tests.{both_hold, both_true}
+use Rattle.canvas_codec.proofs.Laws.{value_is}
 use Rattle.canvas_forms.specs.Only.{kept, only}
 use Rattle.canvas_forms.specs.Places.{place_form}
 use Rattle.canvas_forms.specs.Rows.{prop_form, listed_form, named_form, props_form, row_form, rows_form}

@@ -3,7 +3,7 @@ use Rattle.std.proofs.Common.{◌≡◌, List, [], ◌∷◌, Some, None, true, 
 use Rattle.canvas_model.specs.declared.ObjId.{ObjId}
 use Rattle.canvas_model.specs.Change.{Change, Create, Set, Move, Delete}
 use Rattle.canvas_doc.specs.Known.{IsChange}
-use Rattle.canvas_value.specs.Parts.{each_test}
+use Rattle.canvas_codec.specs.Parts.{each_test}
 use Rattle.canvas_value.proofs.NameText.{is_name-from}
 use Rattle.canvas_forms.specs.Ids.{id_form}
 use Rattle.canvas_forms.specs.Changes.{change_form}

@@ -7,9 +7,9 @@ use Rattle.canvas_model.specs.declared.Kind.{Kind}
 use Rattle.canvas_model.specs.Value.{Value}
 use Rattle.canvas_model.specs.Document.{Place, Name}
 use Rattle.canvas_model.specs.Change.{Change, Create, Set, Move, Delete}
-use Rattle.canvas_value.specs.Codec.{Codec, Members, Worded}
-use Rattle.canvas_value.specs.Parts.{via, array_of, headed, choice, after, member, end}
-use Rattle.canvas_value.specs.Json.{value_form, name_form}
+use Rattle.canvas_codec.specs.Codec.{Codec, Members, Worded}
+use Rattle.canvas_codec.specs.Parts.{via, array_of, headed, choice, after, member, end}
+use Rattle.canvas_codec.specs.Json.{value_form, name_form}
 use Rattle.canvas_forms.specs.Ids.{id_form}
 use Rattle.canvas_forms.specs.Kinds.{kind_form}
 use Rattle.canvas_forms.specs.Places.{place_form}

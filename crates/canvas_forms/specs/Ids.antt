@@ -1,8 +1,8 @@
 -- Clients, versions and ids of objects as JSON.
 use Rattle.std.specs.Prelude.{ℕ}
 use Rattle.canvas_model.specs.declared.ObjId.{ObjId}
-use Rattle.canvas_value.specs.Codec.{Codec}
-use Rattle.canvas_value.specs.Parts.{whole, via, array_of, member, end}
+use Rattle.canvas_codec.specs.Codec.{Codec}
+use Rattle.canvas_codec.specs.Parts.{whole, via, array_of, member, end}
 
 -- a client, a counter or a colour: a whole number of 32 bits
 abbrev pub client_form : Codec ℕ

@@ -3,8 +3,8 @@ use Rattle.std.specs.Prelude.{◌||◌, ℕ, List, Bool, bytes_eq, if◌then◌e
 use Rattle.canvas_model.specs.declared.Kind.{Kind}
 use Rattle.canvas_model.specs.declared.Kind.TheVariants.{Document, Page, Frame, Shape, Text}
 use Rattle.canvas_model.specs.Text.{kind_word}
-use Rattle.canvas_value.specs.Codec.{Codec}
-use Rattle.canvas_value.specs.Parts.{via, text_of}
+use Rattle.canvas_codec.specs.Codec.{Codec}
+use Rattle.canvas_codec.specs.Parts.{via, text_of}
 
 -- whether it is the word of this kind
 abbrev pub is_word_of : Kind → List ℕ → Bool

@@ -8,4 +8,3 @@ pub mod Changes
 pub mod Outcomes
 pub mod Rows
 pub mod InOrder
-pub mod Shallow

@@ -1,6 +1,6 @@
 -- Things of a form that meet a test besides.
 use Rattle.std.specs.Prelude.{◌&&◌, Bool, Option, Some, None, if◌then◌else◌}
-use Rattle.canvas_value.specs.Codec.{Form}
+use Rattle.canvas_codec.specs.Codec.{Form}
 
 -- what was read, unless it fails the test
 abbrev pub kept : {X : Type 0} → (X → Bool) → Option (X × Bool) → Option (X × Bool)

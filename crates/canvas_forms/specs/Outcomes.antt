@@ -7,8 +7,8 @@ use Rattle.canvas_model.specs.declared.Reason.{Reason}
 use Rattle.canvas_model.specs.declared.Reason.TheVariants.{IsRoot, BadId, Gone, ParentGone, BadParent, Cycle, Crowded, TooDeep}
 use Rattle.canvas_model.specs.Document.{Place}
 use Rattle.canvas_model.specs.Verdict.{Outcome, Joined, Created, WasSet, Moved, Removed, Refused, number_of}
-use Rattle.canvas_value.specs.Codec.{Codec, Members, Worded}
-use Rattle.canvas_value.specs.Parts.{via, array_of, each, maybe, headed, choice, after, member, end}
+use Rattle.canvas_codec.specs.Codec.{Codec, Members, Worded}
+use Rattle.canvas_codec.specs.Parts.{via, array_of, each, maybe, headed, choice, after, member, end}
 use Rattle.canvas_forms.specs.Version.{Version}
 use Rattle.canvas_forms.specs.Numbered.{numbered}
 use Rattle.canvas_forms.specs.Ids.{client_form, id_form}

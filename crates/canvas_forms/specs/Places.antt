@@ -4,10 +4,10 @@ use Rattle.std.specs.List.{list_all}
 use Rattle.canvas_model.specs.Document.{Place}
 use Rattle.canvas_pos.specs.declared.PosError.{PosError}
 use Rattle.canvas_pos.specs.declared.PosError.TheVariants.{Empty, TooLong, BadByte, TrailingZero, Memory}
-use Rattle.canvas_value.specs.declared.json_fault.JsonFault.{JsonFault}
-use Rattle.canvas_value.specs.declared.json_fault.JsonFault.TheVariants as json
-use Rattle.canvas_value.specs.Codec.{Codec}
-use Rattle.canvas_value.specs.Parts.{via, text_of, array_of, member, end}
+use Rattle.canvas_codec.specs.declared.json_fault.JsonFault.{JsonFault}
+use Rattle.canvas_codec.specs.declared.json_fault.JsonFault.TheVariants as json
+use Rattle.canvas_codec.specs.Codec.{Codec}
+use Rattle.canvas_codec.specs.Parts.{via, text_of, array_of, member, end}
 use Rattle.canvas_forms.specs.Ids.{id_form}
 
 -- a byte that stands for a digit

@@ -5,9 +5,9 @@ use Rattle.std.specs.FinMap as map
 use Rattle.canvas_model.specs.declared.ObjId.{ObjId}
 use Rattle.canvas_model.specs.Value.{Value}
 use Rattle.canvas_model.specs.Document.{Object, Name, name_cmp}
-use Rattle.canvas_value.specs.Codec.{Codec}
-use Rattle.canvas_value.specs.Parts.{via, maybe, array_of, each, member, end}
-use Rattle.canvas_value.specs.Json.{value_form, name_form}
+use Rattle.canvas_codec.specs.Codec.{Codec}
+use Rattle.canvas_codec.specs.Parts.{via, maybe, array_of, each, member, end}
+use Rattle.canvas_codec.specs.Json.{value_form, name_form}
 use Rattle.canvas_forms.specs.Only.{only}
 use Rattle.canvas_forms.specs.Ids.{id_form}
 use Rattle.canvas_forms.specs.Kinds.{kind_form}

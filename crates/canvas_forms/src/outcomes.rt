@@ -4,19 +4,19 @@ ghost use Rattle.serde_json.specs.Data.{array};
 ghost use Rattle.serde_json.specs.View.{view, items_view};
 ghost use Rattle.canvas_judge.specs.Seen.{seen_outcome};
 ghost use Rattle.canvas_model.specs.Verdict.{Refused};
-ghost use Rattle.canvas_value.specs.Parts.{each_in, each_written};
-ghost use Rattle.canvas_value.specs.Faults.{RefusesShape};
+ghost use Rattle.canvas_codec.specs.Parts.{each_in, each_written};
+ghost use Rattle.canvas_codec.specs.Faults.{RefusesShape};
 ghost use Rattle.canvas_forms.specs.Version.{version_two};
 ghost use Rattle.canvas_forms.specs.Ids.{id_form};
 ghost use Rattle.canvas_forms.specs.Outcomes.{outcome_form, outcome_after, reason_form, reason_of};
 
 use crate::ids::{read_id, write_id};
 use crate::places::{read_maybe_place, read_place, write_maybe_place, write_place};
+use canvas_codec::JsonFault;
+use canvas_codec::parts::{ended, whole};
 use canvas_doc::{ObjId, Place};
 use canvas_json::json_tree::{array, members, one, two, whole32, worded};
 use canvas_judge::{Outcome, Reason};
-use canvas_value::JsonFault;
-use canvas_value::parts::{ended, whole};
 use serde_json::Value as Json;
 use std::alloc::{AllocError, Allocator, Global};
 

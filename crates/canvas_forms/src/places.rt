@@ -2,15 +2,15 @@
 ghost use Rattle.std.specs.Prelude.{◌≡◌, true, IfOk, IfErr, Some};
 ghost use Rattle.serde_json.specs.View.{view};
 ghost use Rattle.std.specs.Option.{option_copied};
-ghost use Rattle.canvas_value.specs.Parts.{maybe};
-ghost use Rattle.canvas_value.specs.Faults.{RefusesShape};
+ghost use Rattle.canvas_codec.specs.Parts.{maybe};
+ghost use Rattle.canvas_codec.specs.Faults.{RefusesShape};
 ghost use Rattle.canvas_forms.specs.Places.{pos_form, pos_fault, place_form};
 
 use crate::ids::{read_id, write_id};
+use canvas_codec::JsonFault;
 use canvas_doc::Place;
 use canvas_json::json_tree::{array, members, two};
 use canvas_pos::{Pos, PosError};
-use canvas_value::JsonFault;
 use serde_json::Value as Json;
 use std::alloc::{AllocError, Allocator, Global};
 

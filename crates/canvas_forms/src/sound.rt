@@ -5,7 +5,7 @@ ghost use Rattle.std.specs.List.{All};
 ghost use Rattle.std.specs.FinMap as map;
 ghost use Rattle.canvas_model.specs.Ids.{IsId};
 ghost use Rattle.canvas_model.specs.Change.{HoldsShallow};
-ghost use Rattle.canvas_value.specs.Parts.{maybe};
+ghost use Rattle.canvas_codec.specs.Parts.{maybe};
 ghost use Rattle.canvas_judge.specs.Seen.{seen_outcome};
 ghost use Rattle.canvas_forms.specs.Version.{version_two};
 ghost use Rattle.canvas_forms.specs.Ids.{client_form};

@@ -8,9 +8,9 @@ use Rattle.canvas_judge.specs.declared.message.NoReason.TheVariants as no
 use Rattle.canvas_server.specs.Asked.{Asked}
 use Rattle.canvas_server.specs.Served.{Served, tail_of}
 use Rattle.canvas_board.specs.Marks.{Mark, Opening}
-use Rattle.canvas_desk.specs.declared.faults.Refusal.TheVariants.{Stranger, Repeat, Gap, Full}
-use Rattle.canvas_desk.specs.declared.faults.SubmitError.{SubmitError}
-use Rattle.canvas_desk.specs.declared.faults.SubmitError.TheVariants.{Refused, NotKept, Owed}
+use Rattle.canvas_intake.specs.declared.faults.Refusal.TheVariants.{Stranger, Repeat, Gap, Full}
+use Rattle.canvas_intake.specs.declared.faults.SubmitError.{SubmitError}
+use Rattle.canvas_intake.specs.declared.faults.SubmitError.TheVariants.{Refused, NotKept, Owed}
 use Rattle.canvas_nodes.specs.Answers.{IsAnswer, IsEnd, refused}
 use Rattle.canvas_front.specs.News.{tells, tells_or_copies}
 use Rattle.canvas_front.specs.Table.{AnswersAsk, AnswersRequest, IsJudged, IsToldAs, SaysOf, TellsNews, TellsRefusal, answer_of}

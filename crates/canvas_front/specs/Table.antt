@@ -13,9 +13,9 @@ use Rattle.canvas_journal.specs.declared.fault.KeepError.TheVariants as keep
 use Rattle.canvas_server.specs.Asked.{Asked}
 use Rattle.canvas_server.specs.Served.{Served}
 use Rattle.canvas_board.specs.Marks.{Logged, Mark, Opening, Sees, board}
-use Rattle.canvas_desk.specs.declared.faults.Refusal.TheVariants as refusal
-use Rattle.canvas_desk.specs.declared.faults.SubmitError.{SubmitError}
-use Rattle.canvas_desk.specs.declared.faults.SubmitError.TheVariants as submit
+use Rattle.canvas_intake.specs.declared.faults.Refusal.TheVariants as refusal
+use Rattle.canvas_intake.specs.declared.faults.SubmitError.{SubmitError}
+use Rattle.canvas_intake.specs.declared.faults.SubmitError.TheVariants as submit
 use Rattle.canvas_room.specs.Seats.{Answers, IsRefused, RefusesEdit}
 use Rattle.canvas_nodes.specs.Answers.{AreTexts, refused}
 use Rattle.canvas_front.specs.News.{news_of}

@@ -1,7 +1,7 @@
 //! Frames of each kind that a server reads, and how often it writes.
 use crate::rooms::Room;
 use crate::sockets::answers;
-use canvas_nodes::serve_one;
+use canvas_sockets::serve_one;
 use memory_sockets::{MemorySocket, sent, socket};
 use std::alloc::Global;
 use std::io;

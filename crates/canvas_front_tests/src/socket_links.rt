@@ -1,6 +1,7 @@
 //! Links over sockets: what is sent, and how each answer is told.
 use canvas_judge::{Message, NoReason};
-use canvas_nodes::{Link, LinkError, SocketLink};
+use canvas_nodes::{Link, LinkError};
+use canvas_sockets::SocketLink;
 use memory_sockets::{sent, socket};
 use std::alloc::{AllocError, Global};
 use std::test::Fail;

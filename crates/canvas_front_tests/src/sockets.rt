@@ -1,6 +1,6 @@
 //! What a new server sends.
 use crate::rooms::Room;
-use canvas_nodes::serve_one;
+use canvas_sockets::serve_one;
 use memory_sockets::{heard, socket};
 use std::alloc::Global;
 use std::test::Fail;

@@ -4,7 +4,7 @@ use Rattle.std.specs.List.{IsAllAdjacentAnswer}
 use Rattle.serde_json.specs.Data.{Items, no_items, item}
 use Rattle.serde_json.specs.View.{view, items_view}
 use Rattle.serde_json.specs.declared.value.Value.{Value as Json}
-use Rattle.canvas_value.proofs.Forms.{both_true}
+use Rattle.canvas_value.proofs.Tests.{both_true}
 use Rattle.canvas_json.specs.JsonTree.{count}
 use Rattle.canvas_json.specs.RowOrder.{two_in, four_in, head_in, is_after, are_each_after}
 

@@ -2,7 +2,7 @@
 use Rattle.std.specs.Prelude.{ℕ, suc, List, Option, Some, None}
 use Rattle.serde_json.specs.Data as D
 use Rattle.serde_json.specs.Data.{Data, null, boolean, string, array, object, Items, no_items, item}
-use Rattle.canvas_value.specs.Parts.{head_word}
+use Rattle.canvas_codec.specs.Parts.{head_word}
 
 -- how many members there are
 abbrev pub count : Items → ℕ

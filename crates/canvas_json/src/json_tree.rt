@@ -2,10 +2,10 @@
 ghost use Rattle.std.specs.Prelude.{◌≡◌, ◌≢◌, IfOk, IfSome, IfNone, option_map};
 ghost use Rattle.serde_json.specs.Data.{array, item, no_items};
 ghost use Rattle.serde_json.specs.View.{view, items_view};
-ghost use Rattle.canvas_value.specs.Parts.{whole_in};
+ghost use Rattle.canvas_codec.specs.Parts.{whole_in};
 ghost use Rattle.canvas_json.specs.JsonTree.{count, worded, members};
 
-use canvas_value::parts::{split_word, whole};
+use canvas_codec::parts::{split_word, whole};
 use serde_json::Value as Json;
 use std::alloc::{AllocError, Global};
 

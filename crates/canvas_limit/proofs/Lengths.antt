@@ -14,7 +14,8 @@ use Rattle.canvas_model.specs.Value as value
 use Rattle.canvas_model.specs.Document.{Place, Name}
 use Rattle.canvas_model.specs.Change.{Change, Create, Set, Move, Delete}
 use Rattle.canvas_model.specs.Messages as messages
-use Rattle.canvas_value.specs.Json.{json, fits}
+use Rattle.canvas_codec.specs.Json.{json}
+use Rattle.canvas_value.specs.Range.{fits}
 use Rattle.canvas_doc.specs.Known.{IsPlace, IsChange}
 use Rattle.canvas_forms.specs.Ids.{id_form}
 use Rattle.canvas_forms.specs.Kinds.{kind_form}

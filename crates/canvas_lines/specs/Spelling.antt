@@ -10,7 +10,7 @@ use Rattle.canvas_model.specs.Text.{id_text, kind_word, place_text}
 use Rattle.canvas_model.specs.Change.{Change, Create, Set, Move, Delete}
 use Rattle.canvas_model.specs.Value.{Value, IsShallow}
 use Rattle.canvas_value.specs.Names.{IsName}
-use Rattle.canvas_value.specs.Text.{Spells}
+use Rattle.canvas_codec.specs.Text.{Spells}
 use Rattle.serde_json.specs.Data.{Data}
 use Rattle.serde_json.specs.Read.{read}
 use Rattle.canvas_lines.specs.declared.words.Verb.{Verb}

@@ -5,8 +5,8 @@ ghost use Rattle.canvas_lines.specs.Spelling.{SpellsAfter, SpellsChange, SpellsI
 
 use crate::error::LineError;
 use crate::words::{Verb, cut_word, read_name, read_place, read_value, read_verb};
+use canvas_codec::json::every_spelling;
 use canvas_doc::{Change, Kind, ObjId};
-use canvas_value::json::every_spelling;
 use std::alloc::Global;
 
 /// The change that the text spells: a verb, a blank, and what that verb wants.

@@ -6,10 +6,11 @@ ghost use Rattle.canvas_lines.specs.Errors.{IsLineError, IsUncut, IsUnspelled};
 ghost use Rattle.canvas_lines.specs.Spelling.{SpellsName, SpellsPlace, SpellsPosition, SpellsJson, SpellsValue, SpellsVerb};
 
 use crate::error::LineError;
+use canvas_codec::{JsonFault, from_json};
 use canvas_doc::{Name, ObjId, Place, Value};
 use canvas_model::words::cut;
 use canvas_pos::{Pos, PosError};
-use canvas_value::{JsonFault, NameError};
+use canvas_value::NameError;
 use serde_json::Value as Json;
 use std::alloc::Global;
 
@@ -95,7 +96,7 @@ pub fn read_value(alloc: Global, text: &[u8]) -> Result<Value, LineError>
     ensures err { IfErr result (IsLineError (SpellsValue text.now)) }
 {
     let json = read_json(alloc, text)?;
-    match Value::from_json(alloc, &json) {
+    match from_json(alloc, &json) {
         Ok(value) => Ok(value),
         Err(JsonFault::Memory) => Err(LineError::Memory),
         Err(_) => Err(LineError::Unreadable),

@@ -2,7 +2,6 @@ pub mod Going
 pub mod Unasked
 pub mod Texts
 pub mod NoTexts
-pub mod Sending
 pub mod Begun
 pub mod Hearing
 pub mod Following

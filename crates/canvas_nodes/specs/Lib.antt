@@ -1,4 +1,3 @@
 pub mod GoesOn
 pub mod Answers
-pub mod Served
 pub mod Hears

@@ -43,9 +43,9 @@ pub trait Answerer {
     {}
 }
 
-// The texts of what is answered to the bytes of a message: of what the answerer gives; or the reason of a No, NotRead where they are a text
-// of no message that a client sends, and Memory where memory is refused meanwhile.
-pub(crate) fn answered<A: Answerer>(
+/// The texts of what is answered to the bytes of a message: of what the answerer gives; or the reason of a No, NotRead where they are a
+/// text of no message that a client sends, and Memory where memory is refused meanwhile.
+pub fn answered<A: Answerer>(
     alloc: Global,
     answerer: &mut A,
     bytes: &[u8],
@@ -75,8 +75,8 @@ pub fn texts_of(alloc: Global, messages: &[Message]) -> Result<Vec<Vec<u8>>, All
     Ok(texts)
 }
 
-// The text of a No for this reason, a constant.
-pub(crate) fn no_text(reason: NoReason) -> &'static [u8]
+/// The text of a No for this reason, a constant.
+pub fn no_text(reason: NoReason) -> &'static [u8]
     ensures { EncodesMessage result.now (No (number_of reason)) }
 {
     match reason {

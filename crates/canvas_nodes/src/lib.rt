@@ -1,5 +1,5 @@
-//! Clients and servers that speak to each other: what a client does over a link to a server, whatever that answers; and how a server
-//! answers the messages of one connection.
+//! Clients and servers that speak to each other: what a client does over a link to a server, whatever that answers; and what a server
+//! answers the bytes of a message.
 #![tactic(auto)]
 
 mod answering;
@@ -7,13 +7,9 @@ mod asking;
 mod laws;
 mod link;
 mod rounds;
-mod serving;
-mod socket_link;
 
-pub use answering::{Answerer, texts_of};
+pub use answering::{Answerer, answered, no_text, texts_of};
 pub use asking::asked;
 pub use laws::every_hearing;
 pub use link::{Link, LinkError};
 pub use rounds::{exchange, join};
-pub use serving::serve_one;
-pub use socket_link::SocketLink;

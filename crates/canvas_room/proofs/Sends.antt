@@ -41,8 +41,8 @@ use Rattle.canvas_board.specs.declared.mark.Mark.{Mark as MarkOf}
 use Rattle.canvas_board.specs.declared.rule.Published.{Published as PublishedOf}
 use Rattle.canvas_board.proofs.history.Book.TheSendSync as book
 use Rattle.canvas_board.proofs.history.Front.TheSendSync as front
-use Rattle.canvas_desk.proofs.faults.SubmitError.TheSendSync as submit_error
-use Rattle.canvas_desk.specs.contracts.faults.SubmitError as SubmitError
+use Rattle.canvas_intake.proofs.faults.SubmitError.TheSendSync as submit_error
+use Rattle.canvas_intake.specs.contracts.faults.SubmitError as SubmitError
 use Rattle.canvas_desk.specs.contracts.desk.Desk as Desk
 use Rattle.canvas_journal.specs.declared.keeper.Keeper as keeper
 use Rattle.canvas_desk.specs.contracts.desk.Desk.TheInside as in_desk

@@ -3,7 +3,7 @@ ghost use Rattle.std.specs.Prelude.{◌≡◌, true, false, Err, IfErr, IfNone, 
 ghost use mathlib.Core.List.{IsPrefix};
 ghost use Rattle.canvas_server.specs.Asked.{Asked, seen_request};
 ghost use Rattle.canvas_board.specs.Marks.{IsLegal, TellsFailure};
-ghost use Rattle.canvas_desk.specs.Faults.{is_memory};
+ghost use Rattle.canvas_intake.specs.Faults.{is_memory};
 ghost use Rattle.canvas_room.specs.Batches.{IsUnanswered};
 ghost use Rattle.canvas_room.specs.Seats as seats;
 ghost use Rattle.canvas_room.specs.Seats.{IsAnswerTo, IsFailedSince, Learns};

@@ -1,6 +1,6 @@
 //! Desks to ask.
 ghost use Rattle.std.specs.Prelude.{◌≡◌, [], IsTrue, false};
-ghost use Rattle.canvas_desk.specs.Desks.{IsKeptAt};
+ghost use Rattle.canvas_intake.specs.Ready.{IsKeptAt};
 ghost use Rattle.canvas_room_tests.specs.Desks.{first};
 ghost use Rattle.canvas_journal.specs.Meaning.{opening};
 ghost use Rattle.canvas_shelf.specs.Shelved.{disk_of};

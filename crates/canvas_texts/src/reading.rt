@@ -1,8 +1,9 @@
 // What texts are read as. What is said of one is written of a copy, where there is a call that copies.
 use crate::saying::{refused, said};
+use canvas_codec::{JsonFault, from_json, json_text};
 use canvas_doc::{ObjId, Object};
 use canvas_judge::{Entry, Message, State};
-use canvas_value::{JsonFault, Name, NameError, Value};
+use canvas_value::{Name, NameError, Value};
 use canvas_wire::{
     CheckpointHead, decode, decode_checkpoint, decode_entry, decode_head, decode_row, encode,
     encode_entry, encode_head, encode_row,
@@ -129,7 +130,7 @@ fn value_again<A: Allocator + Copy>(
     value: &Value<A>,
 ) -> Result<Vec<u8>, AllocError> {
     let copy = value.copy_in(alloc)?;
-    let text = copy.json_text(heap)?;
+    let text = json_text(heap, &copy)?;
     said(heap, text.as_bytes())
 }
 
@@ -139,7 +140,7 @@ fn value_of<A: Allocator + Copy>(
     alloc: A,
     json: &Json,
 ) -> Result<Vec<u8>, AllocError> {
-    match Value::from_json(alloc, json) {
+    match from_json(alloc, json) {
         Ok(value) => match value.check() {
             Ok(()) => value_again(heap, alloc, &value),
             Err(_) => Vec::from_slice(heap, b"TooDeep"),

@@ -4,7 +4,7 @@ use mathlib.Core.Logic.{inl, inr}
 use Rattle.std.specs.Prelude.{Bool, true, false, cond, not, nat_le, nat_lt, slice_get, Some, Result, Ok, Err}
 use Rattle.canvas_model.specs.Change.{Change}
 use Rattle.canvas_model.specs.State.{State, opening, done, joined}
-use Rattle.canvas_model.specs.Log.{Entry, Edit, at_version, fold, last_version}
+use Rattle.canvas_model.specs.Log.{Entry, Edit, at_version, fold}
 use Rattle.canvas_model.specs.Log as model
 use Rattle.canvas_model.specs.Client.{Client, Yields}
 use Rattle.canvas_model.specs.Messages.{Message, Welcome, Idle, No}
@@ -23,15 +23,15 @@ use Rattle.canvas_server.specs.declared.taking.TakeError.TheVariants as take
 use Rattle.canvas_client.specs.Follow.{EachVerdictLeavesRoot}
 use Rattle.canvas_board.specs.Marks.{IsLegal, Logged, Mark, Opening, board, start}
 use Rattle.canvas_board.proofs.Boards.{legal_begin}
-use Rattle.canvas_desk.specs.declared.faults.Refusal.TheVariants.{Stranger, Repeat, Gap, Full}
-use Rattle.canvas_desk.specs.declared.faults.SubmitError.{SubmitError}
-use Rattle.canvas_desk.specs.declared.faults.SubmitError.TheVariants.{Refused, NotKept, Owed}
+use Rattle.canvas_intake.specs.declared.faults.Refusal.TheVariants.{Stranger, Repeat, Gap, Full}
+use Rattle.canvas_intake.specs.declared.faults.SubmitError.{SubmitError}
+use Rattle.canvas_intake.specs.declared.faults.SubmitError.TheVariants.{Refused, NotKept, Owed}
 use Rattle.canvas_room.specs.Seats.{IsRefused}
 use Rattle.canvas_nodes.specs.declared.link.LinkError.{LinkError}
 use Rattle.canvas_nodes.specs.Answers.{IsEnd}
 use Rattle.canvas_nodes.specs.Hears.{Breaks, Hears, HearsOfEdit}
 use Rattle.canvas_front.specs.News.{news_of}
-use Rattle.canvas_front.specs.Table.{AnswersAsk, AnswersRequest, IsJudged, IsSince, SaysOf, TellsNews, TellsRefusal, answer_of}
+use Rattle.canvas_front.specs.Table.{AnswersAsk, AnswersRequest, IsSince, SaysOf, answer_of}
 use Rattle.canvas_front.specs.Links.{Grants, IsNo, RefusesRound}
 use Rattle.canvas_front.proofs.Ends.{says_ends}
 use Rattle.canvas_front.proofs.SeesOn.{refused_sees}

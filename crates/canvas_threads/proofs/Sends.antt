@@ -28,8 +28,8 @@ use Rattle.canvas_threads.specs.contracts.client_node.Command as Command
 use Rattle.canvas_threads.specs.contracts.client_node.Ended as Ended
 use Rattle.canvas_threads.specs.contracts.client_node.Work as Work
 use Rattle.canvas_threads.specs.contracts.nodes.Done as Done
-use Rattle.canvas_desk.specs.contracts.faults.SubmitError as SubmitError
-use Rattle.canvas_desk.proofs.faults.SubmitError.TheSendSync as submit_error
+use Rattle.canvas_intake.specs.contracts.faults.SubmitError as SubmitError
+use Rattle.canvas_intake.proofs.faults.SubmitError.TheSendSync as submit_error
 use Rattle.std.specs.contracts.result.Result as Result
 
 pub Pending-send : IsSend (Pending.the_row Heap.the_row ghosts)

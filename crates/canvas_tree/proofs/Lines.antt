@@ -6,7 +6,7 @@ use Rattle.std.proofs.lemmas.Grind.{flat_map-append}
 use Rattle.std.proofs.lemmas.List.{take_more, append-nil}
 use Rattle.canvas_model.specs.Document.{Name, Pos}
 use Rattle.canvas_model.specs.Text.{id_text, kind_word}
-use Rattle.canvas_value.specs.Text.{json_text}
+use Rattle.canvas_codec.specs.Text.{json_text}
 use Rattle.canvas_model.specs.Value.{Value}
 use Rattle.canvas_tree.specs.Shapes.{Label, Branch, forest_of}
 use Rattle.canvas_tree.specs.Texts.{blanks, pos_text, head_text, head_line, prop_line, label_text, forest_text, tree_text}

@@ -1,7 +1,7 @@
 -- The text of a tree: a line for each object and for each of its properties, two blanks deeper at each level.
 use Rattle.std.specs.Prelude.{ℕ, suc, List, [], ◌∷◌, ◌++◌, codes, Option, None, Some}
 use Rattle.std.specs.List.{repeat, flat_map}
-use Rattle.canvas_value.specs.Text.{json_text}
+use Rattle.canvas_codec.specs.Text.{json_text}
 use Rattle.canvas_model.specs.Value.{Value}
 use Rattle.canvas_model.specs.Document.{Pos, Name}
 use Rattle.canvas_model.specs.Text.{id_text, kind_word}

@@ -5,6 +5,7 @@ ghost use Rattle.canvas_tree.specs.Shapes.{forest_of};
 ghost use Rattle.canvas_tree.specs.Texts.{blanks, forest_text, head_line, head_text, prop_line, tree_text};
 
 use crate::Tree;
+use canvas_codec::json_text;
 use canvas_value::{Name, Value};
 use std::alloc::{AllocError, Allocator, Global};
 
@@ -118,7 +119,7 @@ fn prop_line<A: Allocator>(
 {
     let blanks = blanks(alloc, level)?;
     let name = prop.0.as_str();
-    let value = prop.1.json_text(alloc)?;
+    let value = json_text(alloc, &prop.1)?;
     format!(in alloc; "{blanks}.{name} {value}\n")
 }
 

@@ -1,12 +1,4 @@
+pub mod Tests
 pub mod Members
 pub mod NameText
-pub mod ReadLists
-pub mod DataSizes
-pub mod Reading
-pub mod Forms
-pub mod Laws
-pub mod Writing
-pub mod JsonOne
-pub mod Ended
-pub mod Texts
 pub mod Copied

@@ -1,12 +1,12 @@
 -- The members of a list: their sizes and depths.
-use Rattle.std.proofs.Common.{◌≡◌, ℕ, zero, suc, ◌<◌, ◌≤◌, max, List, [], ◌∷◌, ◌++◌, length, get_or, Vec, true, refl, ap, sym, subst, ◌∙◌, arith}
+use Rattle.std.proofs.Common.{◌≡◌, ℕ, zero, suc, ◌<◌, ◌≤◌, max, List, [], ◌∷◌, ◌++◌, length, get_or, Vec, Bool, true, false, refl, ap, sym, subst, ◌∙◌, arith}
 use Rattle.canvas_model.specs.Value.{Value, Values, no_more, more, list, values_of, depth, members_depth}
 use Rattle.canvas_value.specs.Sizes.{value_size, values_size}
-use Rattle.canvas_value.specs.Json.{fits, all_fit}
+use Rattle.canvas_value.specs.Range.{fits, all_fit}
 use Rattle.canvas_value.specs.Seen.{seen}
 use Rattle.canvas_value.specs.declared.ValueVariant.{ValueVariant}
 use Rattle.canvas_value.specs.declared.ValueVariant.TheVariants as V
-use Rattle.canvas_value.proofs.Forms.{both_hold}
+use Rattle.canvas_value.proofs.Tests.{both_hold}
 
 -- the members of a list that was seen as p are together smaller than p
 pub members_below : {A : Type 0} (n : ValueVariant A) (v : Vec Value A) (p : Value) → seen n ≡ p → n ≡ V.List v → values_size (values_of v.items) < value_size p

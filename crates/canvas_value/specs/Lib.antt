@@ -1,14 +1,7 @@
 pub mod Sizes
 pub mod Seen
 pub mod Falls
+pub mod Range
 pub mod Names
 pub mod NameErrors
-pub mod Shape
-pub mod Codec
-pub mod Parts
-pub mod ReadList
-pub mod Json
 pub mod Props
-pub mod Faults
-pub mod Text
-pub mod Laws

@@ -2,7 +2,7 @@
 use Rattle.std.specs.Prelude.{◌≡◌, ℕ, List, true}
 use Rattle.canvas_model.specs.Value.{Value}
 use Rattle.canvas_value.specs.Names.{IsName}
-use Rattle.canvas_value.specs.Json.{fits}
+use Rattle.canvas_value.specs.Range.{fits}
 
 -- the name is a name, and the numbers of the value are in range
 pub record IsProp (prop : List ℕ × Value) : Type 0 where

@@ -1,22 +1,17 @@
-//! Values of properties, names of properties, and their JSON.
+//! Values of properties, and names of properties.
 //!
 //! Contracts see a value as the plain one of `canvas_model`, which knows no allocator, and a name
 //! as its bytes. So they can say that two values under different allocators are the same.
 #![tactic(auto)]
 
 ghost use Rattle.std.specs.Prelude.{◌≡◌, ◌≤◌, ◌↔◌, min, true, IsTrue, IsOk, IfOk, string_bytes};
-ghost use Rattle.canvas_model.specs.Value.{number, truth, colour, text, list, values_of};
-ghost use Rattle.canvas_model.specs.Value.{depth, members_depth, max_depth};
-ghost use Rattle.canvas_value.specs.Json.{fits, all_fit};
+ghost use Rattle.canvas_model.specs.Value.{colour, depth, list, max_depth, members_depth, number, text, truth, values_of};
+ghost use Rattle.canvas_value.specs.Range.{fits, all_fit};
 ghost use Rattle.canvas_value.specs.Seen.{seen};
 
-pub mod json;
-mod json_fault;
 mod names;
-pub mod parts;
 mod props;
 
-pub use crate::json_fault::JsonFault;
 pub use crate::names::{MAX_NAME_LEN, Name, NameError};
 pub use crate::props::{copy_props, copy_value, every_prop, same_props, same_value};
 use std::alloc::{AllocError, Allocator, Global};
@@ -66,7 +61,7 @@ impl<A: Allocator> Model for Value<A> {
     ghost view = { λ v. seen v.variant };
 
     ghost use Rattle.std.specs.Prelude.{◌≡◌, true};
-    ghost use Rattle.canvas_value.specs.Json.{fits};
+    ghost use Rattle.canvas_value.specs.Range.{fits};
 
     ghost invariant = { λ v. fits (seen v.variant) ≡ true };
 

@@ -1,9 +1,9 @@
 -- Checkpoints have a form in each version.
 use Rattle.std.proofs.Common.{codes, refl}
-use Rattle.canvas_value.specs.Shape.{shape}
-use Rattle.canvas_value.specs.Codec.{IsCodec, AreMembers, IsWorded}
-use Rattle.canvas_value.specs.Parts.{after}
-use Rattle.canvas_value.proofs.Forms.{via_is, end_is, member_is, each_is, array_is, headed_is, after_is}
+use Rattle.canvas_codec.specs.Shape.{shape}
+use Rattle.canvas_codec.specs.Codec.{IsCodec, AreMembers, IsWorded}
+use Rattle.canvas_codec.specs.Parts.{after}
+use Rattle.canvas_codec.proofs.Forms.{via_is, end_is, member_is, each_is, array_is, headed_is, after_is}
 use Rattle.canvas_forms.specs.Version.{Version}
 use Rattle.canvas_forms.proofs.Forms.{client_is, version_is}
 use Rattle.canvas_forms.proofs.RowForms.{rows_is}

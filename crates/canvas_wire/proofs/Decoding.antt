@@ -1,12 +1,12 @@
 -- What a reading of a JSON tree says of the bytes, for every form.
 use Rattle.std.proofs.Common.{◌≡◌, ℕ, List, Bool, true, false, Option, Some, unwrap_or, refl, ap, sym, subst, ◌∙◌}
 use Rattle.serde_json.specs.Data.{Data}
-use Rattle.canvas_value.specs.Shape.{shape}
-use Rattle.canvas_value.specs.Codec.{Codec, HasShape, StandsFor, IsOutOfRange, IsCodec}
-use Rattle.canvas_value.proofs.Forms.{first, stands_for, reads_what_stands, out_of_range, no_shape}
-use Rattle.canvas_value.specs.Faults.{RefusesShape}
-use Rattle.canvas_value.specs.declared.json_fault.JsonFault.{JsonFault}
-use Rattle.canvas_value.specs.declared.json_fault.JsonFault.TheVariants as value
+use Rattle.canvas_codec.specs.Shape.{shape}
+use Rattle.canvas_codec.specs.Codec.{Codec, HasShape, StandsFor, IsOutOfRange, IsCodec}
+use Rattle.canvas_codec.proofs.Forms.{first, stands_for, reads_what_stands, out_of_range, no_shape}
+use Rattle.canvas_codec.specs.Faults.{RefusesShape}
+use Rattle.canvas_codec.specs.declared.json_fault.JsonFault.{JsonFault}
+use Rattle.canvas_codec.specs.declared.json_fault.JsonFault.TheVariants as value
 use Rattle.canvas_wire.specs.Faults.{refusal, IsJson, Means, IsTextOf, IsJsonFault, IsWireError, IsNotJson}
 use Rattle.canvas_wire.specs.declared.fault.WireError.{WireError}
 use Rattle.canvas_wire.specs.declared.fault.WireError.TheVariants.{NotJson, NotAMessage, OutOfRange, TooDeep, Memory}

@@ -5,10 +5,10 @@ use Rattle.serde_json.specs.Data as D
 use Rattle.serde_json.specs.Data.{Data, unsigned, negative, float, null, boolean, string, array, object, Items}
 use Rattle.canvas_model.specs.Change.{Change}
 use Rattle.canvas_model.specs.Log.{What, Join, Edit}
-use Rattle.canvas_value.specs.Shape.{shape}
-use Rattle.canvas_value.specs.Codec.{Codec, IsCodec}
-use Rattle.canvas_value.specs.Parts.{with_fit, maybe_test}
-use Rattle.canvas_value.proofs.Forms.{first, second, via_is, end_is, member_is, array_is, some_mapped}
+use Rattle.canvas_codec.specs.Shape.{shape}
+use Rattle.canvas_codec.specs.Codec.{Codec, IsCodec}
+use Rattle.canvas_codec.specs.Parts.{with_fit, maybe_test}
+use Rattle.canvas_codec.proofs.Forms.{first, second, via_is, end_is, member_is, array_is, some_mapped}
 use Rattle.canvas_forms.specs.Version.{Version}
 use Rattle.canvas_forms.specs.Changes.{change_form}
 use Rattle.canvas_forms.proofs.Forms.{client_is, version_is, change_is, outcome_is}

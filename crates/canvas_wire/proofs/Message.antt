@@ -8,13 +8,15 @@ use Rattle.canvas_model.specs.Ids.{id_cmp}
 use Rattle.canvas_model.specs.Document.{Object}
 use Rattle.canvas_model.specs.Messages.{Message, Welcome, Idle, No}
 use Rattle.canvas_model.specs.Messages as messages
-use Rattle.canvas_value.specs.Shape.{shape}
-use Rattle.canvas_value.specs.Codec.{IsCodec, StandsFor}
-use Rattle.canvas_value.specs.Parts.{is_within, whole_in}
-use Rattle.canvas_value.specs.Faults.{RefusesShape}
-use Rattle.canvas_value.specs.declared.json_fault.JsonFault.{JsonFault}
-use Rattle.canvas_value.specs.declared.json_fault.JsonFault.TheVariants as value
-use Rattle.canvas_value.proofs.Forms.{both_hold, stands_for, out_of_range, no_shape}
+use Rattle.canvas_codec.specs.Shape.{shape}
+use Rattle.canvas_codec.specs.Codec.{IsCodec, StandsFor}
+use Rattle.canvas_value.specs.Range.{is_within}
+use Rattle.canvas_codec.specs.Parts.{whole_in}
+use Rattle.canvas_codec.specs.Faults.{RefusesShape}
+use Rattle.canvas_codec.specs.declared.json_fault.JsonFault.{JsonFault}
+use Rattle.canvas_codec.specs.declared.json_fault.JsonFault.TheVariants as value
+use Rattle.canvas_value.proofs.Tests.{both_hold}
+use Rattle.canvas_codec.proofs.Forms.{stands_for, out_of_range, no_shape}
 use Rattle.canvas_forms.specs.Version.{version_two}
 use Rattle.canvas_json.specs.JsonTree.{worded}
 use Rattle.canvas_forms.specs.Rows.{rows_form}

@@ -4,9 +4,10 @@ use Rattle.canvas_model.specs.declared.ObjId.{ObjId}
 use Rattle.canvas_model.specs.Document.{Object}
 use Rattle.canvas_model.specs.Change.{Change}
 use Rattle.canvas_model.specs.Log.{Entry}
-use Rattle.canvas_value.specs.Codec.{Members, Worded, IsCodec, AreMembers, IsWorded}
-use Rattle.canvas_value.specs.Parts.{is_within, whole, choice, after, end}
-use Rattle.canvas_value.proofs.Forms.{whole_is, end_is, member_is, array_is, headed_is, after_is, choice_is}
+use Rattle.canvas_codec.specs.Codec.{Members, Worded, IsCodec, AreMembers, IsWorded}
+use Rattle.canvas_value.specs.Range.{is_within}
+use Rattle.canvas_codec.specs.Parts.{whole, choice, after, end}
+use Rattle.canvas_codec.proofs.Forms.{whole_is, end_is, member_is, array_is, headed_is, after_is, choice_is}
 use Rattle.canvas_forms.specs.Version.{Version}
 use Rattle.canvas_forms.specs.Ids.{client_form}
 use Rattle.canvas_forms.specs.Outcomes.{alone}

@@ -6,7 +6,7 @@ use Rattle.canvas_model.specs.declared.Counts.{Counts}
 use Rattle.canvas_model.specs.State.{done}
 use Rattle.canvas_model.specs.Numbered.{nth}
 use Rattle.canvas_model.specs.Log.{Entry, last_version}
-use Rattle.canvas_value.specs.Parts.{each_test}
+use Rattle.canvas_codec.specs.Parts.{each_test}
 use Rattle.canvas_forms.specs.Version.{version_two}
 use Rattle.canvas_forms.specs.Ids.{client_form}
 use Rattle.canvas_forms.specs.Outcomes.{outcome_form}

@@ -3,8 +3,8 @@ use Rattle.std.specs.Prelude.{◌≡◌, ℕ, List, Some}
 use Rattle.std.specs.Str.{IsUtf8}
 use Rattle.serde_json.specs.Data.{Data}
 use Rattle.serde_json.specs.Read.{read as read_text}
-use Rattle.canvas_value.specs.declared.json_fault.JsonFault.{JsonFault}
-use Rattle.canvas_value.specs.declared.json_fault.JsonFault.TheVariants as value
+use Rattle.canvas_codec.specs.declared.json_fault.JsonFault.{JsonFault}
+use Rattle.canvas_codec.specs.declared.json_fault.JsonFault.TheVariants as value
 use Rattle.canvas_wire.specs.declared.fault.WireError.{WireError}
 use Rattle.canvas_wire.specs.declared.fault.WireError.TheVariants.{NotJson, NotAMessage, OutOfRange, TooDeep, Memory}
 

@@ -6,7 +6,7 @@ use Rattle.canvas_model.specs.State.{State, done}
 use Rattle.canvas_model.specs.Log.{Entry, Fits, FitsSome, effect, last_version}
 use Rattle.canvas_model.specs.Storable.{IsStorable}
 use Rattle.canvas_model.specs.Messages.{Message}
-use Rattle.canvas_value.specs.Codec.{IsCodec}
+use Rattle.canvas_codec.specs.Codec.{IsCodec}
 use Rattle.canvas_forms.specs.Version.{Version}
 use Rattle.canvas_forms.specs.Rows.{row_form}
 use Rattle.canvas_wire.specs.Entries.{entry_form}

@@ -10,8 +10,8 @@ use Rattle.canvas_model.specs.Change.{Change}
 use Rattle.canvas_model.specs.Log.{Entry}
 use Rattle.canvas_model.specs.Messages.{Message, Welcome, Idle, No}
 use Rattle.canvas_model.specs.Messages as messages
-use Rattle.canvas_value.specs.Codec.{Codec, Members, Worded, HasShape, StandsFor}
-use Rattle.canvas_value.specs.Parts.{whole, array_of, headed, choice, after, member, end}
+use Rattle.canvas_codec.specs.Codec.{Codec, Members, Worded, HasShape, StandsFor}
+use Rattle.canvas_codec.specs.Parts.{whole, array_of, headed, choice, after, member, end}
 use Rattle.canvas_forms.specs.Version.{Version}
 use Rattle.canvas_forms.specs.Numbered.{numbered}
 use Rattle.canvas_forms.specs.Ids.{client_form, version_form}

@@ -3,8 +3,8 @@ ghost use Rattle.std.specs.Prelude.{◌≡◌, IfOk, IfErr};
 ghost use Rattle.serde_json.specs.View.{view};
 ghost use Rattle.canvas_wire.specs.Faults.{IsJson, IsNotJson, refusal};
 
+use canvas_codec::JsonFault;
 use canvas_doc::TooDeep;
-use canvas_value::JsonFault;
 use serde_json::Value as Json;
 use std::alloc::{AllocError, AllocFailed, Global};
 use thiserror::Error;

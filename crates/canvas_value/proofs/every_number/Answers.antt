@@ -1,6 +1,6 @@
 use Rattle.std.proofs.Common.{take, get_or, ap, sym, ◌∙◌}
 use Rattle.std.proofs.lemmas.List.{take_more}
-use Rattle.canvas_value.specs.Json.{fits}
+use Rattle.canvas_value.specs.Range.{fits}
 use Rattle.canvas_value.proofs.Members.{all_fit-more}
 use Rattle.canvas_value.proofs.every_number.Goals as goal
 

@@ -1,6 +1,6 @@
 use Rattle.std.proofs.Common.{◌≡◌, take, true}
 use Rattle.canvas_model.specs.Value.{values_of}
-use Rattle.canvas_value.specs.Json.{all_fit}
+use Rattle.canvas_value.specs.Range.{all_fit}
 use Rattle.canvas_value.proofs.every_number.Given as goal
 
 -- the numbers of the first values are in range

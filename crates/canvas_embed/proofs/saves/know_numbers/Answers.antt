@@ -1,5 +1,5 @@
 use Rattle.std.proofs.Common.{◌≡◌, true, subst, ◌≤◌, arith}
-use Rattle.canvas_value.specs.Parts.{maybe}
+use Rattle.canvas_codec.specs.Parts.{maybe}
 use Rattle.canvas_forms.specs.Ids.{client_form}
 use Rattle.canvas_embed.specs.Saves.{any_form}
 use Rattle.canvas_embed.proofs.Saved.{numbers_fit}

@@ -1,6 +1,6 @@
 use Rattle.std.proofs.Common.{◌≡◌, map, take, Some}
 use Rattle.serde_json.specs.View.{view}
-use Rattle.canvas_value.specs.ReadList.{read_list}
+use Rattle.canvas_codec.specs.ReadList.{read_list}
 use Rattle.canvas_doc.specs.Seen.{seen}
 use Rattle.canvas_forms.specs.Changes.{change_form}
 use Rattle.canvas_embed.proofs.saves.read_each.Given as goal

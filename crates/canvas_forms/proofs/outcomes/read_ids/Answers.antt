@@ -1,8 +1,8 @@
 use Rattle.std.proofs.Common.{ap, sym, ◌∙◌, arith}
 use Rattle.std.proofs.lemmas.List.{take_all}
 use Rattle.serde_json.specs.View.{view}
-use Rattle.canvas_value.specs.ReadList.{read_list}
-use Rattle.canvas_value.proofs.ReadLists.{read_list-more, read_list-none}
+use Rattle.canvas_codec.specs.ReadList.{read_list}
+use Rattle.canvas_codec.proofs.ReadLists.{read_list-more, read_list-none}
 use Rattle.canvas_forms.specs.Ids.{id_form}
 use Rattle.canvas_json.proofs.Members.{each_list}
 use Rattle.canvas_forms.proofs.outcomes.read_ids.Goals as goal

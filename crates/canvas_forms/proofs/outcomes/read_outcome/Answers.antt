@@ -1,6 +1,6 @@
 use Rattle.std.proofs.Common.{IfOk, IfErr, ◌≡◌, Some, codes, subst, sym}
 use Rattle.serde_json.specs.View.{view, items_view}
-use Rattle.canvas_value.specs.Faults.{RefusesShape}
+use Rattle.canvas_codec.specs.Faults.{RefusesShape}
 use Rattle.canvas_judge.specs.Seen.{seen_outcome}
 use Rattle.canvas_forms.specs.Version.{version_two}
 use Rattle.canvas_forms.specs.Outcomes.{outcome_form}

@@ -3,7 +3,7 @@ use Rattle.std.specs.FinMap as map
 use Rattle.std.specs.Str.{IsUtf8}
 use Rattle.std.proofs.lemmas.Str.{IsUtf8-string_bytes}
 use Rattle.serde_json.specs.Read.{read}
-use Rattle.canvas_value.specs.Parts.{each_written}
+use Rattle.canvas_codec.specs.Parts.{each_written}
 use Rattle.canvas_judge.specs.Seen.{seen_copy}
 use Rattle.canvas_forms.specs.Version.{version_two}
 use Rattle.canvas_forms.specs.Rows.{row_form}

@@ -5,7 +5,7 @@ use Rattle.std.proofs.lemmas.Str.{IsUtf8-append, IsUtf8-from_ascii, IsUtf8-strin
 use Rattle.std.proofs.lemmas.Str.Ascii.{IsAscii-nil}
 use Rattle.serde_json.specs.Read.{read}
 use Rattle.canvas_model.specs.Messages as messages
-use Rattle.canvas_value.specs.Parts.{each_written}
+use Rattle.canvas_codec.specs.Parts.{each_written}
 use Rattle.canvas_forms.specs.Version.{version_two}
 use Rattle.canvas_forms.specs.Rows.{row_form}
 use Rattle.canvas_forms.proofs.Plain.{plain_back}

@@ -2,7 +2,7 @@ use Rattle.std.proofs.Common.{◌≡◌, ◌++◌}
 use Rattle.std.specs.Prelude.{string_bytes}
 use Rattle.std.specs.FinMap as map
 use Rattle.serde_json.specs.Written.{items_text, compact_text}
-use Rattle.canvas_value.specs.Parts.{each_written}
+use Rattle.canvas_codec.specs.Parts.{each_written}
 use Rattle.canvas_forms.specs.Rows.{row_form, rows_form}
 use Rattle.canvas_wire.proofs.copies.push_rows.Given as goal
 

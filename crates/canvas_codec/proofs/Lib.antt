@@ -1,0 +1,9 @@
+pub mod ReadLists
+pub mod DataSizes
+pub mod Reading
+pub mod Forms
+pub mod Laws
+pub mod Writing
+pub mod JsonOne
+pub mod Ended
+pub mod Texts

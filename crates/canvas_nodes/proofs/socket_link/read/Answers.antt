@@ -1,4 +1,0 @@
-use Rattle.canvas_nodes.proofs.socket_link.read.Goals as goal
-
-pub returns-in-Ok : goal.returns-in-Ok
-returns-in-Ok c = (c.args.bytes.now, c.in-Ok.ensures.ok)
