@@ -6,6 +6,8 @@ use Rattle.serde_json.specs.Data.{Data, boolean, number, unsigned, string, array
 use Rattle.serde_json.specs.View.{items_of}
 use Rattle.canvas_gateway.specs.declared.requests.Change.{Change}
 use Rattle.canvas_gateway.specs.declared.requests.Change.TheVariants.{Put, Remove}
+use Rattle.canvas_gateway.specs.declared.requests.Leaf.{Leaf}
+use Rattle.canvas_gateway.specs.declared.requests.Leaf.TheVariants.{Bytes, Text, Whole, Flag}
 
 -- bytes in base64, as a text
 abbrev pub base64_text : List ℕ → Data
@@ -14,6 +16,13 @@ base64_text bytes = string (encode_of standard bytes)
 -- a whole number
 abbrev pub whole : ℕ → Data
 whole n = number (unsigned n)
+
+-- what stands under a name
+abbrev pub leaf_tree : Leaf → Data
+leaf_tree (Bytes bytes) = base64_text bytes.now
+leaf_tree (Text text) = string text.now
+leaf_tree (Whole n) = whole n
+leaf_tree (Flag b) = boolean b
 
 -- the keys from one on up to another, which isn't one of them, with their values or without, at most so many where the limit isn't 0, and as they
 -- stood at a revision where that isn't 0

@@ -1,17 +1,16 @@
 // What is asked of an etcd's gateway.
-ghost use Rattle.std.specs.Prelude.{◌≡◌, IfOk, string_bytes};
-ghost use Rattle.base64.specs.Engines.{standard};
-ghost use Rattle.base64.specs.GeneralPurpose.{encode_of};
-ghost use Rattle.serde_json.specs.Data.{array};
-ghost use Rattle.serde_json.specs.View.{view};
+ghost use Rattle.std.specs.Prelude.{◌≡◌, ◌++◌, ◌∷◌, [], IfOk, OnOk, codes, map, string_bytes};
+ghost use Rattle.std.specs.List.{fold};
+ghost use Rattle.serde_json.specs.Data.{array, item, member, no_items, no_members, object, put};
+ghost use Rattle.serde_json.specs.View.{members_view, view};
 ghost use Rattle.canvas_gateway.specs.Posts.{Asks};
-ghost use Rattle.canvas_gateway.specs.Trees.{change_items, change_tree, commit_tree, compare_tree, grant_tree, lease_tree, put_tree, range_tree, remove_tree};
+ghost use Rattle.canvas_gateway.specs.Trees.{base64_text, change_items, change_tree, commit_tree, compare_tree, grant_tree, lease_tree, leaf_tree, put_tree, range_tree, remove_tree};
 
 use crate::host::Host;
 use crate::keys::Keys;
 use crate::posts::{Call, post};
 use base64::engine::general_purpose::STANDARD;
-use serde_json::{Value as Json, json};
+use serde_json::{Map, Value as Json, put};
 use std::alloc::{AllocError, Global};
 
 /// A change of keys.
@@ -95,6 +94,19 @@ pub fn ask_revoke(alloc: Global, host: &Host, lease: u64) -> Result<Vec<u8>, All
     post(alloc, host, Call::Revoke, &tree)
 }
 
+// What stands under a name in a tree.
+#[derive(Clone, Copy)]
+enum Leaf<'a> {
+    // Bytes, in base64.
+    Bytes(&'a [u8]),
+    // A text.
+    Text(&'a str),
+    // A whole number.
+    Whole(u64),
+    // Whether something is so.
+    Flag(bool),
+}
+
 // The tree of a request for keys.
 fn range_tree(
     alloc: Global,
@@ -105,29 +117,28 @@ fn range_tree(
 ) -> Result<Json, AllocError>
     ensures { IfOk result (λ j. view j ≡ range_tree keys.now.from.items keys.now.to.items limit keys_only revision) }
 {
-    let from = base64_text(alloc, &keys.from)?;
-    let to = base64_text(alloc, &keys.to)?;
-    json!(in alloc; {
-        "key": from.as_str(),
-        "keys_only": keys_only,
-        "limit": limit,
-        "range_end": to.as_str(),
-        "revision": revision
-    })
+    let members = [
+        ("key", Leaf::Bytes(&keys.from)),
+        ("keys_only", Leaf::Flag(keys_only)),
+        ("limit", Leaf::Whole(limit)),
+        ("range_end", Leaf::Bytes(&keys.to)),
+        ("revision", Leaf::Whole(revision)),
+    ];
+    object_of(alloc, &members)
 }
 
 // The tree of a request for a lease.
 fn grant_tree(alloc: Global, seconds: u64) -> Result<Json, AllocError>
     ensures { IfOk result (λ j. view j ≡ grant_tree seconds) }
 {
-    json!(in alloc; {"TTL": seconds})
+    object_of(alloc, &[("TTL", Leaf::Whole(seconds))])
 }
 
 // The tree that names a lease.
 fn lease_tree(alloc: Global, lease: u64) -> Result<Json, AllocError>
     ensures { IfOk result (λ j. view j ≡ lease_tree lease) }
 {
-    json!(in alloc; {"ID": lease})
+    object_of(alloc, &[("ID", Leaf::Whole(lease))])
 }
 
 // The tree of a request for changes.
@@ -139,22 +150,49 @@ fn commit_tree(
 ) -> Result<Json, AllocError>
     ensures { IfOk result (λ j. view j ≡ commit_tree key.now revision changes.now) }
 {
+    let mut members = Map::new(alloc);
+    put_compare(alloc, &mut members, key, revision)?;
+    put_changes(alloc, &mut members, changes)?;
+    Ok(Json::Object(members))
+}
+
+// Puts an array of one comparison among the members.
+fn put_compare(
+    alloc: Global,
+    members: &mut Map<String, Json>,
+    key: &[u8],
+    revision: u64,
+) -> Result<(), AllocError>
+    ensures { OnOk result (members_view members.new.entries ≡ put (codes "compare") (array (item (compare_tree key.now revision) no_items)) (members_view members.old.entries)) }
+{
     let compare = compare_tree(alloc, key, revision)?;
+    let compares = Json::from(vec![in alloc; compare]?);
+    put(members, alloc, "compare", compares)
+}
+
+// Puts the changes among the members.
+fn put_changes(
+    alloc: Global,
+    members: &mut Map<String, Json>,
+    changes: &[Change<'_>],
+) -> Result<(), AllocError>
+    ensures { OnOk result (members_view members.new.entries ≡ put (codes "success") (array (change_items changes.now)) (members_view members.old.entries)) }
+{
     let changes = changes_tree(alloc, changes)?;
-    json!(in alloc; {"compare": [compare], "success": changes})
+    put(members, alloc, "success", changes)
 }
 
 // The tree of a comparison.
 fn compare_tree(alloc: Global, key: &[u8], revision: u64) -> Result<Json, AllocError>
     ensures { IfOk result (λ j. view j ≡ compare_tree key.now revision) }
 {
-    let key = base64_text(alloc, key)?;
-    json!(in alloc; {
-        "key": key.as_str(),
-        "mod_revision": revision,
-        "result": "EQUAL",
-        "target": "MOD"
-    })
+    let members = [
+        ("key", Leaf::Bytes(key)),
+        ("mod_revision", Leaf::Whole(revision)),
+        ("result", Leaf::Text("EQUAL")),
+        ("target", Leaf::Text("MOD")),
+    ];
+    object_of(alloc, &members)
 }
 
 // The tree of changes.
@@ -163,9 +201,17 @@ fn changes_tree(alloc: Global, changes: &[Change<'_>]) -> Result<Json, AllocErro
 {
     let mut items = Vec::with_capacity(alloc, changes.len())?;
     for change in changes {
-        items.push(change_tree(alloc, change)?)?;
+        push_change(alloc, &mut items, change)?;
     }
     Ok(Json::from(items))
+}
+
+// Puts the tree of a change behind others.
+fn push_change(alloc: Global, items: &mut Vec<Json>, change: &Change<'_>) -> Result<(), AllocError>
+    ensures { OnOk result (map view items.new.items ≡ map view items.old.items ++ change_tree change.now ∷ []) }
+{
+    let tree = change_tree(alloc, change)?;
+    Ok(items.push(tree)?)
 }
 
 // The tree of a change.
@@ -179,30 +225,95 @@ fn change_tree(alloc: Global, change: &Change<'_>) -> Result<Json, AllocError>
 }
 
 // The tree of a key that gets a value.
-fn put_tree(alloc: Global, key: &[u8], value: &[u8], lease: u64) -> Result<Json, AllocError>
+fn put_tree<'a>(
+    alloc: Global,
+    key: &'a [u8],
+    value: &'a [u8],
+    lease: u64,
+) -> Result<Json, AllocError>
     ensures { IfOk result (λ j. view j ≡ put_tree key.now value.now lease) }
 {
-    let key = base64_text(alloc, key)?;
-    let value = base64_text(alloc, value)?;
-    json!(in alloc; {
-        "request_put": {"key": key.as_str(), "lease": lease, "value": value.as_str()}
-    })
+    let members = [
+        ("key", Leaf::Bytes(key)),
+        ("lease", Leaf::Whole(lease)),
+        ("value", Leaf::Bytes(value)),
+    ];
+    object_under(alloc, "request_put", &members)
 }
 
 // The tree of keys that go.
 fn remove_tree(alloc: Global, keys: &Keys) -> Result<Json, AllocError>
     ensures { IfOk result (λ j. view j ≡ remove_tree keys.now.from.items keys.now.to.items) }
 {
-    let from = base64_text(alloc, &keys.from)?;
-    let to = base64_text(alloc, &keys.to)?;
-    json!(in alloc; {
-        "request_delete_range": {"key": from.as_str(), "range_end": to.as_str()}
-    })
+    let members = [
+        ("key", Leaf::Bytes(&keys.from)),
+        ("range_end", Leaf::Bytes(&keys.to)),
+    ];
+    object_under(alloc, "request_delete_range", &members)
 }
 
-// Bytes in base64.
-fn base64_text(alloc: Global, bytes: &[u8]) -> Result<String, AllocError>
-    ensures { IfOk result (λ text. string_bytes text ≡ encode_of standard bytes.now) }
+// An object with an object of these members, alone under this name.
+fn object_under(alloc: Global, name: &str, members: &[(&str, Leaf<'_>)]) -> Result<Json, AllocError>
+    ensures { IfOk result (λ j. view j ≡ object (member name.now (object (fold (λ ms m. put m.0.now (leaf_tree m.1) ms) no_members members.now)) no_members)) }
 {
-    STANDARD.encode(alloc, bytes)
+    let mut above = Map::new(alloc);
+    put_object(alloc, &mut above, name, members)?;
+    Ok(Json::Object(above))
+}
+
+// Puts an object of these members under this name.
+fn put_object(
+    alloc: Global,
+    above: &mut Map<String, Json>,
+    name: &str,
+    members: &[(&str, Leaf<'_>)],
+) -> Result<(), AllocError>
+    ensures { OnOk result (members_view above.new.entries ≡ put name.now (object (fold (λ ms m. put m.0.now (leaf_tree m.1) ms) no_members members.now)) (members_view above.old.entries)) }
+{
+    let object = object_of(alloc, members)?;
+    put(above, alloc, name, object)
+}
+
+// An object of these members.
+fn object_of(alloc: Global, members: &[(&str, Leaf<'_>)]) -> Result<Json, AllocError>
+    ensures { IfOk result (λ j. view j ≡ object (fold (λ ms m. put m.0.now (leaf_tree m.1) ms) no_members members.now)) }
+{
+    let mut map = Map::new(alloc);
+    for (name, leaf) in members {
+        put_leaf(alloc, &mut map, name, leaf)?;
+    }
+    Ok(Json::Object(map))
+}
+
+// Puts a leaf under this name.
+fn put_leaf(
+    alloc: Global,
+    members: &mut Map<String, Json>,
+    name: &str,
+    leaf: &Leaf<'_>,
+) -> Result<(), AllocError>
+    ensures { OnOk result (members_view members.new.entries ≡ put name.now (leaf_tree leaf.now) (members_view members.old.entries)) }
+{
+    let tree = leaf_tree(alloc, leaf)?;
+    put(members, alloc, name, tree)
+}
+
+// The tree of a leaf.
+fn leaf_tree(alloc: Global, leaf: &Leaf<'_>) -> Result<Json, AllocError>
+    ensures { IfOk result (λ j. view j ≡ leaf_tree leaf.now) }
+{
+    match *leaf {
+        Leaf::Bytes(bytes) => base64_tree(alloc, bytes),
+        Leaf::Text(text) => Json::try_from_str(alloc, text),
+        Leaf::Whole(number) => Ok(Json::from(number)),
+        Leaf::Flag(flag) => Ok(Json::from(flag)),
+    }
+}
+
+// The tree of bytes, in base64.
+fn base64_tree(alloc: Global, bytes: &[u8]) -> Result<Json, AllocError>
+    ensures { IfOk result (λ j. view j ≡ base64_text bytes.now) }
+{
+    let text = STANDARD.encode(alloc, bytes)?;
+    Ok(Json::from(text))
 }
