@@ -1,10 +1,16 @@
 // The keys of a document in the store.
-ghost use Rattle.std.specs.Prelude.{◌≡◌, ◌≢◌, ◌+◌, ◌%◌, ◌^◌, ◌<◌, ◌≤◌, ◌++◌, ℕ, List, codes, length, IfOk, IfSome, IfNone};
-ghost use Rattle.std.specs.List.{list_all};
-ghost use Rattle.canvas_gateway.specs.Keys.{EachKeyIsOneChunk, chunk_key, document_keys, first_behind, first_below, identity_key, is_name, is_name_byte, owner_key, segment_key, segments_key, ten_digits};
+ghost use Rattle.std.specs.Prelude.{◌≡◌, ◌≢◌, ◌+◌, ◌%◌, ◌^◌, ◌<◌, ◌≤◌, ◌++◌, ℕ, [], List, codes, length, IfOk, IfSome, IfNone};
+ghost use Rattle.std.specs.List.{fold, list_all};
+ghost use Rattle.canvas_gateway.specs.Keys.{EachKeyIsOneChunk, chunk_key, first_behind, first_below, identity_key, is_name, is_name_byte, owner_key, segment_key, segments_key, ten_digits};
 
 use crate::numbers::value_of;
 use std::alloc::{AllocError, Global};
+
+// What all keys begin with.
+const ROOT: &[u8] = b"lugcurrant/";
+
+// What stands behind a document's name in the keys of its chunks.
+const SEGMENT: &[u8] = b"/segment";
 
 /// Keys in the order of their bytes: those from `from` on, up to `to`, which isn't one of them.
 #[derive(Debug, Drop)]
@@ -52,9 +58,7 @@ fn is_name_byte(b: u8) -> bool
 pub fn owner_key(alloc: Global, name: &[u8]) -> Result<Vec<u8>, AllocError>
     ensures { IfOk result (λ key. key.items ≡ owner_key name.now) }
 {
-    let mut key = document_key(alloc, name)?;
-    key.extend_from_slice(b"/owner")?;
-    Ok(key)
+    join(alloc, &[ROOT, name, b"/owner"])
 }
 
 /// The key of the identity of the document of this name.
@@ -63,9 +67,7 @@ pub fn owner_key(alloc: Global, name: &[u8]) -> Result<Vec<u8>, AllocError>
 pub fn identity_key(alloc: Global, name: &[u8]) -> Result<Vec<u8>, AllocError>
     ensures { IfOk result (λ key. key.items ≡ identity_key name.now) }
 {
-    let mut key = document_key(alloc, name)?;
-    key.extend_from_slice(b"/identity")?;
-    Ok(key)
+    join(alloc, &[ROOT, name, b"/identity"])
 }
 
 /// The key of this chunk of the document of this name. Each number stands in ten decimal digits, so the order of the keys is that of
@@ -76,10 +78,9 @@ pub fn chunk_key(alloc: Global, name: &[u8], place: Place) -> Result<Vec<u8>, Al
     requires { place.chunk < 10 ^ 10 }
     ensures { IfOk result (λ key. key.items ≡ chunk_key name.now place.segment place.chunk) }
 {
-    let mut key = segment_key(alloc, name, place.segment)?;
-    key.extend_from_slice(b"/")?;
-    key.extend_from_slice(&ten_digits(place.chunk))?;
-    Ok(key)
+    let segment = ten_digits(u64::from(place.segment));
+    let chunk = ten_digits(place.chunk);
+    join(alloc, &[ROOT, name, SEGMENT, b"/", &segment, b"/", &chunk])
 }
 
 /// The keys of all chunks of the document of this name.
@@ -126,12 +127,14 @@ fn below(alloc: Global, key: Vec<u8>) -> Result<Keys, AllocError>
     Ok(Keys { from, to })
 }
 
-// What the keys of a document begin with. It has room for what follows.
-fn document_key(alloc: Global, name: &[u8]) -> Result<Vec<u8>, AllocError>
-    ensures { IfOk result (λ key. key.items ≡ document_keys name.now) }
+// These parts, one behind the other.
+fn join(alloc: Global, parts: &[&[u8]]) -> Result<Vec<u8>, AllocError>
+    ensures { IfOk result (λ key. key.items ≡ fold (λ front part. front ++ part.now) [] parts.now) }
 {
-    let mut key = Vec::from_slice(alloc, b"lugcurrant/")?;
-    key.extend_from_slice(name)?;
+    let mut key = Vec::new(alloc);
+    for part in parts {
+        key.extend_from_slice(part)?;
+    }
     Ok(key)
 }
 
@@ -139,19 +142,15 @@ fn document_key(alloc: Global, name: &[u8]) -> Result<Vec<u8>, AllocError>
 fn segments_key(alloc: Global, name: &[u8]) -> Result<Vec<u8>, AllocError>
     ensures { IfOk result (λ key. key.items ≡ segments_key name.now) }
 {
-    let mut key = document_key(alloc, name)?;
-    key.extend_from_slice(b"/segment")?;
-    Ok(key)
+    join(alloc, &[ROOT, name, SEGMENT])
 }
 
 // What the keys of a segment's chunks begin with.
 fn segment_key(alloc: Global, name: &[u8], segment: u32) -> Result<Vec<u8>, AllocError>
     ensures { IfOk result (λ key. key.items ≡ segment_key name.now segment) }
 {
-    let mut key = segments_key(alloc, name)?;
-    key.extend_from_slice(b"/")?;
-    key.extend_from_slice(&ten_digits(u64::from(segment)))?;
-    Ok(key)
+    let segment = ten_digits(u64::from(segment));
+    join(alloc, &[ROOT, name, SEGMENT, b"/", &segment])
 }
 
 /// The chunk of which this is the key, if it is one of a chunk of the document of this name.

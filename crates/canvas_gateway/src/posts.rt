@@ -40,13 +40,22 @@ impl Call {
     }
 }
 
-// A request: a head, and the tree's text.
-pub(crate) fn post(
+// A request: a head, and the tree's text. The tree goes.
+pub(crate) fn post_tree(
     alloc: Global,
     host: &Host,
     asked: Call,
-    tree: &Json,
+    tree: Json,
 ) -> Result<Vec<u8>, AllocError>
+    requires whole { has_float (view tree) ≡ false }
+    requires shallow { depth (view tree) ≤ max_depth }
+    ensures { IfOk result (λ bytes. Asks bytes.items (string_bytes host.now.text) asked (view tree)) }
+{
+    post(alloc, host, asked, &tree)
+}
+
+// The same, of a tree that stays.
+fn post(alloc: Global, host: &Host, asked: Call, tree: &Json) -> Result<Vec<u8>, AllocError>
     requires whole { has_float (view tree.now) ≡ false }
     requires shallow { depth (view tree.now) ≤ max_depth }
     ensures { IfOk result (λ bytes. Asks bytes.items (string_bytes host.now.text) asked (view tree.now)) }

@@ -8,7 +8,7 @@ ghost use Rattle.canvas_gateway.specs.Trees.{base64_text, change_items, change_t
 
 use crate::host::Host;
 use crate::keys::Keys;
-use crate::posts::{Call, post};
+use crate::posts::{Call, post_tree};
 use base64::engine::general_purpose::STANDARD;
 use serde_json::{Map, Value as Json, put};
 use std::alloc::{AllocError, Global};
@@ -44,7 +44,7 @@ pub fn ask_range(
     ensures { IfOk result (λ bytes. Asks bytes.items (string_bytes host.now.text) Call.Range (range_tree keys.now.from.items keys.now.to.items limit keys_only revision)) }
 {
     let tree = range_tree(alloc, keys, limit, keys_only, revision)?;
-    post(alloc, host, Call::Range, &tree)
+    post_tree(alloc, host, Call::Range, tree)
 }
 
 /// A request for changes that are made together, where `key` was written last at this revision (where it isn't there, if that is 0). No
@@ -61,7 +61,7 @@ pub fn ask_commit(
     ensures { IfOk result (λ bytes. Asks bytes.items (string_bytes host.now.text) Call.Commit (commit_tree key.now revision changes.now)) }
 {
     let tree = commit_tree(alloc, key, revision, changes)?;
-    post(alloc, host, Call::Commit, &tree)
+    post_tree(alloc, host, Call::Commit, tree)
 }
 
 /// A request for a lease that ends after so many seconds, unless it is kept alive.
@@ -71,7 +71,7 @@ pub fn ask_grant(alloc: Global, host: &Host, seconds: u64) -> Result<Vec<u8>, Al
     ensures { IfOk result (λ bytes. Asks bytes.items (string_bytes host.now.text) Call.Grant (grant_tree seconds)) }
 {
     let tree = grant_tree(alloc, seconds)?;
-    post(alloc, host, Call::Grant, &tree)
+    post_tree(alloc, host, Call::Grant, tree)
 }
 
 /// A request that a lease ends as many seconds from now on as it was granted for.
@@ -81,7 +81,7 @@ pub fn ask_keep_alive(alloc: Global, host: &Host, lease: u64) -> Result<Vec<u8>,
     ensures { IfOk result (λ bytes. Asks bytes.items (string_bytes host.now.text) Call.KeepAlive (lease_tree lease)) }
 {
     let tree = lease_tree(alloc, lease)?;
-    post(alloc, host, Call::KeepAlive, &tree)
+    post_tree(alloc, host, Call::KeepAlive, tree)
 }
 
 /// A request that a lease ends now, and its keys with it.
@@ -91,7 +91,7 @@ pub fn ask_revoke(alloc: Global, host: &Host, lease: u64) -> Result<Vec<u8>, All
     ensures { IfOk result (λ bytes. Asks bytes.items (string_bytes host.now.text) Call.Revoke (lease_tree lease)) }
 {
     let tree = lease_tree(alloc, lease)?;
-    post(alloc, host, Call::Revoke, &tree)
+    post_tree(alloc, host, Call::Revoke, tree)
 }
 
 // What stands under a name in a tree.
