@@ -4,8 +4,8 @@ use crate::lease::Lease;
 use crate::wire::{StoreError, Wire, require_done};
 use canvas_etcd::Standing;
 use canvas_gateway::{
-    Change, Committed, Found, Host, KeyValue, Keys, Place, all_chunks, chunk_key, chunks_of,
-    one_key, owner_key, place_of, read_found,
+    Change, Committed, Found, Host, Keys, Place, all_chunks, chunk_key, chunks_of, one_key,
+    owner_key, place_of, read_found,
 };
 use std::alloc::{AllocError, Allocator};
 use std::net::{Net, TcpStream};
@@ -104,8 +104,13 @@ impl<R: Net<Stream = TcpStream> + AllocGlobal + Clone + Drop> Document<R> {
 
     // Lists the segments that stand, all at one revision.
     pub(crate) fn look(&mut self) -> Result<(), StoreError> {
-        let mut last: Vec<Place> = Vec::new(self.wire.alloc());
+        let mut last = Vec::new(self.wire.alloc());
         self.looked = self.note_all(&mut last)?;
+        self.stand_all(&last)
+    }
+
+    // Keeps how the segments stand whose last chunks these are, the lowest number first.
+    fn stand_all(&mut self, last: &[Place]) -> Result<(), StoreError> {
         self.segments.clear();
         for place in last.iter().rev() {
             let size = self.size_of(*place)?;
@@ -140,23 +145,7 @@ impl<R: Net<Stream = TcpStream> + AllocGlobal + Clone + Drop> Document<R> {
         if *revision == 0 {
             *revision = found.revision;
         }
-        self.note_places(&found.pairs, last)?;
-        Ok(step(keys, &found)?)
-    }
-
-    // Notes the last chunk of each segment, of these keys in their order.
-    fn note_places(&self, pairs: &[KeyValue], last: &mut Vec<Place>) -> Result<(), StoreError> {
-        for pair in pairs {
-            let Some(place) = place_of(&self.name, &pair.key) else {
-                return Err(StoreError::Unanswered);
-            };
-            let again = last.last().is_some_and(|it| it.segment == place.segment);
-            if again {
-                last.pop();
-            }
-            last.push(place)?;
-        }
-        Ok(())
+        note_found(&self.name, &found, keys, last)
     }
 
     // Writes the owner's key under this lease, where it isn't there.
@@ -218,29 +207,7 @@ impl<R: Net<Stream = TcpStream> + AllocGlobal + Clone + Drop> Document<R> {
     ) -> Result<bool, StoreError> {
         let revision = if self.owner == 0 { self.looked } else { 0 };
         let found = self.values(keys, revision)?;
-        self.join(number, &found.pairs, bytes)?;
-        Ok(step(keys, &found)?)
-    }
-
-    // Puts chunks behind the bytes of a segment, where they follow these.
-    fn join<A: Allocator>(
-        &self,
-        number: u32,
-        pairs: &[KeyValue],
-        bytes: &mut Vec<u8, A>,
-    ) -> Result<(), StoreError> {
-        for pair in pairs {
-            let chunk = bytes.len() as u64;
-            let here = Place {
-                segment: number,
-                chunk,
-            };
-            if place_of(&self.name, &pair.key) != Some(here) {
-                return Err(StoreError::Unanswered);
-            }
-            bytes.extend_from_slice(&pair.value)?;
-        }
-        Ok(())
+        join_found(&self.name, &found, number, keys, bytes)
     }
 
     // Puts a chunk behind the others of a segment.
@@ -249,27 +216,19 @@ impl<R: Net<Stream = TcpStream> + AllocGlobal + Clone + Drop> Document<R> {
             segment: number,
             chunk: at,
         };
+        self.put_at(place, bytes)?;
+        let size = at.saturating_add(bytes.len() as u64);
+        Ok(stand(&mut self.segments, Standing { number, size })?)
+    }
+
+    // Writes a chunk.
+    fn put_at(&mut self, place: Place, bytes: &[u8]) -> Result<(), StoreError> {
         let key = self.key_of(place)?;
-        let changes = [Change::Put {
+        self.commit(&[Change::Put {
             key: &key,
             value: bytes,
             lease: 0,
-        }];
-        self.commit(&changes)?;
-        let size = at.saturating_add(bytes.len() as u64);
-        Ok(self.stand(Standing { number, size })?)
-    }
-
-    // Keeps how a segment stands.
-    fn stand(&mut self, standing: Standing) -> Result<(), AllocError> {
-        let number = standing.number;
-        let i = self.segments.iter().position(|it| it.number <= number);
-        match i {
-            Some(i) if self.segments[i].number == number => self.segments[i] = standing,
-            Some(i) => self.segments.insert(i, standing)?,
-            None => self.segments.push(standing)?,
-        }
-        Ok(())
+        }])
     }
 
     // Deletes a segment's chunks.
@@ -306,6 +265,60 @@ impl<R: Net<Stream = TcpStream> + AllocGlobal + Clone + Drop> Document<R> {
     fn values(&mut self, keys: &Keys, revision: u64) -> Result<Found, StoreError> {
         self.wire.values(keys, CHUNKS, revision)
     }
+}
+
+// Keeps how a segment stands, among those that do.
+fn stand(segments: &mut Vec<Standing>, standing: Standing) -> Result<(), AllocError> {
+    let number = standing.number;
+    let i = segments.iter().position(|it| it.number <= number);
+    match i {
+        Some(i) if segments[i].number == number => segments[i] = standing,
+        Some(i) => segments.insert(i, standing)?,
+        None => segments.push(standing)?,
+    }
+    Ok(())
+}
+
+// Notes the last chunk of each segment, of what was found of a document's keys in their order. Tells whether there are more.
+fn note_found(
+    name: &[u8],
+    found: &Found,
+    keys: &mut Keys,
+    last: &mut Vec<Place>,
+) -> Result<bool, StoreError> {
+    for pair in &found.pairs {
+        let Some(place) = place_of(name, &pair.key) else {
+            return Err(StoreError::Unanswered);
+        };
+        let again = last.last().is_some_and(|it| it.segment == place.segment);
+        if again {
+            last.pop();
+        }
+        last.push(place)?;
+    }
+    Ok(step(keys, found)?)
+}
+
+// Puts the chunks that were found behind the bytes of a segment, where they follow these. Tells whether there are more.
+fn join_found<A: Allocator>(
+    name: &[u8],
+    found: &Found,
+    number: u32,
+    keys: &mut Keys,
+    bytes: &mut Vec<u8, A>,
+) -> Result<bool, StoreError> {
+    for pair in &found.pairs {
+        let chunk = bytes.len() as u64;
+        let here = Place {
+            segment: number,
+            chunk,
+        };
+        if place_of(name, &pair.key) != Some(here) {
+            return Err(StoreError::Unanswered);
+        }
+        bytes.extend_from_slice(&pair.value)?;
+    }
+    Ok(step(keys, found)?)
 }
 
 // Goes on behind what was found, and tells whether there is more.

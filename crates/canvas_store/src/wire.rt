@@ -141,26 +141,22 @@ impl<R: Net<Stream = TcpStream> + AllocGlobal + Clone + Drop> Wire<R> {
 
     // The body of this endpoint's answer.
     fn ask_here(&mut self, asked: &Asked<'_>) -> Result<Vec<u8>, StoreError> {
-        let request = self.request(asked)?;
+        let host = host_at(&self.hosts, self.at)?;
+        let request = asked.write(self.net.alloc(), host)?;
+        self.send(&request)
+    }
+
+    // The same of a request's bytes.
+    fn send(&mut self, request: &[u8]) -> Result<Vec<u8>, StoreError> {
         let mut stream = self.connection()?;
-        let answer = exchange(self.net.alloc(), &mut stream, &request)?;
+        let answer = exchange(self.net.alloc(), &mut stream, request)?;
         self.stream = Some(stream);
         body_of(answer)
     }
 
-    // What is sent to this endpoint.
-    fn request(&self, asked: &Asked<'_>) -> Result<Vec<u8>, StoreError> {
-        let Some(host) = self.hosts.get(self.at) else {
-            return Err(StoreError::Unreachable);
-        };
-        Ok(asked.write(self.net.alloc(), host)?)
-    }
-
     // The connection to this endpoint, or a new one where it has ended.
     fn connection(&mut self) -> Result<TcpStream, StoreError> {
-        let Some(host) = self.hosts.get(self.at) else {
-            return Err(StoreError::Unreachable);
-        };
+        let host = host_at(&self.hosts, self.at)?;
         match self.stream.take() {
             Some(stream) if is_open(&stream) => Ok(stream),
             _ => connect(&self.net, host.text.as_str()),
@@ -181,7 +177,17 @@ impl<R: Net<Stream = TcpStream> + AllocGlobal + Clone + Drop> Wire<R> {
         changes: &[Change<'_>],
     ) -> Result<Committed, StoreError> {
         let key = owner_key(self.alloc(), name)?;
-        let body = self.ask(&Asked::Commit(&key, owner, changes))?;
+        self.commit_under(&key, owner, changes)
+    }
+
+    // The same by the key of the owner.
+    fn commit_under(
+        &mut self,
+        key: &[u8],
+        owner: u64,
+        changes: &[Change<'_>],
+    ) -> Result<Committed, StoreError> {
+        let body = self.ask(&Asked::Commit(key, owner, changes))?;
         Ok(read_committed(self.alloc(), &body)?)
     }
 
@@ -229,14 +235,29 @@ fn connect<R: Net<Stream = TcpStream>>(net: &R, host: &str) -> Result<TcpStream,
     for address in addresses {
         let limit = Duration::from_secs(CONNECT_SECONDS);
         if let Ok(stream) = TcpStream::connect_timeout(net, &address, limit) {
-            let silence = Some(Duration::from_secs(SILENCE_SECONDS));
-            stream.set_read_timeout(silence)?;
-            stream.set_write_timeout(silence)?;
-            stream.set_nodelay(true)?;
-            return Ok(stream);
+            return prepared(stream);
         }
     }
     Err(StoreError::Unreachable)
+}
+
+// The connection, once it bears no long silence.
+fn prepared(stream: TcpStream) -> Result<TcpStream, StoreError> {
+    prepare(&stream)?;
+    Ok(stream)
+}
+
+// Bounds how long the other side may be silent, and lets each piece go at once.
+fn prepare(stream: &TcpStream) -> io::Result<()> {
+    let silence = Some(Duration::from_secs(SILENCE_SECONDS));
+    stream.set_read_timeout(silence)?;
+    stream.set_write_timeout(silence)?;
+    stream.set_nodelay(true)
+}
+
+// The endpoint of this number.
+fn host_at(hosts: &[Host], at: usize) -> Result<&Host, StoreError> {
+    hosts.get(at).ok_or(StoreError::Unreachable)
 }
 
 // Whether the other side still holds the connection, and has sent nothing unasked.
