@@ -1,15 +1,15 @@
 // The head of a request, read.
 ghost use Rattle.std.specs.Prelude.{◌≡◌, IfNone, IfOk, IfSome};
 ghost use Rattle.httparse.specs.Grammar.{HasNoRequest, MayBecomeRequest, NeverHasRequest, RequestHead};
-ghost use Rattle.httparse.specs.Spans.{RequestExceeds, RequestOverflows};
+ghost use Rattle.httparse.specs.Spans.{IsRequestAt, IsRequestWithin, RequestExceeds, RequestOverflows};
 ghost use Rattle.canvas_http.specs.Heads.{Begins, request_of};
 ghost use Rattle.canvas_http.specs.Sites.{seen_site};
 
 use crate::asked::Asked;
 use crate::fields::Fields;
 use crate::site::Site;
-use crate::table::asked;
-use httparse::spans::{EMPTY_HEADER_SPAN, parse_request};
+use crate::table::{asked, is_equal};
+use httparse::spans::{EMPTY_HEADER_SPAN, HeaderSpan, RequestSpans, parse_request};
 use httparse::{Error as ParseError, Status as Parsed};
 use thiserror::Error;
 
@@ -38,6 +38,23 @@ pub enum HeadError {
     TooManyFields,
 }
 
+// The request of a head that stands at these places.
+fn request_at(site: &Site, bytes: &[u8], head: &RequestSpans, spans: &[HeaderSpan]) -> Request
+    requires { IsRequestWithin bytes.now spans.now head.now }
+    ensures { (said : RequestHead) → IsRequestAt bytes.now spans.now head.now said → result ≡ request_of (seen_site site.now) said }
+{
+    let method = head.method.of(bytes);
+    let fields = Fields {
+        bytes,
+        spans: &spans[..head.headers],
+    };
+    Request {
+        asked: asked(site, method, head.path.of(bytes), &fields),
+        wants_body: !is_equal(method, b"HEAD"),
+        length: head.len,
+    }
+}
+
 /// What the request is whose head these bytes begin with. `None` where the head isn't whole yet.
 pub fn read_head(site: &Site, bytes: &[u8]) -> Result<Option<Request>, HeadError>
     // A request is found exactly where the bytes begin with a head of at most 64 fields, and it is what the table says of that head.
@@ -55,18 +72,7 @@ pub fn read_head(site: &Site, bytes: &[u8]) -> Result<Option<Request>, HeadError
 {
     let mut spans = [EMPTY_HEADER_SPAN; MAX_FIELDS];
     match parse_request(bytes, &mut spans) {
-        Ok(Parsed::Complete(head)) => {
-            let method = head.method.of(bytes);
-            let fields = Fields {
-                bytes,
-                spans: &spans[..head.headers],
-            };
-            Ok(Some(Request {
-                asked: asked(site, method, head.path.of(bytes), &fields),
-                wants_body: method != b"HEAD".as_slice(),
-                length: head.len,
-            }))
-        }
+        Ok(Parsed::Complete(head)) => Ok(Some(request_at(site, bytes, &head, &spans))),
         Ok(Parsed::Partial) => Ok(None),
         Err(ParseError::TooManyHeaders) => Err(HeadError::TooManyFields),
         Err(_) => Err(HeadError::NotRead),

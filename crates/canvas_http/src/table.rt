@@ -36,6 +36,13 @@ pub(crate) fn asked(site: &Site, method: &[u8], target: &[u8], fields: &Fields<'
     }
 }
 
+/// Whether two runs of bytes are the same.
+pub(crate) fn is_equal(a: &[u8], b: &[u8]) -> bool
+    ensures { result ≡ bytes_eq a.now b.now }
+{
+    a == b
+}
+
 // Whether the target begins with a slash.
 fn has_path(target: &[u8]) -> bool
     ensures { result ≡ has_path target.now }
@@ -70,7 +77,7 @@ fn asked_by_handshake(
 ) -> Asked
     ensures { result ≡ asked_by_handshake (seen_site site.now) method.now path.now (host.now ∷ []) (option_to_list (option_copied origin.entry)) }
 {
-    if method != b"GET".as_slice() {
+    if !is_equal(method, b"GET") {
         return Asked::Refused(Refusal::NotAllowed);
     }
     if !is_document_path(site, path) {
@@ -86,7 +93,7 @@ fn asked_by_handshake(
 fn is_document_path(site: &Site, path: &[u8]) -> bool
     ensures { result ≡ is_document_path (seen_site site.now) path.now }
 {
-    if path == b"/".as_slice() || path == b"/document".as_slice() {
+    if is_equal(path, b"/") || is_equal(path, b"/document") {
         return true;
     }
     match path.strip_prefix(b"/document/") {
@@ -149,18 +156,18 @@ fn asked_by_page(site: &Site, method: &[u8], path: &[u8]) -> Asked
 fn is_reading(method: &[u8]) -> bool
     ensures { result ≡ is_reading method.now }
 {
-    method == b"GET".as_slice() || method == b"HEAD".as_slice()
+    is_equal(method, b"GET") || is_equal(method, b"HEAD")
 }
 
 // What every site has at this path.
 fn asked_at(path: &[u8]) -> Option<Asked>
     ensures { result ≡ value_at path.now site_paths }
 {
-    if path == b"/health".as_slice() {
+    if is_equal(path, b"/health") {
         Some(Asked::Health)
-    } else if path == b"/metrics".as_slice() {
+    } else if is_equal(path, b"/metrics") {
         Some(Asked::Metrics)
-    } else if path == b"/document".as_slice() {
+    } else if is_equal(path, b"/document") {
         Some(Asked::Document)
     } else {
         None
@@ -178,19 +185,19 @@ fn file_at(site: &Site, path: &[u8]) -> Option<PageFile>
 fn page_file(path: &[u8]) -> Option<PageFile>
     ensures { result ≡ value_at path.now page_files }
 {
-    if path == b"/".as_slice() || path == b"/index.html".as_slice() {
+    if is_equal(path, b"/") || is_equal(path, b"/index.html") {
         Some(PageFile::Index)
-    } else if path == b"/page.js".as_slice() {
+    } else if is_equal(path, b"/page.js") {
         Some(PageFile::Script)
-    } else if path == b"/worker.js".as_slice() {
+    } else if is_equal(path, b"/worker.js") {
         Some(PageFile::Worker)
-    } else if path == b"/lugcurrant.js".as_slice() {
+    } else if is_equal(path, b"/lugcurrant.js") {
         Some(PageFile::Library)
-    } else if path == b"/canvas.wasm".as_slice() {
+    } else if is_equal(path, b"/canvas.wasm") {
         Some(PageFile::Module)
-    } else if path == b"/page.css".as_slice() {
+    } else if is_equal(path, b"/page.css") {
         Some(PageFile::Style)
-    } else if path == b"/favicon.svg".as_slice() {
+    } else if is_equal(path, b"/favicon.svg") {
         Some(PageFile::Icon)
     } else {
         None
