@@ -15,7 +15,7 @@ pub(crate) struct Fields<'a> {
 }
 
 /// What stands under a name.
-#[derive(Clone, Copy, PartialEq, Eq)]
+#[derive(Clone, Copy)]
 pub(crate) enum Found<'a> {
     /// No field has the name.
     Nothing,
