@@ -2,17 +2,22 @@
 //! honest one.
 #![tactic(auto)]
 
+mod above;
 mod error;
+mod fault;
 mod folder;
 mod laws;
 mod names;
+mod opened;
 mod opening;
 mod os;
+mod path;
 mod place;
 mod removed;
 mod segments;
 mod shelf;
 mod state;
+mod written;
 
 pub use error::FolderError;
 pub use folder::Folder;

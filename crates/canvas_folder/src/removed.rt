@@ -34,8 +34,15 @@ impl Removed {
         })
     }
 
+    // Leaves a file open, if there is one and there is room for it.
+    pub(crate) fn put(&self, file: Option<File>) {
+        if let Some(file) = file {
+            self.put_one(file);
+        }
+    }
+
     // Leaves a file open, if there is room for it.
-    pub(crate) fn put(&self, file: File) {
+    fn put_one(&self, file: File) {
         if let Some(mut files) = self.files.try_lock() {
             if files.len() < MOST_FILES {
                 let _ = files.push(file);

@@ -1,0 +1,38 @@
+// Why a call of the system failed.
+use std::alloc::AllocError;
+use std::io;
+use std::io::ErrorKind;
+
+// Why a call of the system failed, as far as anybody asks.
+#[derive(Clone, Copy, Drop)]
+pub(crate) enum Fault {
+    // Memory was refused.
+    Memory,
+    // This process has no descriptor left, or no process has.
+    NoDescriptor,
+    // Anything else.
+    Device,
+}
+
+// The system's numbers for: this process has no descriptor left, and no process has.
+const EMFILE: i32 = 24;
+
+const ENFILE: i32 = 23;
+
+impl From<io::Error> for Fault {
+    fn from(e: io::Error) -> Fault {
+        if e.kind() == ErrorKind::OutOfMemory {
+            return Fault::Memory;
+        }
+        match e.raw_os_error() {
+            Some(EMFILE | ENFILE) => Fault::NoDescriptor,
+            _ => Fault::Device,
+        }
+    }
+}
+
+impl From<AllocError> for Fault {
+    fn from(_: AllocError) -> Fault {
+        Fault::Memory
+    }
+}

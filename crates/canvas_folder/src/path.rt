@@ -1,0 +1,131 @@
+// The path of a folder, and what is opened by it.
+use crate::fault::Fault;
+use crate::opened::{lock, open, open_folder, open_regular, read_all, sync};
+use canvas_shelf::CreateError;
+use std::alloc::{AllocError, Allocator, Global};
+use std::fs::{File, OpenOptions};
+use std::rt::Files;
+use std::{fs, str};
+
+// The path of a folder of the system, and behind it the name of the file that was asked for last.
+#[derive(Drop)]
+pub(crate) struct FolderPath {
+    bytes: Vec<u8>,
+    // How long the folder's path is, with its slash.
+    base: usize,
+}
+
+// Room in a path for the name of a file.
+const NAME_ROOM: usize = 64;
+
+// Adds a path, and a slash where it has none at its end.
+fn add_with_slash(bytes: &mut Vec<u8>, path: &str) -> Result<(), AllocError> {
+    bytes.extend_from_slice(path.as_bytes())?;
+    if !path.ends_with('/') {
+        bytes.push(b'/')?;
+    }
+    Ok(())
+}
+
+impl FolderPath {
+    pub(crate) fn new(alloc: Global, path: &str) -> Result<FolderPath, AllocError> {
+        let mut bytes = Vec::with_capacity(alloc, path.len().saturating_add(NAME_ROOM))?;
+        add_with_slash(&mut bytes, path)?;
+        let base = bytes.len();
+        Ok(FolderPath { bytes, base })
+    }
+
+    // Makes the path that of a file.
+    fn go_to(&mut self, name: &[u8]) -> Result<(), AllocError> {
+        self.bytes.truncate(self.base);
+        self.bytes.extend_from_slice(name)
+    }
+
+    // The path as text, which it has to be.
+    fn text(&self) -> Result<&str, Fault> {
+        match str::from_utf8(&self.bytes) {
+            Ok(path) => Ok(path),
+            Err(_) => Err(Fault::Device),
+        }
+    }
+
+    // The path of the folder itself.
+    pub(crate) fn folder(&mut self) -> Result<&str, Fault> {
+        self.bytes.truncate(self.base);
+        self.text()
+    }
+
+    // The path of a file.
+    fn file(&mut self, name: &[u8]) -> Result<&str, Fault> {
+        self.go_to(name)?;
+        self.text()
+    }
+
+    // Syncs the folder.
+    pub(crate) fn sync<R: Files<File = File>>(&mut self, files: &R) -> Result<(), Fault> {
+        let folder = open_folder(files, self.folder()?)?;
+        sync(&folder)
+    }
+
+    // Locks the folder. None where another has its lock.
+    pub(crate) fn lock<R: Files<File = File>>(&mut self, files: &R) -> Result<Option<File>, Fault> {
+        let folder = open_folder(files, self.folder()?)?;
+        lock(folder)
+    }
+
+    // Opens a regular file.
+    pub(crate) fn open<R: Files<File = File>>(
+        &mut self,
+        files: &R,
+        how: &OpenOptions,
+        name: &[u8],
+    ) -> Result<File, Fault> {
+        open_regular(files, how, self.file(name)?)
+    }
+
+    // Adds the bytes of a file.
+    pub(crate) fn read<R: Files<File = File>, A: Allocator>(
+        &mut self,
+        files: &R,
+        name: &[u8],
+        bytes: &mut Vec<u8, A>,
+    ) -> Result<(), Fault> {
+        let file = self.open(files, OpenOptions::new().read(true), name)?;
+        read_all(file, bytes)
+    }
+
+    // Makes a file, open for appending. Answers NotMade where no memory was left for the path, or no descriptor for the file.
+    pub(crate) fn make<R: Files<File = File>>(
+        &mut self,
+        files: &R,
+        name: &[u8],
+    ) -> Result<File, CreateError> {
+        if self.go_to(name).is_err() {
+            return Err(CreateError::NotMade);
+        }
+        let Ok(path) = self.text() else {
+            return Err(CreateError::Device);
+        };
+        match open(
+            files,
+            OpenOptions::new().append(true).create_new(true),
+            path,
+        ) {
+            Ok(file) => Ok(file),
+            Err(Fault::NoDescriptor) => Err(CreateError::NotMade),
+            Err(_) => Err(CreateError::Device),
+        }
+    }
+
+    // Takes a file off the folder.
+    pub(crate) fn remove<R: Files<File = File>>(
+        &mut self,
+        files: &R,
+        name: &[u8],
+    ) -> Result<(), Fault> {
+        match fs::remove_file(files, self.file(name)?) {
+            Ok(()) => Ok(()),
+            Err(e) => Err(Fault::from(e)),
+        }
+    }
+}
