@@ -56,15 +56,48 @@ pub fn read_sums<R: Files<File = File> + AllocGlobal>(
     let alloc = files.alloc();
     let path = sum_path(alloc, dir, number)?;
     let mut sums = Vec::new(alloc);
-    match fs::symlink_metadata(files, &path) {
-        Ok(found) if found.is_file() => {
-            fs::open(files, &path)?.read_to_end(&mut sums)?;
-            Ok(sums)
-        }
-        Ok(_) => Err(io::Error::from(ErrorKind::InvalidInput)),
-        Err(error) if error.kind() == ErrorKind::NotFound => Ok(sums),
+    match add_sums(files, path.as_str(), &mut sums) {
+        Ok(()) => Ok(sums),
         Err(error) => Err(error),
     }
+}
+
+// Adds the bytes of the file of this path, if there is one. Nothing but a regular file is read.
+fn add_sums<R: Files<File = File>>(files: &R, path: &str, sums: &mut Vec<u8>) -> io::Result<()> {
+    match fs::symlink_metadata(files, path) {
+        Ok(found) if found.is_file() => add_file(files, path, sums),
+        Ok(_) => Err(io::Error::from(ErrorKind::InvalidInput)),
+        Err(error) if error.kind() == ErrorKind::NotFound => Ok(()),
+        Err(error) => Err(error),
+    }
+}
+
+// Adds the bytes of a file.
+fn add_file<R: Files<File = File>>(files: &R, path: &str, sums: &mut Vec<u8>) -> io::Result<()> {
+    fs::open(files, path)?.read_to_end(sums)?;
+    Ok(())
+}
+
+// Removes the file of a segment's sums, if there is one.
+fn remove_file<R: Files<File = File> + AllocGlobal>(
+    files: &R,
+    dir: &str,
+    number: u32,
+) -> io::Result<()> {
+    let path = sum_path(files.alloc(), dir, number)?;
+    fs::remove_file(files, path.as_str())
+}
+
+// Makes the file of a new segment's sums.
+fn make_file<R: Files<File = File> + AllocGlobal>(
+    files: &R,
+    dir: &str,
+    number: u32,
+) -> io::Result<File> {
+    let path = sum_path(files.alloc(), dir, number)?;
+    let mut how = OpenOptions::new();
+    how.append(true).create_new(true);
+    how.open(files, path.as_str())
 }
 
 impl<R: Files<File = File> + AllocGlobal + Drop> SumFiles<R> {
@@ -75,27 +108,6 @@ impl<R: Files<File = File> + AllocGlobal + Drop> SumFiles<R> {
             files,
             dir,
             current: None,
-        })
-    }
-
-    // Removes the file of a segment's sums, if there is one.
-    fn remove(&self, number: u32) -> io::Result<()> {
-        let path = sum_path(self.files.alloc(), &self.dir, number)?;
-        fs::remove_file(&self.files, &path)
-    }
-
-    // The sums of a new segment, of which an older file may be there.
-    fn begin(&self, number: u32) -> io::Result<Summing> {
-        // Mostly there is none.
-        let _ = self.remove(number);
-        let path = sum_path(self.files.alloc(), &self.dir, number)?;
-        let mut how = OpenOptions::new();
-        how.append(true).create_new(true);
-        let file = how.open(&self.files, &path)?;
-        Ok(Summing {
-            number,
-            file,
-            sum: RunningSum::new(),
         })
     }
 }
@@ -132,28 +144,48 @@ impl Summing {
     }
 }
 
+// Adds bytes that were put at the end of a segment, where its sums are written.
+fn add_to_current(current: &mut Option<Summing>, number: u32, bytes: &[u8]) {
+    if let Some(summing) = current {
+        summing.add(number, bytes);
+    }
+}
+
+// Writes the line of a segment that was synced, where its sums are written. Tells whether nothing failed.
+fn write_current(alloc: Global, current: &mut Option<Summing>, number: u32) -> bool {
+    match current {
+        Some(summing) => summing.write(alloc, number).is_ok(),
+        None => true,
+    }
+}
+
 impl<R: Files<File = File> + AllocGlobal + Drop> Witness for SumFiles<R> {
     fn created(&mut self, number: u32) {
-        self.current = self.begin(number).ok();
+        // An older file may be there. Mostly there is none.
+        let _ = remove_file(&self.files, &self.dir, number);
+        self.current = match make_file(&self.files, &self.dir, number) {
+            Ok(file) => Some(Summing {
+                number,
+                file,
+                sum: RunningSum::new(),
+            }),
+            Err(_) => None,
+        };
     }
 
     fn appended(&mut self, number: u32, bytes: &[u8]) {
-        if let Some(summing) = &mut self.current {
-            summing.add(number, bytes);
-        }
+        add_to_current(&mut self.current, number, bytes);
     }
 
     fn synced(&mut self, number: u32) {
         let alloc = self.files.alloc();
-        if let Some(mut summing) = self.current.take() {
-            if summing.write(alloc, number).is_ok() {
-                self.current = Some(summing);
-            }
+        if !write_current(alloc, &mut self.current, number) {
+            self.current = None;
         }
     }
 
     fn retired(&mut self, number: u32) {
         // A file that stays does no harm: no other segment gets this number.
-        let _ = self.remove(number);
+        let _ = remove_file(&self.files, &self.dir, number);
     }
 }

@@ -1,7 +1,10 @@
 // Who notes what a shelf did, and shows it to a witness.
+ghost use Rattle.std.specs.Prelude.{◌≡◌, IsErrOf};
+
 use crate::call::ShelfCall;
 use crate::notes::Notes;
 use crate::witness::Witness;
+use canvas_shelf::CreateError;
 
 // The notes, and the witness. After the first call that failed nothing more is shown or counted: what a segment holds isn't known then.
 pub(crate) struct Watcher<W: Witness> {
@@ -32,17 +35,30 @@ impl<W: Witness> Watcher<W> {
         }
     }
 
+    // A segment was to be made.
+    pub(crate) fn create(&mut self, number: u32, made: &Result<(), CreateError>)
+        ensures { IsErrOf made.now CreateError.NotMade → self.new ≡ self.old }
+    {
+        match made {
+            Ok(()) => self.made(number),
+            Err(CreateError::NotMade) => {}
+            Err(CreateError::Device) => self.fail(ShelfCall::Create(number)),
+        }
+    }
+
     // A segment was made.
-    pub(crate) fn create(&mut self, number: u32) {
+    fn made(&mut self, number: u32) {
         if !self.failed {
             self.fresh = Some(0);
             self.witness.created(number);
         }
     }
 
-    // Bytes were put at the end of a segment.
-    pub(crate) fn append(&mut self, number: u32, bytes: &[u8]) {
-        if !self.failed {
+    // Bytes were to be put at the end of a segment, and were where it is done.
+    pub(crate) fn append(&mut self, number: u32, bytes: &[u8], done: bool) {
+        if !done {
+            self.fail(ShelfCall::Append(number));
+        } else if !self.failed {
             let size = bytes.len() as u64;
             self.fresh = self.fresh.map(|fresh| fresh.saturating_add(size));
             self.notes.append(size);
@@ -50,9 +66,11 @@ impl<W: Witness> Watcher<W> {
         }
     }
 
-    // A segment was synced.
-    pub(crate) fn sync(&mut self, number: u32) {
-        if !self.failed {
+    // A segment was to be synced, and was where it is done.
+    pub(crate) fn sync(&mut self, number: u32, done: bool) {
+        if !done {
+            self.fail(ShelfCall::Sync(number));
+        } else if !self.failed {
             self.notes.sync();
             if let Some(bytes) = self.fresh.take() {
                 self.notes.checkpoint(bytes);
@@ -61,9 +79,11 @@ impl<W: Witness> Watcher<W> {
         }
     }
 
-    // A segment was taken off the list.
-    pub(crate) fn retire(&mut self, number: u32) {
-        if !self.failed {
+    // A segment was to be taken off the list, and was where it is done.
+    pub(crate) fn retire(&mut self, number: u32, done: bool) {
+        if !done {
+            self.fail(ShelfCall::Retire(number));
+        } else if !self.failed {
             self.witness.retired(number);
         }
     }
