@@ -10,3 +10,6 @@ pub mod Edited
 pub mod Owning
 pub mod AtPlaces
 pub mod Lasts
+pub mod AtEnds
+pub mod Pushed
+pub mod Refusing

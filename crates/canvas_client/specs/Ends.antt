@@ -37,6 +37,10 @@ LiesLast d parent except got = (last : Option Pos) × IsLast d parent except las
 abbrev pub LiesFirst : Doc → ObjId → ObjId → Option Pos → Type 0
 LiesFirst d parent except got = (first : Option Pos) × IsNext d parent except None first × StepsInFront first got
 
+-- this position, at any parent; none where no position lies there
+abbrev pub LiesAt : Option Pos → Doc → ObjId → ObjId → Option Pos → Type 0
+LiesAt there d parent except got = got ≡ there
+
 -- at one of the two ends
 module _ (Lies : Doc → ObjId → ObjId → Option Pos → Type 0) where
   -- the client has created this object at the end of the parent's children

@@ -1,10 +1,11 @@
 // A client's edits of its own at the ends of a parent's children, a small step behind the last one or before the first.
 ghost use Rattle.std.specs.Prelude.{◌≡◌, ◌+◌, IfErr, IfOk, OnErr, OnOk, Some, codes};
 ghost use Rattle.std.specs.Option.{option_copied};
+ghost use Rattle.canvas_model.specs.Children.{AreChildren};
 ghost use Rattle.canvas_model.specs.Client.{last_number};
 ghost use Rattle.canvas_model.specs.Ids.{root};
 ghost use Rattle.canvas_client.specs.Asked.{StandsStill};
-ghost use Rattle.canvas_client.specs.Ends.{HasCreatedThere, HasMovedThere, IsEndError, IsLast, LiesFirst, LiesLast};
+ghost use Rattle.canvas_client.specs.Ends.{HasCreatedThere, HasMovedThere, IsEndError, IsLast, LiesAt, LiesFirst, LiesLast};
 ghost use Rattle.canvas_client.specs.Placed.{Create, Move};
 
 use crate::drafting::sibling_position;
@@ -24,13 +25,8 @@ impl<A: Allocator + Copy> Client<A> {
         ensures refused { IfErr result (IsEndError LiesLast self.old parent root (Create kind)) }
         ensures err { OnErr result (self.new ≡ self.old) }
     {
-        let Some(pos) = last_place(self.allocator(), self.view(), parent, ObjId::ROOT)? else {
-            return Err(EndError::Crowded);
-        };
-        match self.create_at(kind, Place { parent, pos }) {
-            Ok(made) => Ok(made),
-            Err(error) => Err(EndError::Edit(error)),
-        }
+        let pos = last_place(self.allocator(), self.view(), parent, ObjId::ROOT)?;
+        self.create_there(kind, parent, pos)
     }
 
     /// Creates an object under `parent`, before all its children in what the client shows: a small step before the first position, or
@@ -42,13 +38,8 @@ impl<A: Allocator + Copy> Client<A> {
         ensures refused { IfErr result (IsEndError LiesFirst self.old parent root (Create kind)) }
         ensures err { OnErr result (self.new ≡ self.old) }
     {
-        let Some(pos) = first_place(self.allocator(), self.view(), parent, ObjId::ROOT)? else {
-            return Err(EndError::Crowded);
-        };
-        match self.create_at(kind, Place { parent, pos }) {
-            Ok(made) => Ok(made),
-            Err(error) => Err(EndError::Edit(error)),
-        }
+        let pos = first_place(self.allocator(), self.view(), parent, ObjId::ROOT)?;
+        self.create_there(kind, parent, pos)
     }
 
     /// Moves an object under `parent`, behind all its other children in what the client shows, as `create_last` does. Answers the
@@ -60,13 +51,8 @@ impl<A: Allocator + Copy> Client<A> {
         ensures refused { IfErr result (IsEndError LiesLast self.old parent id (Move id)) }
         ensures err { OnErr result (self.new ≡ self.old) }
     {
-        let Some(pos) = last_place(self.allocator(), self.view(), parent, id)? else {
-            return Err(EndError::Crowded);
-        };
-        match self.move_at(id, Place { parent, pos }) {
-            Ok(number) => Ok(number),
-            Err(error) => Err(EndError::Edit(error)),
-        }
+        let pos = last_place(self.allocator(), self.view(), parent, id)?;
+        self.move_there(id, parent, pos)
     }
 
     /// Moves an object under `parent`, before all its other children in what the client shows, as `create_first` does. Answers the
@@ -78,7 +64,41 @@ impl<A: Allocator + Copy> Client<A> {
         ensures refused { IfErr result (IsEndError LiesFirst self.old parent id (Move id)) }
         ensures err { OnErr result (self.new ≡ self.old) }
     {
-        let Some(pos) = first_place(self.allocator(), self.view(), parent, id)? else {
+        let pos = first_place(self.allocator(), self.view(), parent, id)?;
+        self.move_there(id, parent, pos)
+    }
+
+    // Creates an object under `parent` at this position; none is no room.
+    fn create_there(
+        &mut self,
+        kind: Kind,
+        parent: ObjId,
+        pos: Option<Pos<A>>,
+    ) -> Result<(u64, ObjId), EndError>
+        ensures ok { IfOk result (λ made. HasCreatedThere (LiesAt pos) self.old kind parent made.1 self.new) }
+        ensures number { IfOk result (λ made. made.0 ≡ last_number self.old + 1) }
+        ensures stands { OnOk result (StandsStill self.old self.new) }
+        ensures refused { IfErr result (IsEndError (LiesAt pos) self.old parent root (Create kind)) }
+        ensures err { OnErr result (self.new ≡ self.old) }
+    {
+        let Some(pos) = pos else {
+            return Err(EndError::Crowded);
+        };
+        match self.create_at(kind, Place { parent, pos }) {
+            Ok(made) => Ok(made),
+            Err(error) => Err(EndError::Edit(error)),
+        }
+    }
+
+    // Moves an object under `parent` to this position; none is no room.
+    fn move_there(&mut self, id: ObjId, parent: ObjId, pos: Option<Pos<A>>) -> Result<u64, EndError>
+        ensures ok { OnOk result (HasMovedThere (LiesAt pos) self.old id parent self.new) }
+        ensures number { IfOk result (λ n. n ≡ last_number self.old + 1) }
+        ensures stands { OnOk result (StandsStill self.old self.new) }
+        ensures refused { IfErr result (IsEndError (LiesAt pos) self.old parent id (Move id)) }
+        ensures err { OnErr result (self.new ≡ self.old) }
+    {
+        let Some(pos) = pos else {
             return Err(EndError::Crowded);
         };
         match self.move_at(id, Place { parent, pos }) {
@@ -139,11 +159,24 @@ fn last_position<'a, A: Allocator + Copy>(
     ensures { IfOk result (λ last. IsLast view.now parent except (option_copied last)) }
 {
     let ids = view.children(alloc, parent)?;
+    Ok(last_of(view, parent, except, &ids))
+}
+
+// The position of the last of these, which are the children of the parent, other than `except`, if there is one.
+fn last_of<'a, A: Allocator>(
+    view: &'a Doc<A>,
+    parent: ObjId,
+    except: ObjId,
+    ids: &[ObjId],
+) -> Option<&'a Pos<A>>
+    requires { AreChildren view.now parent ids.now }
+    ensures { IsLast view.now parent except (option_copied result) }
+{
     for i in 0..ids.len() {
         let id = ids[ids.len() - 1 - i];
         if let Some(pos) = sibling_position(view, parent, except, id) {
-            return Ok(Some(pos));
+            return Some(pos);
         }
     }
-    Ok(None)
+    None
 }

@@ -1,6 +1,7 @@
 // A client's edits of its own.
 ghost use Rattle.std.specs.Prelude.{◌≡◌, ◌≢◌, ◌↔◌, ℕ, ◌+◌, ◌^◌, ◌<◌, IsTrue, IfOk, IfErr, IfSome, IfNone, OnOk, OnErr, Some, None, IsSomeAnd};
-ghost use Rattle.canvas_model.specs.Change.{object_of};
+ghost use Rattle.canvas_model.specs.Change.{HoldsShallow, object_of};
+ghost use Rattle.canvas_model.specs.Change as change;
 ghost use Rattle.canvas_model.specs.Client.{last_number};
 ghost use Rattle.canvas_model.specs.Local.{Clear, Create, Delete, EditRequest as Asked, Makes, Move, Refuses, Set};
 ghost use Rattle.canvas_model.specs.Local.{counter_after, edited, rank};
@@ -152,12 +153,8 @@ impl<A: Allocator> Client<A> {
         if self.is_full() {
             return Err(EditError::Full);
         }
-        let name = name.copy_in(alloc)?;
         let value = value.copy_in(alloc)?;
-        match Change::set(id, name, Some(value)) {
-            Ok(change) => Ok(change),
-            Err(_) => unreachable!(),
-        }
+        Ok(property_change(alloc, id, name, Some(value))?)
     }
 
     // A property taken away.
@@ -174,11 +171,7 @@ impl<A: Allocator> Client<A> {
         if self.is_full() {
             return Err(EditError::Full);
         }
-        let name = name.copy_in(alloc)?;
-        match Change::set(id, name, None) {
-            Ok(change) => Ok(change),
-            Err(_) => unreachable!(),
-        }
+        Ok(property_change(alloc, id, name, None)?)
     }
 
     // The move of an object to the target.
@@ -286,11 +279,24 @@ impl<A: Allocator + Copy> Client<A> {
         ensures refused { IfErr result (λ error. IsRefusal self.old (Create kind (record { parent = parent; after = after })) (refusal error)) }
         ensures err { OnErr result (self.new ≡ self.old) }
     {
-        let request: EditRequest<A> = EditRequest::create(kind, parent, after);
-        let change = self.draft(self.allocator(), &request)?;
+        let change = self.draft_creation(kind, parent, after)?;
         let id = object_of(&change);
         let number = self.commit(change)?;
         Ok((number, id))
+    }
+
+    // The change that creates an object under `parent`, after its child `after`.
+    fn draft_creation(
+        &self,
+        kind: Kind,
+        parent: ObjId,
+        after: Option<ObjId>,
+    ) -> Result<Change<A>, EditError>
+        ensures ok { IfOk result (Makes self.now (Create kind (record { parent = parent; after = after }))) }
+        ensures err { IfErr result (λ error. IsRefusal self.now (Create kind (record { parent = parent; after = after })) (refusal error)) }
+    {
+        let request: EditRequest<A> = EditRequest::create(kind, parent, after);
+        self.draft(self.allocator(), &request)
     }
 
     /// Gives a property of an object this value, which must not be too deep. Answers the edit's number. The refusals are those of
@@ -356,6 +362,23 @@ impl<A: Allocator + Copy> Client<A> {
     // The allocator under which it stands.
     pub(crate) fn allocator(&self) -> A {
         self.merged.waiting.allocator()
+    }
+}
+
+// A property given a copied value, which must not be too deep, or taken away where there is none.
+fn property_change<B: Allocator + Copy, C: Allocator>(
+    alloc: B,
+    id: ObjId,
+    name: &Name<C>,
+    value: Option<Value<B>>,
+) -> Result<Change<B>, AllocError>
+    requires { HoldsShallow (change.Set id name.now value) }
+    ensures { IfOk result (λ made. made ≡ change.Set id name.now value) }
+{
+    let name = name.copy_in(alloc)?;
+    match Change::set(id, name, value) {
+        Ok(change) => Ok(change),
+        Err(_) => unreachable!(),
     }
 }
 
