@@ -1,5 +1,5 @@
 -- Edits at an end of a parent's children, made of those at a position that lies there.
-use Rattle.std.proofs.Common.{◌≡◌, Option, Some, None, sym, subst}
+use Rattle.std.proofs.Common.{Option, Some, None, sym, subst}
 use Rattle.canvas_model.specs.declared.ObjId.{ObjId}
 use Rattle.canvas_model.specs.declared.Kind.{Kind}
 use Rattle.canvas_model.specs.Ids.{root}

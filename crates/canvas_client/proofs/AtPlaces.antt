@@ -1,5 +1,5 @@
 -- Refusals of an edit at a place, one after another, and what is made where none holds.
-use Rattle.std.proofs.Common.{◌≡◌, ◌≢◌, ℕ, ◌+◌, ◌<◌, ◌^◌, Option, Some, None, refl, sym, ap, subst, ◌∙◌, arith}
+use Rattle.std.proofs.Common.{◌≡◌, ℕ, ◌<◌, ◌^◌, Option, Some, None, sym, ap, subst, ◌∙◌, arith}
 use Rattle.std.specs.Prelude.{IsSomeAnd}
 use Rattle.std.specs.Option.{option_map}
 use Rattle.canvas_model.specs.declared.ObjId.{ObjId}
@@ -7,7 +7,6 @@ use Rattle.canvas_model.specs.declared.Kind.{Kind}
 use Rattle.canvas_model.specs.Document.{Place}
 use Rattle.canvas_model.specs.Sibling.{IsTaken}
 use Rattle.canvas_model.specs.Change.{Change}
-use Rattle.canvas_model.specs.Change as change
 use Rattle.canvas_model.specs.Client.{Client, last_number}
 use Rattle.canvas_model.specs.Local.{EditRequest, EditError, Blocks, GoesTooDeep, Refuses, left_out, rank}
 use Rattle.canvas_model.specs.Local as local

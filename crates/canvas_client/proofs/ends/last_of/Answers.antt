@@ -1,4 +1,4 @@
-use Rattle.std.proofs.Common.{ℕ, ◌+◌, ◌-◌, ◌≤◌, ◌<◌, length, get_or, arith}
+use Rattle.std.proofs.Common.{◌-◌, ◌<◌, length, get_or, arith}
 use Rattle.std.proofs.lemmas.List.{get_or_default}
 use Rattle.canvas_model.specs.declared.ObjId.{ObjId}
 use Rattle.canvas_client.proofs.Lasts.{last_here}

@@ -1,8 +1,9 @@
-use Rattle.std.proofs.Common.{drop, sym, ap, subst, ◌≤◌, length, ◌∙◌}
+use Rattle.std.proofs.Common.{drop, sym, ap, subst, ◌<◌, ◌≤◌, ◌∙◌}
 use Rattle.std.proofs.lemmas.List.{drop_all}
 use Rattle.std.specs.Option.{option_copied}
 use Rattle.canvas_model.specs.Overlay.{over}
 use Rattle.canvas_client.proofs.Changed.{laid_next}
+use Rattle.canvas_client.proofs.Pushed.{one_there}
 use Rattle.canvas_client.proofs.overlay.overlaid.Goals as goal
 
 pub loop-at-init : goal.loop-at-init
@@ -15,3 +16,6 @@ loop-at-preserved g c =
 pub returns : goal.returns
 returns g c =
     sym (ap (over c.loop-at.view) (drop_all c.loop-at.at c.args.waiting.now (subst (λ n. n ≤ c.loop-at.at) c.len-at-end.ensures c.loop-at-test.false))) ∙ c.loop-at.invariant
+
+pub unwrap-requires : goal.unwrap-requires
+unwrap-requires g c = one_there c.args.waiting.now c.loop-at.at c.get.result c.get.ensures (subst (λ n. c.loop-at.at < n) c.len-at-end.ensures c.loop-at-test.true)

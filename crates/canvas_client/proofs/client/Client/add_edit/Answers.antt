@@ -1,5 +1,5 @@
-use Rattle.std.proofs.Common.{sym, ap, subst, ◌∙◌}
-use Rattle.canvas_model.specs.Client.{Client}
+use Rattle.std.proofs.Common.{◌≡◌, ◌+◌, [], ◌∷◌, length, length-append, sym, ap, subst, ◌∙◌, arith}
+use Rattle.canvas_model.specs.Client.{Client, last_number}
 use Rattle.canvas_model.specs.Local.{edited}
 use Rattle.canvas_client.specs.Asked.{StandsStill}
 use Rattle.canvas_client.specs.Kept.{IsKept}
@@ -27,3 +27,11 @@ returns-clause-stands g c =
     ∙ ap (λ x. edited x c.args.change) c.self.view_is
     in
     subst (StandsStill c.args.self.now) (sym same) (stands_edited c.args.self.now c.args.change c.requires)
+
+pub returns-clause-number : goal.returns-clause-number
+returns-clause-number g c =
+    let inner : Client = record { id = c.self.inside.id; counter = c.self.inside.counter; version = c.self.inside.version; acknowledged = c.self.inside.acknowledged; waiting = c.self.inside.merged.waiting; view = c.self.inside.merged.shown.doc } in
+    let grown : length c.add.new.self.waiting ≡ length inner.waiting + 1 = ap length c.in_ok-add.ensures.waiting ∙ length-append inner.waiting (c.args.change ∷ []) in
+    let counted = c.len.ensures in
+    let was : last_number inner ≡ last_number c.args.self.now = ap last_number c.self.view_is in
+    omega (arith, grown, counted, was)

@@ -1,7 +1,6 @@
-use Rattle.std.proofs.Common.{◌≡◌, refl, sym}
+use Rattle.std.proofs.Common.{refl, sym}
 use Rattle.canvas_model.specs.Change as change
-use Rattle.canvas_model.specs.Local.{EditRequest}
-use Rattle.canvas_client.specs.Placed.{Move, unplaced}
+use Rattle.canvas_client.specs.Placed.{Move}
 use Rattle.canvas_client.proofs.AtPlaces.{as_moved, makes_of}
 use Rattle.canvas_client.proofs.client.Client.look_at_move.Goals as goal
 

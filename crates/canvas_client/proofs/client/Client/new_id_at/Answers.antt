@@ -1,7 +1,6 @@
-use Rattle.std.proofs.Common.{◌≡◌, refl, sym, ap}
+use Rattle.std.proofs.Common.{refl, sym, ap}
 use Rattle.canvas_model.specs.Change as change
-use Rattle.canvas_model.specs.Local.{EditRequest}
-use Rattle.canvas_client.specs.Placed.{Create, unplaced}
+use Rattle.canvas_client.specs.Placed.{Create}
 use Rattle.canvas_client.proofs.AtPlaces.{as_created, makes_of}
 use Rattle.canvas_client.proofs.client.Client.new_id_at.Goals as goal
 

@@ -14,3 +14,8 @@ returns-in-Move g c = c.move_to.ensures ∙ sym (ap seen_edit_request c.in-Move.
 
 pub returns-in-Delete : goal.returns-in-Delete
 returns-in-Delete g c = c.delete.ensures ∙ sym (ap seen_edit_request c.in-Delete.is) ∙ c.self.view_is
+
+pub returns-in_ok-value-in-Set : goal.returns-in_ok-value-in-Set
+returns-in_ok-value-in-Set g c =
+    ap (λ name. Set c.in-Set.id name c.in_ok-value-in-Set.value) c.in_ok-name-in-Set.ensures ∙ ap (Set c.in-Set.id c.in-Set.name) c.in_ok-value-in-Set.ensures ∙ sym (ap seen_edit_request c.in-Set.is)
+    ∙ c.self.view_is
