@@ -54,9 +54,14 @@ fn read_setting(alloc: Global, rest: &[u8]) -> Result<Change, LineError>
     let (name, text) = cut_word(rest)?;
     let name = read_name(alloc, name)?;
     let value = read_value(alloc, text)?;
-    // A text spells one value at most: where it is too deep, none is shallow.
-    every_spelling();
-    Ok(Change::set(id, name, Some(value))?)
+    match Change::set(id, name, Some(value)) {
+        Ok(change) => Ok(change),
+        Err(error) => {
+            // A text spells one value at most: where it is too deep, none is shallow.
+            every_spelling();
+            Err(LineError::from(error))
+        }
+    }
 }
 
 // A property taken away: an id and a name.
