@@ -24,7 +24,8 @@ use std::net::{Net, TcpStream};
 /// Reading a segment asks afterwards whether the key still has it. A store that never took over reads what stood at the revision at which
 /// it looked, so an etcd that forgets old revisions must keep them for as long as that takes.
 pub struct EtcdStore<R: Net<Stream = TcpStream> + AllocGlobal + Clone + Drop> {
-    document: Document<R>,
+    // On the heap, so that who holds a store holds little.
+    document: Box<Document<R>>,
     failures: u64,
 }
 
@@ -61,10 +62,15 @@ impl<R: Net<Stream = TcpStream> + AllocGlobal + Clone + Drop> EtcdStore<R> {
     ) -> Result<Self, AllocError>
         ensures failures { IfOk result (λ s. ⟦<EtcdStore<R> as Store>⟧.failure_count s ≡ 0) }
     {
-        Ok(EtcdStore {
-            document: Document::new(net, hosts, name, lease_seconds)?,
-            failures: 0,
-        })
+        let alloc = net.alloc();
+        let document = Document::new(net, hosts, name, lease_seconds)?;
+        match Box::new(alloc, document) {
+            Ok(document) => Ok(EtcdStore {
+                document,
+                failures: 0,
+            }),
+            Err(_) => Err(AllocError),
+        }
     }
 
     /// The lease, once the document was taken over, for a thread that keeps it alive.
