@@ -1,5 +1,5 @@
-"""What the scripts of tests/host and tests/etcd share: a WebSocket client, a server as a process, and groups that are tried one after the
-other. Needs no package."""
+"""What the scripts of tests/host, tests/etcd and tests/canvasd share: a WebSocket client, a server as a process, and groups that are tried one
+after the other. Needs no package."""
 
 import base64
 import json
@@ -188,9 +188,9 @@ class Server:
         return name
 
 
-def spawn(words, log):
-    """A process whose output and faults go to this file. It ends with its group."""
-    process = subprocess.Popen(words, stdin=subprocess.DEVNULL, stdout=log, stderr=log)
+def spawn(words, log, folder=None):
+    """A process, in this folder where one is named, whose output and faults go to this file. It ends with its group."""
+    process = subprocess.Popen(words, cwd=folder, stdin=subprocess.DEVNULL, stdout=log, stderr=log)
     RUNNING.append(process)
     return process
 
