@@ -1,8 +1,8 @@
 // The lines that answer events.
 ghost use Rattle.std.specs.Prelude.{◌≡◌, IfOk, string_bytes};
 ghost use Rattle.canvas_client.specs.Seen.{seen_received};
+ghost use Rattle.canvas_events.specs.Seen.{seen_answer};
 ghost use Rattle.canvas_script.specs.Answers.{answer_line, received_line};
-ghost use Rattle.canvas_world.specs.Seen.{seen_answer};
 
 use canvas_client::Received;
 use canvas_edit_lines::{edit_line, number_line, refused_line};

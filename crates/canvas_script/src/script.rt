@@ -1,5 +1,6 @@
 // What a script asks for, and how it is read.
 ghost use Rattle.std.specs.Prelude.{◌≡◌, ◌-◌, ◌∷◌, ◌++◌, ◌↔◌, [], map, take, IfErr, IfNone, IfOk, IfSome, IsTrue, OnOk};
+ghost use Rattle.canvas_events.specs.Seen.{seen_event};
 ghost use Rattle.canvas_lines.specs.Lines.{lines_of};
 ghost use Rattle.canvas_script.specs.Asked.{AddsAsked, NamesNode, entering};
 ghost use Rattle.canvas_script.specs.Asked as asked;
@@ -7,7 +8,6 @@ ghost use Rattle.canvas_script.specs.Lines.{seen_said};
 ghost use Rattle.canvas_script.specs.Names.{IsNodeName, IsNumber, used};
 ghost use Rattle.canvas_script.specs.Reading.{InputSays, IsBadScriptLine, IsRead, IsUnread, IsWorld, LinesSay, NoneIsBad, OneIsBad};
 ghost use Rattle.canvas_script.specs.Script.{Happens, seen_item};
-ghost use Rattle.canvas_world.specs.Seen.{seen_event};
 
 use crate::names::Names;
 use crate::said::{Counted, Named, Said, Whole, read_said};

@@ -1,8 +1,5 @@
-pub mod Placed
-pub mod Posts
-pub mod Taken
-pub mod Served
-pub mod Runs
+-- Meant for the crates above too.
 pub mod Synced
-pub mod Growth
 pub mod Trees
+-- For the calls of this crate alone.
+mod Runs

@@ -1,11 +1,7 @@
 -- Runs put together.
 use Rattle.std.proofs.Common.{◌≡◌, ℕ, zero, suc, ◌+◌, ◌<◌, sym, ap, subst, ◌∙◌, List, [], ◌∷◌, ◌++◌, length, take, get_or, arith}
-use Rattle.std.specs.Prelude.{Option, Result, Ok, Err, IfOk}
 use Rattle.canvas_model.specs.Laws.{AfterEachRun}
-use Rattle.canvas_model.specs.World.{World, Letter, Event, Answer, Step, Run, empty, nothing, and_then}
-use Rattle.canvas_world.specs.declared.event.Answer as coded
-use Rattle.canvas_world.specs.Parts.{IsPost}
-use Rattle.canvas_world.specs.Seen.{seen_answer}
+use Rattle.canvas_model.specs.World.{World, Event, Answer, Step, Run, empty, nothing, and_then}
 
 -- one event more
 pub run_push : {w u v : World} {events : List Event} (event : Event) → Run w events u → (answer : Answer) → Step u event answer v → Run w (events ++ event ∷ []) v
@@ -16,15 +12,6 @@ run_push event (and_then a s rest) answer step = and_then a s (run_push event re
 pub run_append : {w u v : World} {before after : List Event} → Run w before u → Run u after v → Run w (before ++ after) v
 run_append nothing rest = rest
 run_append (and_then a s first) rest = and_then a s (run_append first rest)
-
--- what an event was answered, by the event that it is
-pub played : {E : Type 0} (r : Result coded.Answer E) (old new : World) (event wanted : Event) → event ≡ wanted → IfOk r (λ a. Step old wanted (seen_answer a) new) → IfOk r (λ a. Step old event (seen_answer a) new)
-played r old new event wanted is h = subst (λ (e : Event). IfOk r (λ a. Step old e (seen_answer a) new)) (sym is) h
-
--- what was sent, where the event sends just that
-pub sent : {E : Type 0} (r : Result coded.Answer E) (old new : World) (event : Event) (letter : Option Letter) → IsPost old event letter → IfOk r (λ a. (event : Event) → IsPost old event letter → Step old event (seen_answer a) new) → IfOk r (λ a. Step old event (seen_answer a) new)
-sent (Ok a) old new event letter post h = h event post
-sent (Err e) old new event letter post h = tt
 
 take_more : (xs : List Event) (i : ℕ) (x : Event) → i < length xs → x ≡ get_or xs i x → take (i + 1) xs ≡ take i xs ++ x ∷ []
 take_more [] i x lt is = absurd (omega arith)

@@ -1,23 +1,25 @@
 -- What was synced stands after every later event.
 use Rattle.std.proofs.Common.{◌≡◌, ◌≤◌, refl, sym, ap, subst, ◌∙◌, List, [], ◌∷◌, take, arith}
 use Rattle.std.specs.Prelude.{Result, Ok, Err, IfOk, OnErr}
-use Rattle.canvas_model.specs.World.{World, Event, Answer, Step, Run, nothing, and_then, empty}
+use Rattle.canvas_model.specs.World.{World, Event, Answer, Step, Run, nothing, and_then}
 use Rattle.canvas_model.specs.Good.{IsGood}
 use Rattle.canvas_model.specs.Laws.{EachStepKeepsSynced, AfterEachStep, AfterEachRun}
 use Rattle.canvas_model.proofs.Lists.{take-take}
 use Rattle.canvas_world.specs.Synced.{KeepsSynced, KeepsAllSynced}
-use Rattle.canvas_world.specs.Seen.{seen_answer}
-use Rattle.canvas_world.specs.declared.event.Answer as coded
-use Rattle.canvas_world.proofs.Growth.{step_grows}
+use Rattle.canvas_events.specs.Seen.{seen_answer}
+use Rattle.canvas_events.specs.declared.event.Answer as coded
+use Rattle.canvas_events.proofs.Growth.{step_grows}
 
 -- after one event
 pub step_keeps : EachStepKeepsSynced → (old : World) (event : Event) (answer : Answer) (new : World) → IsGood old → Step old event answer new → KeepsSynced old new
 step_keeps same old event answer new good step = (same old event answer new good step, (step_grows old event answer new good.bounds.kept step).0)
 
--- after one event, or none where memory was refused
-pub played_keeps : {E : Type 0} → EachStepKeepsSynced → (r : Result coded.Answer E) (old new : World) (event : Event) → IsGood old → IfOk r (λ a. Step old event (seen_answer a) new) → OnErr r (new ≡ old) → KeepsSynced old new
-played_keeps same (Ok a) old new event good step kept = step_keeps same old event (seen_answer a) new good step
-played_keeps same (Err e) old new event good step kept = (ap (λ (w : World). take old.synced w.log) kept, subst (λ (w : World). old.synced ≤ w.synced) (sym kept) (omega arith))
+-- after one event, or none where memory was refused, for the world as its contracts see it
+pub played_keeps : {E : Type 0} → EachStepKeepsSynced → (r : Result coded.Answer E) (w old new : World) (event : Event) → w ≡ old → IsGood old → IfOk r (λ a. Step w event (seen_answer a) new) → OnErr r (new ≡ w) → KeepsSynced old new
+played_keeps same (Ok a) w old new event is good step kept = subst (λ (u : World). KeepsSynced u new) is (step_keeps same w event (seen_answer a) new (subst IsGood (sym is) good) step)
+played_keeps same (Err e) w old new event is good step kept =
+    let back : new ≡ old = kept ∙ is in
+    (ap (λ (u : World). take old.synced u.log) back, subst (λ (u : World). old.synced ≤ u.synced) (sym back) (omega arith))
 
 -- and after all events of a run
 both_keep : (events : List Event) (old mid new : World) → Run mid events new → KeepsSynced old mid → KeepsSynced mid new → KeepsSynced old new

@@ -1,5 +1,5 @@
 -- Nodes that agree show one tree.
-use Rattle.std.proofs.Common.{◌≡◌, subst}
+use Rattle.std.proofs.Common.{subst}
 use Rattle.canvas_model.specs.World.{World}
 use Rattle.canvas_model.specs.Laws.{NodesAgree}
 use Rattle.canvas_tree.specs.Trees.{IsTreeOf}

@@ -1,5 +1,2 @@
-pub mod Seen
-pub mod Running
 pub mod Synced
-pub mod Parts
 pub mod Trees

@@ -1,4 +1,4 @@
-//! All nodes, the server and every message ever sent, and what each event does to them.
+//! Events played in order in a world of nodes, and what holds after every list of them.
 #![tactic(auto)]
 
 ghost use Rattle.std.specs.Prelude.{◌≡◌, ◌≤◌, ◌↔◌, ◌++◌, length, take, None, List, IfOk, OnErr};
@@ -7,47 +7,28 @@ ghost use Rattle.canvas_model.specs.World.{Run, Step, empty, node};
 ghost use Rattle.canvas_model.specs.World as world;
 ghost use Rattle.canvas_model.specs.Good.{CountsAcknowledged, HasClaims, HasLegalLog, HasNoStranger, IsGood, LogsEdits, SharesNoId, ShowsOverlays, TellsTruth, TracksObjects};
 ghost use Rattle.canvas_model.specs.Laws.{HasNoCycle, KeepsAcknowledged, NodesAgree};
-ghost use Rattle.canvas_world.specs.Running.{served_in};
-ghost use Rattle.canvas_world.specs.Seen.{seen_answer};
+ghost use Rattle.canvas_events.specs.Running.{served_in};
+ghost use Rattle.canvas_events.specs.Seen.{seen_answer};
 ghost use Rattle.canvas_world.specs.Synced.{KeepsAllSynced, KeepsSynced};
 ghost use Rattle.canvas_world.specs.Trees.{NodesShowOneTree};
 
 use canvas_client::Client;
-use canvas_judge::Entry;
+use canvas_events::Network;
+pub use canvas_events::{Answer, Event, EventVariant};
 use canvas_model::{every_good_world, every_run, every_step};
 use canvas_server::Server;
 use canvas_tree::one_tree;
 use std::alloc::{AllocError, Allocator, Global};
 use std::marker::Model;
 
-mod changing;
-mod event;
-mod parts;
-mod posting;
-
-pub use event::{Answer, Event, EventVariant};
-use parts::{Letter, Node, numbered};
-
 /// All nodes, the server, and every message ever sent. Every world is good.
 pub struct World<A: Allocator = Global> {
-    server: Server<A>,
-    log: Vec<Entry<A>, A>,
-    askers: Vec<u64, A>,
-    synced: u64,
-    letters: Vec<Letter<A>, A>,
-    nodes: Vec<Node<A>, A>,
+    network: Network<A>,
 }
 
 impl<A: Allocator> Drop for World<A> {
     fn drop(self) {
-        let World {
-            server: _,
-            log: _,
-            askers: _,
-            synced: _,
-            letters: _,
-            nodes: _,
-        } = self;
+        let World { network: _ } = self;
     }
 }
 
@@ -60,11 +41,7 @@ impl<A: Allocator> Model for World<A> {
 
     ghost coded = { Prim.hlevel (codes, value_code, doc_code) };
 
-    ghost use Rattle.canvas_world.specs.Running.{IsRunning};
-
-    ghost view = { λ w. record { log = w.log.items; askers = w.askers.items; floor = w.server.floor; published = w.server.published; synced = w.synced; letters = w.letters.items; nodes = w.nodes.items } };
-
-    ghost invariant = { λ w. IsRunning w.server (record { log = w.log.items; askers = w.askers.items; floor = w.server.floor; published = w.server.published; synced = w.synced; letters = w.letters.items; nodes = w.nodes.items }) };
+    ghost view = { λ w. w.network };
 }
 
 /// A world that events were played in: how many, and what stopped it before the rest.
@@ -83,22 +60,21 @@ impl<A: Allocator> World<A> {
     pub fn client(&self, k: u64) -> Option<&Client<A>>
         ensures { option_copied result ≡ option_map (λ n. n.client) (node self.now k) }
     {
-        let node = numbered(&self.nodes, k)?;
-        Some(&node.client)
+        self.network.client(k)
     }
 
     /// The server.
     pub fn server(&self) -> &Server<A>
         ensures { result.now ≡ served_in self.now }
     {
-        &self.server
+        self.network.server()
     }
 
     /// How many entries are synced.
     pub fn synced(&self) -> u64
         ensures { result ≡ self.now.synced }
     {
-        self.synced
+        self.network.synced()
     }
 }
 
@@ -107,16 +83,8 @@ impl<A: Allocator + Copy> World<A> {
     pub fn new(alloc: A) -> Result<Self, AllocError>
         ensures { IfOk result (λ w. w ≡ empty) }
     {
-        every_run();
-        let server = Server::new(alloc)?;
-        Ok(World {
-            server,
-            log: Vec::new(alloc),
-            askers: Vec::new(alloc),
-            synced: 0,
-            letters: Vec::new(alloc),
-            nodes: Vec::new(alloc),
-        })
+        let network = Network::new(alloc)?;
+        Ok(World { network })
     }
 
     /// Plays one event. Where memory is refused, nothing has changed.
@@ -136,7 +104,7 @@ impl<A: Allocator + Copy> World<A> {
     {
         every_step();
         self.every_world();
-        let answer = self.happen(event);
+        let answer = self.network.happen(event);
         self.every_world();
         answer
     }
@@ -152,29 +120,8 @@ impl<A: Allocator + Copy> World<A> {
     {
         every_good_world();
         one_tree();
-        let _ = &self.synced;
-    }
-
-    // Plays one event. Where memory is refused, nothing has changed.
-    fn happen(&mut self, event: &Event<A>) -> Result<Answer, AllocError>
-        ensures step { IfOk result (λ answer. Step self.old event.now (seen_answer answer) self.new) }
-        ensures err { OnErr result (self.new ≡ self.old) }
-    {
-        match event.variant() {
-            EventVariant::AddNode => self.add_node(),
-            EventVariant::AskJoin(k) => self.ask_join(*k),
-            EventVariant::Edit(k, request) => self.edit(*k, request),
-            EventVariant::Send(k, i) => self.send(*k, *i),
-            EventVariant::Take(m) => self.take(*m),
-            EventVariant::Sync => Ok(self.sync()),
-            EventVariant::Publish => Ok(self.publish()),
-            EventVariant::Welcome(v) => self.welcome(*v),
-            EventVariant::Tell(v, k) => self.tell(*v, *k),
-            EventVariant::Copy(k) => self.copy(*k),
-            EventVariant::Deliver(m) => self.deliver(*m),
-            EventVariant::Checkpoint => Ok(self.checkpoint()),
-            EventVariant::Restart(n) => self.restart(*n),
-        }
+        // With the count comes what holds of every network.
+        let _ = self.network.synced();
     }
 
     /// Plays events in order until all are played or one is refused memory: how many were played, and the refusal.

@@ -26,4 +26,4 @@ pub returns-clause-objects : goal.returns-clause-objects
 returns-clause-objects g c = c.every_world-2.ensures.claims.objects
 
 pub returns-clause-synced : goal.returns-clause-synced
-returns-clause-synced g c = played_keeps c.every_step.ensures.synced c.happen-answer.result c.args.self.now _ c.args.event.now c.every_world.ensures.good c.happen-answer.ensures.step c.happen-answer.ensures.err
+returns-clause-synced g c = played_keeps c.every_step.ensures.synced c.happen-answer.result _ c.args.self.now _ c.args.event.now c.self.view_is c.every_world.ensures.good c.happen-answer.ensures.step c.happen-answer.ensures.err
