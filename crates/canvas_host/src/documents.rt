@@ -66,7 +66,8 @@ where
     let identity = identity_of(files, lease)?;
     let shelf = Watched::new(files.alloc(), shelf, NoWitness)?;
     let notes = shelf.notes().share()?;
-    match room_of(files, DocumentShelf { shelf }, notes, seats) {
+    let shelf = DocumentShelf::new(files.alloc(), shelf)?;
+    match room_of(files, shelf, notes, seats) {
         Ok(opened) => Ok((opened, identity)),
         Err(fault) => Err(of_document(fault)),
     }

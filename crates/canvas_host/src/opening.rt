@@ -66,7 +66,7 @@ pub(crate) fn open_room(
     let removed = shelf.folder().removed().share()?;
     let shelf = Watched::new(alloc, shelf, SumFiles::new(files, dir)?)?;
     let notes = shelf.notes().share()?;
-    let opened = room_of(files, FolderShelf { shelf }, notes, seats)?;
+    let opened = room_of(files, FolderShelf::new(alloc, shelf)?, notes, seats)?;
     Ok((opened, removed))
 }
 

@@ -1,20 +1,21 @@
 // The shelves that a server has open: that of a folder, and that of a document in an etcd.
+ghost use Rattle.std.specs.Prelude.{◌≡◌, IfOk, false};
+
 use canvas_etcd::EtcdShelf;
 use canvas_folder::{DirShelf, OsFolder};
 use canvas_shelf::{CreateError, DeviceFailed, Shelf, ShelfError};
 use canvas_store::EtcdStore;
 use canvas_watch::{SumFiles, Watched, Witness};
-use std::alloc::Allocator;
+use std::alloc::{AllocError, Allocator, Global};
 use std::net::{Net, TcpStream};
 
 /// A folder of the process, which is watched.
 type WatchedFolder = Watched<DirShelf<OsFolder<HostRuntime>>, SumFiles<HostRuntime>>;
 
 /// The shelf of a folder of the process, which is watched: the sums of its segments are written, and the first call that fails is noted. It
-/// does what that shelf does, and has a name of its own, so that the types above it stay short.
+/// does what that shelf does, and lies on the heap under a name of its own, so that the types above it stay short.
 pub struct FolderShelf {
-    /// The shelf.
-    pub shelf: WatchedFolder,
+    shelf: Box<WatchedFolder>,
 }
 
 impl Drop for FolderShelf {
@@ -23,14 +24,28 @@ impl Drop for FolderShelf {
     }
 }
 
+impl FolderShelf {
+    /// The same shelf, put on the heap.
+    ///
+    /// Fails where memory is refused.
+    pub fn new(alloc: Global, shelf: WatchedFolder) -> Result<Self, AllocError>
+        ensures { IfOk result (λ s. ⟦<FolderShelf as Shelf>⟧.honest s ≡ false) }
+    {
+        match Box::new(alloc, shelf) {
+            Ok(shelf) => Ok(FolderShelf { shelf }),
+            Err(_) => Err(AllocError),
+        }
+    }
+}
+
 impl Shelf for FolderShelf {
-    ghost disk = { λ s. ⟦<WatchedFolder as Shelf>⟧.disk s.shelf };
+    ghost disk = { λ s. ⟦<WatchedFolder as Shelf>⟧.disk s.shelf.value };
 
-    ghost past = { λ s. ⟦<WatchedFolder as Shelf>⟧.past s.shelf };
+    ghost past = { λ s. ⟦<WatchedFolder as Shelf>⟧.past s.shelf.value };
 
-    ghost honest = { λ s. ⟦<WatchedFolder as Shelf>⟧.honest s.shelf };
+    ghost honest = { λ s. ⟦<WatchedFolder as Shelf>⟧.honest s.shelf.value };
 
-    ghost failure_count = { λ s. ⟦<WatchedFolder as Shelf>⟧.failure_count s.shelf };
+    ghost failure_count = { λ s. ⟦<WatchedFolder as Shelf>⟧.failure_count s.shelf.value };
 
     // Nothing is claimed of what a folder of the system holds (`OsFolder`).
     ghost sound = { λ s h. record { falls = tt; segments = tt } };
@@ -81,11 +96,10 @@ impl Witness for NoWitness {
 /// A document in an etcd, which is watched.
 type WatchedDocument<R> = Watched<EtcdShelf<EtcdStore<R>>, NoWitness>;
 
-/// The shelf of a document in an etcd, which is watched: the first call that fails is noted. It does what that shelf does, and has a name of
-/// its own, so that the types above it stay short.
+/// The shelf of a document in an etcd, which is watched: the first call that fails is noted. It does what that shelf does, and lies on the
+/// heap under a name of its own, so that the types above it stay short.
 pub struct DocumentShelf<R: Net<Stream = TcpStream> + AllocGlobal + Clone + Drop> {
-    /// The shelf.
-    pub shelf: WatchedDocument<R>,
+    shelf: Box<WatchedDocument<R>>,
 }
 
 impl<R: Net<Stream = TcpStream> + AllocGlobal + Clone + Drop> Drop for DocumentShelf<R> {
@@ -94,14 +108,28 @@ impl<R: Net<Stream = TcpStream> + AllocGlobal + Clone + Drop> Drop for DocumentS
     }
 }
 
+impl<R: Net<Stream = TcpStream> + AllocGlobal + Clone + Drop> DocumentShelf<R> {
+    /// The same shelf, put on the heap.
+    ///
+    /// Fails where memory is refused.
+    pub fn new(alloc: Global, shelf: WatchedDocument<R>) -> Result<Self, AllocError>
+        ensures { IfOk result (λ s. ⟦<DocumentShelf<R> as Shelf>⟧.honest s ≡ false) }
+    {
+        match Box::new(alloc, shelf) {
+            Ok(shelf) => Ok(DocumentShelf { shelf }),
+            Err(_) => Err(AllocError),
+        }
+    }
+}
+
 impl<R: Net<Stream = TcpStream> + AllocGlobal + Clone + Drop> Shelf for DocumentShelf<R> {
-    ghost disk = { λ s. ⟦<WatchedDocument<R> as Shelf>⟧.disk s.shelf };
+    ghost disk = { λ s. ⟦<WatchedDocument<R> as Shelf>⟧.disk s.shelf.value };
 
-    ghost past = { λ s. ⟦<WatchedDocument<R> as Shelf>⟧.past s.shelf };
+    ghost past = { λ s. ⟦<WatchedDocument<R> as Shelf>⟧.past s.shelf.value };
 
-    ghost honest = { λ s. ⟦<WatchedDocument<R> as Shelf>⟧.honest s.shelf };
+    ghost honest = { λ s. ⟦<WatchedDocument<R> as Shelf>⟧.honest s.shelf.value };
 
-    ghost failure_count = { λ s. ⟦<WatchedDocument<R> as Shelf>⟧.failure_count s.shelf };
+    ghost failure_count = { λ s. ⟦<WatchedDocument<R> as Shelf>⟧.failure_count s.shelf.value };
 
     // Nothing is claimed of what an etcd holds (`EtcdStore`).
     ghost sound = { λ s h. record { falls = tt; segments = tt } };
