@@ -1,8 +1,10 @@
-//! A site with a page and one without, and what each answers.
-use crate::answers::{ANSWERS, Row as AnswerRow, first_wrong_answer};
+//! A site with a page and one without, and what each reads and answers.
+use crate::answers::{
+    FIGURES, IDENTITIES, SENTENCES, first_wrong_figures, first_wrong_identity, first_wrong_sentence,
+};
 use crate::heads::{
-    BROWSER, COUNTS, CURL, Count, FIELDS, HANDSHAKES, HEADS, HOST, Head, PAGELESS, PLAIN, Row,
-    first_wrong_count, first_wrong_head, first_wrong_part, first_wrong_request,
+    BROWSER, COUNTS, CURL, FIELDS, HANDSHAKES, HEADS, HOST, PAGELESS, PLAIN, first_wrong_count,
+    first_wrong_head, first_wrong_part, first_wrong_request,
 };
 use canvas_http::{Site, is_identity};
 use std::alloc::{AllocError, Global};
@@ -33,26 +35,41 @@ fn site(alloc: Global, has_page: bool) -> Option<Site> {
 // A list of what a site is asked or answers.
 #[derive(Clone, Copy)]
 enum List {
-    // Fields that each request has, and requests.
-    Requests(&'static str, &'static [Row]),
-    // A request of which the parts are read.
-    Parts(&'static [u8]),
-    // Bytes that are read.
-    Heads(&'static [Head]),
+    // Requests that are no handshakes.
+    Plain,
+    // Requests to a site without a page.
+    Pageless,
+    // Handshakes, as a browser sends them.
+    Handshakes,
+    // Requests with other fields.
+    Fields,
+    // The parts of a request.
+    Parts,
+    // Bytes that are requests, and others.
+    Heads,
     // Requests with so many fields.
-    Counts(&'static [Count]),
-    // Answers that are written.
-    Answers(&'static [AnswerRow]),
+    Counts,
+    // Statuses in sentences.
+    Sentences,
+    // Figures, with and without their body.
+    Figures,
+    // Texts that may be identities, and others.
+    Identities,
 }
 
 // The first row of a list that isn't as it must be.
 fn first_wrong_of(alloc: Global, site: &Site, list: List) -> Option<usize> {
     match list {
-        List::Requests(common, rows) => first_wrong_request(alloc, site, common, rows),
-        List::Parts(request) => first_wrong_part(site, request),
-        List::Heads(rows) => first_wrong_head(site, rows),
-        List::Counts(rows) => first_wrong_count(alloc, site, rows),
-        List::Answers(rows) => first_wrong_answer(alloc, site, rows),
+        List::Plain => first_wrong_request(alloc, site, HOST, PLAIN),
+        List::Pageless => first_wrong_request(alloc, site, HOST, PAGELESS),
+        List::Handshakes => first_wrong_request(alloc, site, BROWSER, HANDSHAKES),
+        List::Fields => first_wrong_request(alloc, site, "", FIELDS),
+        List::Parts => first_wrong_part(site, CURL),
+        List::Heads => first_wrong_head(alloc, site, HEADS),
+        List::Counts => first_wrong_count(alloc, site, COUNTS),
+        List::Sentences => first_wrong_sentence(alloc, site, SENTENCES),
+        List::Figures => first_wrong_figures(alloc, site, FIGURES),
+        List::Identities => first_wrong_identity(IDENTITIES),
     }
 }
 
@@ -66,18 +83,16 @@ fn first_wrong(alloc: Global, has_page: bool, list: List) -> Option<usize> {
 
 // The lists, each with its name and whether the site has a page.
 const LISTS: &[(&str, bool, List)] = &[
-    ("plain requests", true, List::Requests(HOST, PLAIN)),
-    (
-        "requests without a page",
-        false,
-        List::Requests(HOST, PAGELESS),
-    ),
-    ("handshakes", true, List::Requests(BROWSER, HANDSHAKES)),
-    ("fields", true, List::Requests("", FIELDS)),
-    ("parts of a request", true, List::Parts(CURL)),
-    ("heads", true, List::Heads(HEADS)),
-    ("counts of fields", true, List::Counts(COUNTS)),
-    ("answers", true, List::Answers(ANSWERS)),
+    ("plain requests", true, List::Plain),
+    ("requests without a page", false, List::Pageless),
+    ("handshakes", true, List::Handshakes),
+    ("fields", true, List::Fields),
+    ("parts of a request", true, List::Parts),
+    ("heads", true, List::Heads),
+    ("counts of fields", true, List::Counts),
+    ("sentences", true, List::Sentences),
+    ("figures", true, List::Figures),
+    ("identities", true, List::Identities),
 ];
 
 #[test]
