@@ -1,74 +1,95 @@
 //! What there was in an output, streams that fail, and the words that a program is called with.
 use canvas_scene::{log_run, run, start};
-use std::alloc::Global;
+use std::alloc::{AllocError, Global};
 use std::io::{self, Error, ErrorKind, Read, Write};
 use std::test::Fail;
 
-// The lines, each with its line feed.
-fn joined(alloc: Global, lines: &[&str]) -> Result<Vec<u8>, Fail> {
-    let mut text = Vec::new(alloc);
-    for line in lines {
-        text.extend_from_slice(line.as_bytes())?;
-        text.push(b'\n')?;
-    }
-    Ok(text)
-}
+// Inputs, and what an output has then in which `before` stood.
+const ADDED: &[(&str, &str)] = &[
+    (
+        "log\njoin\n",
+        "before\n1 joined 1\nversion 1\n0:0 document\n",
+    ),
+    ("log\njoin\njion\n", "before\n1 joined 1\n"),
+    ("jion\n", "before\n"),
+    ("world\njoin\n", "before\n"),
+];
 
 // Whether a log adds its answers, and with them its report, to what there was.
-fn is_added(alloc: Global, input: &[&str], output: &[&str]) -> Result<bool, Fail> {
-    let mut out = joined(alloc, &["before"])?;
-    let run = log_run(alloc, &joined(alloc, input)?, &mut out);
-    let is_whole = run.is_ok();
-    Ok(is_whole == output.contains(&"0:0 document") && out == joined(alloc, output)?)
+fn is_added(alloc: Global, input: &str, wanted: &str) -> Result<bool, AllocError> {
+    let mut out = Vec::from_slice(alloc, b"before\n")?;
+    let is_whole = log_run(alloc, input.as_bytes(), &mut out).is_ok();
+    Ok(is_whole == wanted.ends_with("0:0 document\n") && out.as_slice() == wanted.as_bytes())
 }
 
 #[test]
 fn what_there_was_is_kept(rt: HostRuntime) -> Result<(), Fail> {
-    let whole = ["before", "1 joined 1", "version 1", "0:0 document"];
-    assert!(rt; is_added(rt.alloc(), &["log", "join"], &whole)?);
-    assert!(rt;
-        is_added(
-            rt.alloc(),
-            &["log", "join", "jion"],
-            &["before", "1 joined 1"]
-        )?
-    );
-    assert!(rt; is_added(rt.alloc(), &["jion"], &["before"])?);
-    assert!(rt; is_added(rt.alloc(), &["world", "join"], &["before"])?);
+    for (input, wanted) in ADDED {
+        assert!(rt; is_added(rt.alloc(), *input, *wanted)?, "at {input}");
+    }
     Ok(())
 }
 
-// Whether the program, called with these words, reads nothing and tells how it is called.
-fn is_refused(alloc: Global, words: &[&str]) -> Result<bool, Fail> {
-    let mut given = Vec::new(alloc);
-    for word in words {
-        given.push(String::from_str(alloc, word)?)?;
-    }
+// How a program ends that is called with words.
+#[derive(Clone, Copy)]
+struct End {
+    status: u8,
+    written: &'static str,
+    told: &'static str,
+    // How many bytes of the input it hasn't read.
+    left: usize,
+}
+
+// It plays its input.
+const PLAYED: End = End {
+    status: 0,
+    written: "1 joined 1\nversion 1\n0:0 document\n",
+    told: "",
+    left: 0,
+};
+
+// It reads nothing, and tells how it is called.
+const REFUSED: End = End {
+    status: 2,
+    written: "",
+    told: "usage: scene < FILE\n",
+    left: 9,
+};
+
+// Whether the program, called with these words, ends so.
+fn ends(alloc: Global, words: &[String], end: End) -> bool {
     let mut input = b"log\njoin\n".as_slice();
     let mut output = Vec::new(alloc);
     let mut faults = Vec::new(alloc);
-    let status = start(alloc, &given, &mut input, &mut output, &mut faults);
-    let usage = faults == joined(alloc, &["usage: scene < FILE"])?;
-    Ok(status == 2 && usage && output.is_empty() && input.len() == 9)
+    let status = start(alloc, words, &mut input, &mut output, &mut faults);
+    status == end.status
+        && output.as_slice() == end.written.as_bytes()
+        && faults.as_slice() == end.told.as_bytes()
+        && input.len() == end.left
 }
 
-// Whether the program, called with no words, plays its input.
-fn is_started(alloc: Global) -> Result<bool, Fail> {
-    let words: Vec<String> = Vec::new(alloc);
-    let mut input = b"log\njoin\n".as_slice();
-    let mut output = Vec::new(alloc);
-    let mut faults: Vec<u8> = Vec::new(alloc);
-    let status = start(alloc, &words, &mut input, &mut output, &mut faults);
-    let report = joined(alloc, &["1 joined 1", "version 1", "0:0 document"])?;
-    Ok(status == 0 && output == report && faults.is_empty())
+// The words of a line.
+fn words(alloc: Global, line: &str) -> Result<Vec<String>, AllocError> {
+    let mut words = Vec::new(alloc);
+    for word in line.split(' ') {
+        let word = String::from_str(alloc, word)?;
+        words.push(word)?;
+    }
+    Ok(words)
+}
+
+// Whether the program is refused that is called with the words of a line.
+fn is_refused(alloc: Global, line: &str) -> Result<bool, AllocError> {
+    let words = words(alloc, line)?;
+    Ok(ends(alloc, &words, REFUSED))
 }
 
 #[test]
 fn words_are_refused(rt: HostRuntime) -> Result<(), Fail> {
-    assert!(rt; is_started(rt.alloc())?);
-    assert!(rt; is_refused(rt.alloc(), &["first.scene"])?);
-    assert!(rt; is_refused(rt.alloc(), &[""])?);
-    assert!(rt; is_refused(rt.alloc(), &["--help", "me"])?);
+    assert!(rt; ends(rt.alloc(), &[], PLAYED));
+    for line in ["first.scene", "", "--help me"] {
+        assert!(rt; is_refused(rt.alloc(), line)?, "at {line}");
+    }
     Ok(())
 }
 
