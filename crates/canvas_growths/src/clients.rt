@@ -1,7 +1,7 @@
 // One client: what it answers messages and edits, with each growth refused in turn, and what is seen of it.
 use crate::reads::{write_beginnings, write_path, write_view};
 use crate::same::same_client;
-use crate::trials::{Fault, Trial, Went, write_growths};
+use crate::trials::{Trial, write_growths};
 use canvas_client::{Client, EditError, EditRequest, EditRequestVariant, Received};
 use canvas_doc::ObjId;
 use canvas_edit_lines::{read_edit, write_client};
@@ -32,15 +32,6 @@ enum Told {
     Created(u64, ObjId),
     // Why it refuses an edit.
     Refused(EditError),
-}
-
-// Receives a message.
-fn receive<A: Allocator + Copy>(
-    client: &mut Client<A>,
-    message: &Message,
-) -> Result<Told, AllocError> {
-    let received = client.receive(message)?;
-    Ok(Told::Received(received, client.last_changes()))
 }
 
 // Makes an edit by the call for edits of its kind. What it needs of the request is copied.
@@ -84,7 +75,10 @@ fn take<A: Allocator + Copy>(
     step: &Step,
 ) -> Result<Told, AllocError> {
     match step {
-        Step::Give(message) => receive(client, message),
+        Step::Give(message) => {
+            let received = client.receive(message)?;
+            Ok(Told::Received(received, client.last_changes()))
+        }
         Step::Edit(request) => edited(client.edit(request).map(Told::Made)),
         Step::Make(request) => edited(make(alloc, client, request)),
     }
@@ -99,115 +93,75 @@ fn after<A: Allocator + Copy>(alloc: A, steps: &[Step]) -> Result<Client<A>, All
     Ok(client)
 }
 
-// A step after others, what it is answered where nothing is refused, and the client before and after it.
+// What a client that has taken these steps tells of one more.
+fn told_after(alloc: Global, steps: &[Step], step: &Step) -> Result<Told, AllocError> {
+    let mut client = after(alloc, steps)?;
+    take(alloc, &mut client, step)
+}
+
+// Some steps, one more, all of them, and what is told of the last where nothing is refused.
 #[derive(Clone, Copy)]
-struct StepTrial<'a> {
-    steps: &'a [Step],
+struct LastStep<'a> {
+    before: &'a [Step],
     step: &'a Step,
+    all: &'a [Step],
     told: Told,
-    before: &'a Client,
-    after: &'a Client,
 }
 
-impl<'a> StepTrial<'a> {
-    // How it went, where the client was told this.
-    fn answered<A: Allocator + Copy>(
-        self,
-        alloc: Global,
-        client: &Client<A>,
-        told: Told,
-        went: Went,
-    ) -> Result<Went, AllocError> {
-        let is_right = told == self.told && same_client(alloc, client, self.after)?;
-        Ok(if is_right {
-            went
-        } else {
-            Went::Wrong(Fault::Otherwise)
-        })
+impl<'a, A: Allocator + Copy> Trial<A> for LastStep<'a> {
+    type Subject = Client<A>;
+
+    fn begin(&self, _global: Global, alloc: A) -> Result<Client<A>, AllocError> {
+        after(alloc, self.before)
     }
 
-    // Takes the step with the growth of that number refused, and once more where it was refused.
-    fn take_step<'h>(
-        self,
-        alloc: Global,
-        heap: &'h Refusing<Global>,
-        client: &mut Client<&'h Refusing<Global>>,
-        number: u64,
-    ) -> Result<Went, AllocError> {
-        heap.refuse(number);
-        let first = take(heap, client, self.step);
-        let was_refused = heap.left() == 0;
-        heap.refuse(0);
-        let Ok(told) = first else {
-            return self.take_again(alloc, heap, client, was_refused);
-        };
-        let went = if was_refused {
-            Went::Absorbed
-        } else {
-            Went::Whole
-        };
-        self.answered(alloc, client, told, went)
+    fn call(&self, _global: Global, alloc: A, client: &mut Client<A>) -> Result<bool, AllocError> {
+        Ok(take(alloc, client, self.step)? == self.told)
     }
 
-    // Takes the step once more, which failed.
-    fn take_again<A: Allocator + Copy>(
-        self,
-        alloc: Global,
-        heap: A,
+    fn is_as_wanted(
+        &self,
+        global: Global,
         client: &mut Client<A>,
-        was_refused: bool,
-    ) -> Result<Went, AllocError> {
-        if !was_refused {
-            return Ok(Went::Wrong(Fault::Otherwise));
-        }
-        if !same_client(alloc, client, self.before)? {
-            return Ok(Went::Wrong(Fault::Changed));
-        }
-        let told = take(heap, client, self.step)?;
-        self.answered(alloc, client, told, Went::Refused)
-    }
-}
-
-impl<'a> Trial for StepTrial<'a> {
-    fn refuse(&self, alloc: Global, number: u64) -> Result<Went, AllocError> {
-        let heap = Refusing::new(alloc, 0);
-        let mut client = after(&heap, self.steps)?;
-        self.take_step(alloc, &heap, &mut client, number)
+        is_made: bool,
+    ) -> Result<bool, AllocError> {
+        let steps = if is_made { self.all } else { self.before };
+        let other = after(global, steps)?;
+        same_client(global, client, &other)
     }
 }
 
 // Adds what a step is answered.
-fn write_told(alloc: Global, told: Told, out: &mut Vec<u8>) -> Result<(), AllocError> {
-    let text = match told {
-        Told::Received(received, changes) => format!(in alloc;
-            "{received:?}, last changes {changes}"
-        )?,
-        Told::Made(number) => format!(in alloc; "edit {number}")?,
-        Told::Created(number, id) => format!(in alloc; "edit {number} creates {id}")?,
-        Told::Refused(error) => format!(in alloc; "refused {error:?}")?,
-    };
-    out.extend_from_slice(text.as_bytes())
+fn write_told(told: Told, text: &mut String) -> Result<(), AllocError> {
+    match told {
+        Told::Received(received, changes) => {
+            write!(text, "{received:?}, last changes {changes}")
+        }
+        Told::Made(number) => write!(text, "edit {number}"),
+        Told::Created(number, id) => write!(text, "edit {number} creates {id}"),
+        Told::Refused(error) => write!(text, "refused {error:?}"),
+    }
 }
 
-// Adds what a client that has taken these steps answers to another one.
-fn answer_step(
-    alloc: Global,
+// Adds what a client is answered to the last of these steps.
+fn answer_last(
+    global: Global,
+    heap: &Refusing<Global>,
     steps: &[Step],
-    step: &Step,
-    out: &mut Vec<u8>,
+    text: &mut String,
 ) -> Result<(), AllocError> {
-    let before = after(alloc, steps)?;
-    let mut then = after(alloc, steps)?;
-    let told = take(alloc, &mut then, step)?;
-    let trial = StepTrial {
-        steps,
-        step,
-        told,
-        before: &before,
-        after: &then,
+    let [before @ .., step] = steps else {
+        return Ok(());
     };
-    write_told(alloc, told, out)?;
-    write_growths(alloc, &trial, out)
+    let told = told_after(global, before, step)?;
+    write_told(told, text)?;
+    let trial = LastStep {
+        before,
+        step,
+        all: steps,
+        told,
+    };
+    write_growths(global, heap, &trial, text)
 }
 
 // The step that a line asks for.
@@ -223,57 +177,62 @@ fn read_step(alloc: Global, line: &[u8]) -> Option<Step> {
 }
 
 // Adds the client's block, and the number of its last edit that it knows to be judged.
-fn write_block(alloc: Global, client: &Client, out: &mut Vec<u8>) -> Result<(), AllocError> {
-    write_client(alloc, b"client", client, out)?;
-    let acknowledged = client.acknowledged();
-    let text = format!(in alloc; "acknowledged {acknowledged}\n")?;
-    out.extend_from_slice(text.as_bytes())
+fn write_block(alloc: Global, client: &Client, text: &mut String) -> Result<(), AllocError> {
+    let mut block = Vec::new(alloc);
+    write_client(alloc, b"client", client, &mut block)?;
+    text.push_str(str::from_utf8(&block).unwrap_or("cannot show\n"))?;
+    write!(text, "acknowledged {}\n", client.acknowledged())
 }
 
 // Adds the messages of the edits that wait.
-fn write_waiting(alloc: Global, client: &Client, out: &mut Vec<u8>) -> Result<(), AllocError> {
+fn write_waiting(alloc: Global, client: &Client, text: &mut String) -> Result<(), AllocError> {
     for i in 1..=client.unacknowledged() {
-        let text = encode(alloc, &client.message(alloc, i)?)?;
-        out.extend_from_slice(&text)?;
-        out.push(b'\n')?;
+        let message = encode(alloc, &client.message(alloc, i)?)?;
+        text.push_str(str::from_utf8(&message).unwrap_or("cannot show"))?;
+        text.push('\n')?;
     }
     Ok(())
 }
 
 // Adds what is seen of a client.
 fn write_seen(
-    alloc: Global,
+    global: Global,
+    heap: &Refusing<Global>,
     client: &Client,
     asked: &[u8],
-    out: &mut Vec<u8>,
+    text: &mut String,
 ) -> Result<(), AllocError> {
     if let Some(id) = asked.strip_prefix(b"path ") {
         return match ObjId::try_from(id) {
-            Ok(id) => write_path(alloc, client.view(), id, out),
-            Err(_) => out.extend_from_slice(b"cannot read\n"),
+            Ok(id) => write_path(global, heap, client.view(), id, text),
+            Err(_) => text.push_str("cannot read\n"),
         };
     }
-    match asked {
-        b"show" => write_block(alloc, client, out),
-        b"waiting" => write_waiting(alloc, client, out),
-        b"reads" => write_view(alloc, client.view(), out),
-        b"beginnings" => write_beginnings(alloc, out),
-        _ => out.extend_from_slice(b"cannot read\n"),
+    if asked == b"show".as_slice() {
+        write_block(global, client, text)
+    } else if asked == b"waiting".as_slice() {
+        write_waiting(global, client, text)
+    } else if asked == b"reads".as_slice() {
+        write_view(global, heap, client.view(), text)
+    } else if asked == b"beginnings".as_slice() {
+        write_beginnings(global, heap, text)
+    } else {
+        text.push_str("cannot read\n")
     }
 }
 
 /// Adds what a client that has taken these steps answers a line. Where the line is a step, it is added to the steps.
 pub fn answer_line(
-    alloc: Global,
+    global: Global,
+    heap: &Refusing<Global>,
     steps: &mut Vec<Step>,
     line: &[u8],
-    out: &mut Vec<u8>,
+    text: &mut String,
 ) -> Result<(), AllocError> {
-    if let Some(step) = read_step(alloc, line) {
-        answer_step(alloc, steps, &step, out)?;
+    if let Some(step) = read_step(global, line) {
         steps.push(step)?;
-        return Ok(());
+        return answer_last(global, heap, steps, text);
     }
-    let client = after(alloc, steps)?;
-    write_seen(alloc, &client, line, out)
+    let client = after(global, steps)?;
+    write_seen(global, heap, &client, line, text)
 }

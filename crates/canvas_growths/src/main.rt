@@ -5,7 +5,6 @@
 //! as it goes where nothing is refused. What is written of a call is its answer and how many of its growths were refused so.
 #![tactic(auto)]
 
-mod advances;
 mod clients;
 mod events;
 mod reads;
@@ -16,6 +15,7 @@ mod trials;
 use canvas_cases::{Answerer, run_cases};
 use canvas_script::{Script, is_world, read_script};
 use clients::{Step, answer_line};
+use refusing::Refusing;
 use std::alloc::{AllocError, Global};
 use std::io;
 use stories::write_story;
@@ -28,17 +28,35 @@ struct Answers {
 }
 
 // Answers the script of a world.
-fn answer_script(alloc: Global, asked: &[u8], out: &mut Vec<u8>) -> Result<(), AllocError> {
+fn answer_script(
+    global: Global,
+    heap: &Refusing<Global>,
+    asked: &[u8],
+    text: &mut String,
+) -> Result<(), AllocError> {
     let Script {
         items,
         names: _,
         bad_line,
-    } = read_script(alloc, asked)?;
-    if let Some(line) = bad_line {
-        let text = format!(in alloc; "line {line}: cannot read\n")?;
-        return out.extend_from_slice(text.as_bytes());
+    } = read_script(global, asked)?;
+    match bad_line {
+        Some(line) => write!(text, "line {line}: cannot read\n"),
+        None => write_story(global, heap, &items, text),
     }
-    write_story(alloc, &items, out)
+}
+
+// Answers what is asked of one client.
+fn answer_lines(
+    global: Global,
+    heap: &Refusing<Global>,
+    steps: &mut Vec<Step>,
+    asked: &[u8],
+    text: &mut String,
+) -> Result<(), AllocError> {
+    for line in str::from_utf8(asked).unwrap_or("?").lines() {
+        answer_line(global, heap, steps, line.as_bytes(), text)?;
+    }
+    Ok(())
 }
 
 impl Answerer for Answers {
@@ -48,14 +66,14 @@ impl Answerer for Answers {
     }
 
     fn answer(&mut self, alloc: Global, asked: &[u8], out: &mut Vec<u8>) -> Result<(), AllocError> {
+        let heap = Refusing::new(alloc, 0);
+        let mut text = String::new(alloc);
         if is_world(asked) {
-            return answer_script(alloc, asked, out);
+            answer_script(alloc, &heap, asked, &mut text)?;
+        } else {
+            answer_lines(alloc, &heap, &mut self.steps, asked, &mut text)?;
         }
-        let lines = asked.strip_suffix(b"\n").unwrap_or(asked);
-        for line in lines.split(|byte| *byte == b'\n') {
-            answer_line(alloc, &mut self.steps, line, out)?;
-        }
-        Ok(())
+        out.extend_from_slice(text.as_bytes())
     }
 }
 

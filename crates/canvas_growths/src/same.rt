@@ -1,41 +1,32 @@
-// Whether clients and worlds are the same, in all that they lend.
+// Whether clients and worlds are the same as others in ample memory, in all that they lend.
 use canvas_client::Client;
 use canvas_server::Server;
 use canvas_world::World;
 use std::alloc::{AllocError, Allocator, Global};
 
-// Whether the i-th waiting edits of two clients are there, and are the same.
-fn same_message<A: Allocator + Copy, B: Allocator + Copy>(
+// Whether the edits that wait of two clients are the same.
+fn same_waiting<A: Allocator + Copy>(
     alloc: Global,
     one: &Client<A>,
-    two: &Client<B>,
-    i: u64,
+    two: &Client,
 ) -> Result<bool, AllocError> {
-    if i == 0 || i > one.unacknowledged() || i > two.unacknowledged() {
+    let count = one.unacknowledged();
+    if count != two.unacknowledged() {
         return Ok(false);
     }
-    Ok(one.message(alloc, i)?.same(&two.message(alloc, i)?))
-}
-
-// Whether all waiting edits of two clients are the same.
-fn same_messages<A: Allocator + Copy, B: Allocator + Copy>(
-    alloc: Global,
-    one: &Client<A>,
-    two: &Client<B>,
-) -> Result<bool, AllocError> {
-    for i in 1..=one.unacknowledged() {
-        if !same_message(alloc, one, two, i)? {
+    for i in 1..=count {
+        if !one.message(alloc, i)?.same(&two.message(alloc, i)?) {
             return Ok(false);
         }
     }
-    Ok(one.unacknowledged() == two.unacknowledged())
+    Ok(true)
 }
 
 /// Whether two clients are the same.
-pub fn same_client<A: Allocator + Copy, B: Allocator + Copy>(
+pub fn same_client<A: Allocator + Copy>(
     alloc: Global,
     one: &Client<A>,
-    two: &Client<B>,
+    two: &Client,
 ) -> Result<bool, AllocError> {
     Ok(
         one.id() == two.id()
@@ -43,26 +34,12 @@ pub fn same_client<A: Allocator + Copy, B: Allocator + Copy>(
             && one.acknowledged() == two.acknowledged()
             && one.last_changes() == two.last_changes()
             && one.view().same(two.view())
-            && same_messages(alloc, one, two)?,
+            && same_waiting(alloc, one, two)?,
     )
 }
 
-// Whether the k-th clients of two worlds are the same, or there is none in either.
-fn same_node<A: Allocator + Copy, B: Allocator + Copy>(
-    alloc: Global,
-    one: &World<A>,
-    two: &World<B>,
-    k: u64,
-) -> Result<bool, AllocError> {
-    match (one.client(k), two.client(k)) {
-        (Some(client), Some(other)) => same_client(alloc, client, other),
-        (None, None) => Ok(true),
-        _ => Ok(false),
-    }
-}
-
 // Whether two servers are the same.
-fn same_server<A: Allocator, B: Allocator>(one: &Server<A>, two: &Server<B>) -> bool {
+fn same_server<A: Allocator>(one: &Server<A>, two: &Server) -> bool {
     one.version() == two.version()
         && one.published() == two.published()
         && one.floor() == two.floor()
@@ -70,14 +47,19 @@ fn same_server<A: Allocator, B: Allocator>(one: &Server<A>, two: &Server<B>) -> 
 }
 
 /// Whether two worlds of at most so many nodes are the same. The messages under way and the log are seen by what comes of them.
-pub fn same_world<A: Allocator + Copy, B: Allocator + Copy>(
+pub fn same_world<A: Allocator + Copy>(
     alloc: Global,
     one: &World<A>,
-    two: &World<B>,
+    two: &World,
     nodes: u64,
 ) -> Result<bool, AllocError> {
     for k in 1..=nodes {
-        if !same_node(alloc, one, two, k)? {
+        let is_same = match (one.client(k), two.client(k)) {
+            (Some(client), Some(other)) => same_client(alloc, client, other)?,
+            (None, None) => true,
+            _ => false,
+        };
+        if !is_same {
             return Ok(false);
         }
     }

@@ -1,206 +1,163 @@
-// Scripts of a world, with each growth of each event refused in turn.
-use crate::advances::write_advance;
-use crate::events::{event_in, play_item, play_items};
+// Scripts of a world, with each growth refused in turn: of each event, and of the call that plays all of them.
+use crate::events::events_in;
 use crate::reads::{write_server, write_view};
 use crate::same::same_world;
-use crate::trials::{Fault, Trial, Went, write_growths};
+use crate::trials::{Trial, write_growths};
 use canvas_script::Item;
 use canvas_world::{Answer, Event, World};
 use refusing::Refusing;
 use std::alloc::{AllocError, Allocator, Global};
 
-// A script, what each of its items answers where nothing is refused, and the world at its end.
-#[derive(Clone, Copy)]
-struct Story<'a> {
-    items: &'a [Item],
-    answers: &'a [Option<Answer>],
-    end: &'a World,
+// A world in which the events of a script are played, and how many of them have been.
+struct Stage<A: Allocator> {
+    world: World<A>,
+    events: Vec<Event<A>>,
+    done: usize,
 }
 
-impl<'a> Story<'a> {
-    // Whether the world is this one of the story.
-    fn is_at<A: Allocator + Copy>(
-        self,
-        alloc: Global,
-        world: &World<A>,
-        moment: &World,
-    ) -> Result<bool, AllocError> {
-        same_world(alloc, world, moment, self.items.len() as u64)
+impl<A: Allocator> Drop for Stage<A> {
+    fn drop(self) {
+        let Stage {
+            world: _,
+            events: _,
+            done: _,
+        } = self;
+    }
+}
+
+impl<A: Allocator + Copy> Stage<A> {
+    // The world after so many of the events that these items ask for.
+    fn after(global: Global, alloc: A, items: &[Item], count: usize) -> Result<Self, AllocError> {
+        let events = events_in(global, alloc, items)?;
+        let world = World::new(alloc)?;
+        let mut stage = Stage {
+            world,
+            events,
+            done: 0,
+        };
+        for _ in 0..count {
+            stage.step()?;
+        }
+        Ok(stage)
     }
 
-    // Whether all items from this one on answer as they have to, and lead to the end.
-    fn goes_on<A: Allocator + Copy>(
-        self,
-        alloc: Global,
-        heap: A,
-        world: &mut World<A>,
-        from: usize,
-    ) -> Result<bool, AllocError> {
-        for (item, wanted) in self.items.iter().zip(self.answers.iter()).skip(from) {
-            if play_item(heap, world, item)? != *wanted {
+    // Plays the next event, and gives its answer. None where all have been played.
+    fn step(&mut self) -> Result<Option<Answer>, AllocError> {
+        let Some(event) = self.events.get(self.done) else {
+            return Ok(None);
+        };
+        let answer = self.world.step(event)?;
+        self.done = self.done.saturating_add(1);
+        Ok(Some(answer))
+    }
+
+    // Plays the rest of the events by one call. The error is that one was refused memory.
+    fn advance(&mut self) -> Result<(), AllocError> {
+        let Some(rest) = self.events.get(self.done..) else {
+            return Ok(());
+        };
+        let (done, stopped) = self.world.advance(rest);
+        self.done = self.done.saturating_add(done as usize);
+        match stopped {
+            Some(error) => Err(error),
+            None => Ok(()),
+        }
+    }
+
+    // Plays the rest of the events in two worlds, and tells whether each answers alike.
+    fn ends_as(&mut self, other: &mut Stage<Global>) -> Result<bool, AllocError> {
+        for _ in self.done..self.events.len() {
+            if self.step()? != other.step()? {
                 return Ok(false);
             }
         }
-        self.is_at(alloc, world, self.end)
+        Ok(true)
     }
 }
 
-// The event of a story's item, the item's index, and the world before it.
+// What is tried of a script: the event before which so many others are played, with its answer where nothing is refused. Or, where there is
+// no answer, all events behind those by one call.
 #[derive(Clone, Copy)]
-struct Moment<'a> {
-    story: Story<'a>,
+struct Part<'a> {
+    items: &'a [Item],
     at: usize,
-    before: &'a World,
+    answer: Option<Answer>,
 }
 
-impl<'a> Moment<'a> {
-    // How it went, where the event has answered this and the story must go on.
-    fn answered<A: Allocator + Copy>(
-        self,
-        alloc: Global,
-        heap: A,
-        world: &mut World<A>,
-        answer: Answer,
-        went: Went,
-    ) -> Result<Went, AllocError> {
-        let is_right = self.story.answers.get(self.at).copied() == Some(Some(answer))
-            && self
-                .story
-                .goes_on(alloc, heap, world, self.at.saturating_add(1))?;
-        Ok(if is_right {
-            went
-        } else {
-            Went::Wrong(Fault::Otherwise)
-        })
+impl<'a, A: Allocator + Copy> Trial<A> for Part<'a> {
+    type Subject = Stage<A>;
+
+    fn begin(&self, global: Global, alloc: A) -> Result<Stage<A>, AllocError> {
+        Stage::after(global, alloc, self.items, self.at)
     }
 
-    // Plays the event with the growth of that number refused, and once more where it was refused.
-    fn play<'h>(
-        self,
-        alloc: Global,
-        heap: &'h Refusing<Global>,
-        world: &mut World<&'h Refusing<Global>>,
-        event: &Event<&'h Refusing<Global>>,
-        number: u64,
-    ) -> Result<Went, AllocError> {
-        heap.refuse(number);
-        let first = world.step(event);
-        let was_refused = heap.left() == 0;
-        heap.refuse(0);
-        let Ok(answer) = first else {
-            return self.play_again(alloc, heap, world, event, was_refused);
-        };
-        let went = if was_refused {
-            Went::Absorbed
-        } else {
-            Went::Whole
-        };
-        self.answered(alloc, heap, world, answer, went)
-    }
-
-    // Plays the event once more, which failed.
-    fn play_again<A: Allocator + Copy>(
-        self,
-        alloc: Global,
-        heap: A,
-        world: &mut World<A>,
-        event: &Event<A>,
-        was_refused: bool,
-    ) -> Result<Went, AllocError> {
-        if !was_refused {
-            return Ok(Went::Wrong(Fault::Otherwise));
+    fn call(&self, _global: Global, _alloc: A, stage: &mut Stage<A>) -> Result<bool, AllocError> {
+        if self.answer.is_some() {
+            return Ok(stage.step()? == self.answer);
         }
-        if !self.story.is_at(alloc, world, self.before)? {
-            return Ok(Went::Wrong(Fault::Changed));
-        }
-        let answer = world.step(event)?;
-        self.answered(alloc, heap, world, answer, Went::Refused)
+        stage.advance()?;
+        Ok(true)
     }
 
-    // The same in the empty world, where the items before are played first.
-    fn play_from_empty<'h>(
-        self,
-        alloc: Global,
-        heap: &'h Refusing<Global>,
-        world: &mut World<&'h Refusing<Global>>,
-        number: u64,
-    ) -> Result<Went, AllocError> {
-        for item in self.story.items.iter().take(self.at) {
-            play_item(heap, world, item)?;
+    fn is_as_wanted(
+        &self,
+        global: Global,
+        stage: &mut Stage<A>,
+        is_made: bool,
+    ) -> Result<bool, AllocError> {
+        let mut other = Stage::after(global, global, self.items, stage.done)?;
+        if is_made && !stage.ends_as(&mut other)? {
+            return Ok(false);
         }
-        let Some(item) = self.story.items.get(self.at) else {
-            return Ok(Went::Whole);
-        };
-        match event_in(heap, item)? {
-            Some(event) => self.play(alloc, heap, world, &event, number),
-            None => Ok(Went::Whole),
-        }
+        let nodes = self.items.len() as u64;
+        same_world(global, &stage.world, &other.world, nodes)
     }
 }
 
-impl<'a> Trial for Moment<'a> {
-    fn refuse(&self, alloc: Global, number: u64) -> Result<Went, AllocError> {
-        let heap = Refusing::new(alloc, 0);
-        let mut world = World::new(&heap)?;
-        self.play_from_empty(alloc, &heap, &mut world, number)
-    }
-}
-
-// Adds what an event answers.
-fn write_answer(alloc: Global, answer: &Answer, out: &mut Vec<u8>) -> Result<(), AllocError> {
-    let text = format!(in alloc; "{answer:?}")?;
-    out.extend_from_slice(text.as_bytes())
-}
-
-// Adds what the event of a story's item answers, and how many of its growths are refused.
-fn write_event(alloc: Global, moment: Moment<'_>, out: &mut Vec<u8>) -> Result<(), AllocError> {
-    let Some(Some(answer)) = moment.story.answers.get(moment.at) else {
-        return Ok(());
-    };
-    write_answer(alloc, answer, out)?;
-    write_growths(alloc, &moment, out)
-}
-
-// Adds what comes of the item at an index, in the world before it.
+// Adds what comes of the next item.
 fn write_item(
-    alloc: Global,
-    story: Story<'_>,
-    at: usize,
+    global: Global,
+    heap: &Refusing<Global>,
+    items: &[Item],
     item: &Item,
-    before: &World,
-    out: &mut Vec<u8>,
+    stage: &mut Stage<Global>,
+    text: &mut String,
 ) -> Result<(), AllocError> {
     match item {
-        Item::ShowsServer => write_server(alloc, before.server(), out),
-        Item::ShowsNode(k) => match before.client(*k) {
-            Some(client) => write_view(alloc, client.view(), out),
+        Item::ShowsServer => write_server(global, heap, stage.world.server(), text),
+        Item::ShowsNode(k) => match stage.world.client(*k) {
+            Some(client) => write_view(global, heap, client.view(), text),
             None => Ok(()),
         },
-        Item::Enters | Item::Happens(_) => write_event(alloc, Moment { story, at, before }, out),
+        Item::Enters | Item::Happens(_) => {
+            let at = stage.done;
+            let answer = stage.step()?;
+            if let Some(answer) = answer {
+                write!(text, "{answer:?}")?;
+            }
+            write_growths(global, heap, &Part { items, at, answer }, text)
+        }
     }
-}
-
-// Adds what comes of each item of a story.
-fn write_items(alloc: Global, story: Story<'_>, out: &mut Vec<u8>) -> Result<(), AllocError> {
-    let mut world = World::new(alloc)?;
-    for (at, item) in story.items.iter().enumerate() {
-        write_item(alloc, story, at, item, &world, out)?;
-        play_item(alloc, &mut world, item)?;
-    }
-    Ok(())
 }
 
 /// Adds what comes of each item of a script: of an event its answer and how many of its growths are refused, of a `show` how many
-/// growths of the calls are that read what would be shown; and in the end, of the call that plays all events, how many are refused.
-pub fn write_story(alloc: Global, items: &[Item], out: &mut Vec<u8>) -> Result<(), AllocError> {
-    let mut end = World::new(alloc)?;
-    let mut answers = Vec::new(alloc);
-    play_items(alloc, &mut end, items, &mut answers)?;
-    let story = Story {
+/// growths of the calls are that read what would be shown; and in the end, of the call that plays all events, how many are refused. After
+/// each refusal the world is that of the events that were played, and the rest leads to the same end.
+pub fn write_story(
+    global: Global,
+    heap: &Refusing<Global>,
+    items: &[Item],
+    text: &mut String,
+) -> Result<(), AllocError> {
+    let mut stage = Stage::after(global, global, items, 0)?;
+    for item in items {
+        write_item(global, heap, items, item, &mut stage, text)?;
+    }
+    text.push_str("all at once")?;
+    let all = Part {
         items,
-        answers: &answers,
-        end: &end,
+        at: 0,
+        answer: None,
     };
-    write_items(alloc, story, out)?;
-    write_advance(alloc, items, &end, out)
+    write_growths(global, heap, &all, text)
 }
