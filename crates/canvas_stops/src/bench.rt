@@ -2,6 +2,21 @@
 use canvas_shelf::record;
 use std::alloc::{AllocError, Global};
 
+/// A segment of a shelf.
+pub struct Segment {
+    pub number: u32,
+    pub bytes: Vec<u8>,
+}
+
+impl Drop for Segment {
+    fn drop(self) {
+        let Segment {
+            number: _,
+            bytes: _,
+        } = self;
+    }
+}
+
 /// Which calls of a shelf fail, or of the store that it is in.
 #[derive(Clone, Copy)]
 pub enum Failing {
@@ -11,55 +26,101 @@ pub enum Failing {
     Only(u64),
 }
 
-/// What stands on a shelf at first, and what a room over it is asked.
+/// The segments of a shelf, what is done over it, and the crashes after that.
 pub struct Bench {
+    pub segments: Vec<Segment>,
     /// Whether the segments are in a store of keys.
     pub in_store: bool,
-    /// The bytes of segment 1; no such segment where there are none.
-    pub start: Vec<u8>,
-    /// The lines of the script, each with its line feed.
+    pub failing: Failing,
+    /// What is done, one line each.
     pub script: Vec<u8>,
+    /// Whether the script is of what a room is asked, and not of calls of a journal.
+    pub asks_room: bool,
+    /// Crashes, one a line, each with what it keeps.
+    pub crashes: Vec<u8>,
 }
 
 impl Drop for Bench {
     fn drop(self) {
         let Bench {
+            segments: _,
             in_store: _,
-            start: _,
+            failing: _,
             script: _,
+            asks_room: _,
+            crashes: _,
         } = self;
     }
 }
 
 impl Bench {
-    /// An empty shelf in memory, and no script.
+    /// No segment, and nothing done.
     pub fn new(alloc: Global) -> Bench {
         Bench {
+            segments: Vec::new(alloc),
             in_store: false,
-            start: Vec::new(alloc),
+            failing: Failing::Only(0),
             script: Vec::new(alloc),
+            asks_room: false,
+            crashes: Vec::new(alloc),
         }
     }
 
     /// Forgets all.
     pub fn clear(&mut self) {
+        self.segments.clear();
         self.in_store = false;
-        self.start.clear();
+        self.failing = Failing::Only(0);
         self.script.clear();
+        self.asks_room = false;
+        self.crashes.clear();
     }
 
-    /// Adds a record of this text to segment 1.
+    /// Begins a segment.
+    pub fn begin_segment(&mut self, alloc: Global, number: u32) -> Result<(), AllocError> {
+        self.segments.push(Segment {
+            number,
+            bytes: Vec::new(alloc),
+        })?;
+        Ok(())
+    }
+
+    /// Adds bytes to the last segment, which is segment 1 where none was begun.
+    pub fn add_bytes(&mut self, alloc: Global, bytes: &[u8]) -> Result<(), AllocError> {
+        if self.segments.is_empty() {
+            self.begin_segment(alloc, 1)?;
+        }
+        match self.segments.last_mut() {
+            Some(segment) => segment.bytes.extend_from_slice(bytes),
+            None => Ok(()),
+        }
+    }
+
+    /// Adds a record of this text to the last segment.
     pub fn add_record(&mut self, alloc: Global, text: &[u8]) -> Result<(), AllocError> {
         match record(alloc, text) {
-            Ok(bytes) => self.start.extend_from_slice(&bytes),
+            Ok(bytes) => self.add_bytes(alloc, &bytes),
             Err(_) => Err(AllocError),
         }
     }
 
-    /// Adds a line to the script.
-    pub fn add_line(&mut self, line: &[u8]) -> Result<(), AllocError> {
-        self.script.extend_from_slice(line)?;
-        self.script.push(b'\n')?;
-        Ok(())
+    /// Adds a line to the script. A message makes the script that of a room.
+    pub fn add_step(&mut self, line: &[u8]) -> Result<(), AllocError> {
+        if line.starts_with(b"[") {
+            self.asks_room = true;
+        }
+        add_line(line, &mut self.script)
     }
+
+    /// Adds a crash that keeps this.
+    pub fn add_crash(&mut self, keep: &[u8]) -> Result<(), AllocError> {
+        add_line(keep, &mut self.crashes)
+    }
+}
+
+// Adds a line and its line feed.
+fn add_line(line: &[u8], lines: &mut Vec<u8>) -> Result<(), AllocError> {
+    lines.extend_from_slice(line)?;
+    lines.push(b'\n')?;
+    Ok(())
 }

@@ -1,10 +1,11 @@
 // Shelves of which calls fail as they were told, and what is found of them later.
-ghost use Rattle.std.specs.Prelude.{◌≡◌, [], true, IsTrue, IfOk, IfSome};
+ghost use Rattle.std.specs.Prelude.{◌≡◌, true, IsTrue, IfOk, IfSome};
 ghost use Rattle.canvas_shelf.specs.Disk.{top_is_listed};
 
-use crate::bench::Failing;
+use crate::bench::{Failing, Segment};
+use crate::shelves::{failing_shelf, put_all};
 use canvas_etcd::{EtcdError, EtcdShelf, Store};
-use canvas_shelf::{Call, CreateError, MemShelf, Shelf};
+use canvas_shelf::{Call, MemShelf, Shelf};
 use memory_store::MemStore;
 use std::alloc::{AllocError, Global};
 
@@ -13,41 +14,18 @@ pub trait Fragile: Shelf + Drop {
     /// How many things may be found.
     const WAYS: usize;
 
-    /// A shelf of a first segment with these bytes, all of them certain, or of none where there are no bytes. These calls fail. None, where
-    /// one failed before there was a shelf.
-    fn make(alloc: Global, start: &[u8], failing: Failing) -> Result<Option<Self>, AllocError>
+    /// A shelf of these segments, all of their bytes certain. These calls fail. None, where one failed before there was a shelf.
+    fn make(
+        alloc: Global,
+        segments: &[Segment],
+        failing: Failing,
+    ) -> Result<Option<Self>, AllocError>
         ensures { IfOk result (λ made. IfSome made (λ s. IsTrue (Self.honest s) → top_is_listed (Self.disk s) ≡ true)) };
 
     /// One of the things that may be found now, as a new shelf of which all is certain and no call fails. The first of them, 0, has
     /// nothing that isn't certain.
     fn found(&self, alloc: Global, way: usize) -> Result<Self, AllocError>
         ensures { IfOk result (λ s. IsTrue (Self.honest s) → top_is_listed (Self.disk s) ≡ true) };
-}
-
-// Makes a first segment of these bytes, and makes sure of it.
-fn put<S: Shelf>(shelf: &mut S, bytes: &[u8]) -> Result<(), CreateError>
-    requires { IsTrue (S.honest shelf.old) → S.disk shelf.old ≡ [] }
-{
-    shelf.create(1)?;
-    shelf.append(1, bytes)?;
-    shelf.sync(1)?;
-    Ok(())
-}
-
-// The same on a shelf that lists no segment, unless there are no bytes.
-fn begin<S: Shelf>(alloc: Global, shelf: &mut S, bytes: &[u8]) -> Result<(), AllocError>
-    requires { IsTrue (S.honest shelf.old) → top_is_listed (S.disk shelf.old) ≡ true }
-{
-    if bytes.is_empty() {
-        return Ok(());
-    }
-    let Ok(listed) = shelf.list(alloc) else {
-        return Err(AllocError);
-    };
-    if !listed.is_empty() || put(shelf, bytes).is_err() {
-        return Err(AllocError);
-    }
-    Ok(())
 }
 
 // A crash that keeps all bytes of the segments that a script makes.
@@ -65,15 +43,15 @@ fn half_of(calls: &[Call]) -> [(u32, u64); 1] {
 impl Fragile for MemShelf {
     const WAYS: usize = 3;
 
-    fn make(alloc: Global, start: &[u8], failing: Failing) -> Result<Option<MemShelf>, AllocError> {
-        let mut first = MemShelf::new(alloc);
-        begin(alloc, &mut first, start)?;
-        let mut shelf = first.crash(&[])?;
-        match failing {
-            Failing::After(calls) => shelf.fuse(calls),
-            Failing::Only(call) => shelf.fail_one(call),
+    fn make(
+        alloc: Global,
+        segments: &[Segment],
+        failing: Failing,
+    ) -> Result<Option<MemShelf>, AllocError> {
+        match failing_shelf(alloc, segments, failing) {
+            Ok(shelf) => Ok(Some(shelf)),
+            Err(error) => Err(error),
         }
-        Ok(Some(shelf))
     }
 
     fn found(&self, _alloc: Global, way: usize) -> Result<MemShelf, AllocError> {
@@ -117,12 +95,14 @@ impl FragileStore for MemStore {
     }
 }
 
-// A store of a document whose first segment has these bytes, or that has none where there are no bytes.
-fn store_of<S: FragileStore>(alloc: Global, start: &[u8]) -> Result<S, AllocError> {
+// A store of a document of these segments.
+fn store_of<S: FragileStore>(alloc: Global, segments: &[Segment]) -> Result<S, AllocError> {
     let Ok(mut shelf) = EtcdShelf::open(alloc, S::new(alloc)) else {
         return Err(AllocError);
     };
-    begin(alloc, &mut shelf, start)?;
+    if put_all(alloc, &mut shelf, segments).is_err() {
+        return Err(AllocError);
+    }
     shelf.store().found(false)
 }
 
@@ -130,8 +110,12 @@ fn store_of<S: FragileStore>(alloc: Global, start: &[u8]) -> Result<S, AllocErro
 impl<S: FragileStore> Fragile for EtcdShelf<S> {
     const WAYS: usize = 2;
 
-    fn make(alloc: Global, start: &[u8], failing: Failing) -> Result<Option<Self>, AllocError> {
-        let mut store = store_of::<S>(alloc, start)?;
+    fn make(
+        alloc: Global,
+        segments: &[Segment],
+        failing: Failing,
+    ) -> Result<Option<Self>, AllocError> {
+        let mut store = store_of::<S>(alloc, segments)?;
         store.fail(failing);
         match EtcdShelf::open(alloc, store) {
             Ok(shelf) => Ok(Some(shelf)),

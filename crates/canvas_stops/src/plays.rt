@@ -2,7 +2,7 @@
 ghost use Rattle.std.specs.Prelude.{◌≡◌};
 
 use crate::fragile::Fragile;
-use crate::shelves::{BlankOn, left_of};
+use crate::rooms::{BlankOn, left_of};
 use crate::steps::{SeatOf, entries_of, write_reads, write_step};
 use canvas_board::RoomName;
 use canvas_journal::{Journal, Keeper};
@@ -74,6 +74,20 @@ impl<'a> Play<'a> {
         }
         write_reads(alloc, seats, text)
     }
+
+    // Asks a room with its seats.
+    fn ask_room<B: Fragile, N: RoomName, Q: Wait + Drop, W: Wait>(
+        self,
+        rt: &W,
+        alloc: Global,
+        room: &Room<Journal<B>, N, Q>,
+        seats: &mut [SeatOf<Journal<B>, N, Q>],
+    ) -> Result<Played<B>, AllocError> {
+        let opened = version_of(rt, room);
+        let mut text = String::new(alloc);
+        self.ask_lines(rt, alloc, room, seats, opened, &mut text)?;
+        played_in(rt, alloc, room, opened, text)
+    }
 }
 
 // The version that a room has published.
@@ -84,39 +98,18 @@ fn version_of<K: Keeper + Drop, N: RoomName, Q: Wait + Drop, W: Wait>(
     room.desk(rt).version()
 }
 
-// How many calls of a room's shelf failed.
-fn failures_of<K: Keeper + Drop, N: RoomName, Q: Wait + Drop, W: Wait>(
-    rt: &W,
-    room: &Room<K, N, Q>,
-) -> u64 {
-    let desk = room.desk(rt);
-    desk.keeper().failures()
-}
-
-// What may be found of a room's shelf.
-fn left_by<B: Fragile, N: RoomName, Q: Wait + Drop, W: Wait>(
-    rt: &W,
-    alloc: Global,
-    room: &Room<Journal<B>, N, Q>,
-) -> Result<Vec<B>, AllocError> {
-    let desk = room.desk(rt);
-    left_of(alloc, desk.keeper().shelf())
-}
-
-// Asks a room with its seats.
+// What came of a script in a room that opened at this version, where its lines were answered this.
 fn played_in<B: Fragile, N: RoomName, Q: Wait + Drop, W: Wait>(
     rt: &W,
     alloc: Global,
     room: &Room<Journal<B>, N, Q>,
-    seats: &mut [SeatOf<Journal<B>, N, Q>],
-    play: Play<'_>,
+    opened: u64,
+    text: String,
 ) -> Result<Played<B>, AllocError> {
-    let opened = version_of(rt, room);
-    let mut text = String::new(alloc);
-    play.ask_lines(rt, alloc, room, seats, opened, &mut text)?;
-    let left = left_by(rt, alloc, room)?;
-    let ended = version_of(rt, room);
-    let failures = failures_of(rt, room);
+    let desk = room.desk(rt);
+    let ended = desk.version();
+    let failures = desk.keeper().failures();
+    let left = left_of(alloc, desk.keeper().shelf())?;
     Ok(Played {
         text,
         opened,
@@ -137,7 +130,7 @@ fn played_under<N: RoomName, B: Fragile, R: Wait + Copy + Drop>(
     requires opening { blank.opening ≡ N.opening }
 {
     match blank.open::<N, R>(rt) {
-        Ok((room, mut seats)) => played_in(&rt, alloc, &room, &mut seats, play),
+        Ok((room, mut seats)) => play.ask_room(&rt, alloc, &room, &mut seats),
         Err(_) => Err(AllocError),
     }
 }

@@ -1,52 +1,175 @@
-// Rooms over shelves, and what is found of those later.
-ghost use Rattle.std.specs.Prelude.{◌≡◌, true, IsTrue, IfErr};
-ghost use Rattle.canvas_journal.specs.Meaning.{IsCounted};
-ghost use Rattle.canvas_shelf.specs.Disk.{top_is_listed};
+// Shelves of the segments of a case, and what they hold.
+ghost use Rattle.std.specs.Prelude.{◌≡◌, false, true, IsTrue, IfOk};
+ghost use Rattle.canvas_shelf.specs.Disk.{is_listed, top_is_listed};
+ghost use Rattle.canvas_shelf.specs.Shelved.{disk_of};
 
-use crate::fragile::Fragile;
-use canvas_board::Opening;
-use canvas_journal::{Journal, OpenError, open};
-use canvas_judge::State;
-use canvas_room::{BlankRoom, blank_room};
+use crate::bench::{Failing, Segment};
+use canvas_journal::OpenError;
+use canvas_shelf::{Call, CreateError, MemShelf, Shelf, ShelfError, first_record};
 use std::alloc::{AllocError, Global};
 
-/// A room that has no name yet, over a journal on such a shelf.
-pub type BlankOn<B> = BlankRoom<Journal<B>>;
-
-// How many seats a room has.
-const SEATS: usize = 2;
-
-// Whether no client has more judged edits than there are entries.
-fn is_counted(state: &State, version: u64) -> bool
-    ensures { IsTrue result → IsCounted (state.now, version) }
+// Makes a segment of these bytes, and makes sure of it.
+fn write_new<S: Shelf>(shelf: &mut S, number: u32, bytes: &[u8]) -> Result<(), CreateError>
+    requires { IsTrue (S.honest shelf.old) → is_listed number (S.disk shelf.old) ≡ false }
 {
-    state.clients().iter().all(|counts| counts.done <= version)
+    shelf.create(number)?;
+    shelf.append(number, bytes)?;
+    shelf.sync(number)?;
+    Ok(())
 }
 
-/// A room over a journal on this shelf, or why the shelf isn't opened. None where a client has more judged edits than there are entries, as
-/// no server counts.
-pub fn blank_on<B: Fragile>(alloc: Global, shelf: B) -> Result<Option<BlankOn<B>>, (B, OpenError)>
-    requires { IsTrue (B.honest shelf) → top_is_listed (B.disk shelf) ≡ true }
-    ensures { IfErr result (λ e. IsTrue (B.honest e.0) → top_is_listed (B.disk e.0) ≡ true) }
-{
-    let (journal, state, version) = match open(alloc, shelf) {
-        Ok(opened) => opened,
-        Err(error) => return Err(error),
-    };
-    if !is_counted(&state, version) {
-        return Ok(None);
+// Makes a segment that isn't listed, of these bytes, and makes sure of it. One that is listed stays as it is.
+fn put<S: Shelf>(alloc: Global, shelf: &mut S, number: u32, bytes: &[u8]) -> Result<(), OpenError> {
+    let listed = shelf.list(alloc)?;
+    if listed.contains(&number) {
+        return Ok(());
     }
-    match blank_room(alloc, journal, Opening { state, version }, SEATS) {
-        Ok(blank) => Ok(Some(blank)),
-        Err(_) => Ok(None),
+    write_new(shelf, number, bytes)?;
+    Ok(())
+}
+
+/// Puts segments on a shelf, and makes sure of them.
+pub fn put_all<S: Shelf>(
+    alloc: Global,
+    shelf: &mut S,
+    segments: &[Segment],
+) -> Result<(), OpenError> {
+    for segment in segments {
+        put(alloc, shelf, segment.number, &segment.bytes)?;
+    }
+    Ok(())
+}
+
+/// A shelf in memory with these segments, all of their bytes synced, of which no call is noted and none fails.
+pub fn shelf_of(alloc: Global, segments: &[Segment]) -> Result<MemShelf, AllocError>
+    ensures { IfOk result (λ m. top_is_listed (disk_of m) ≡ true) }
+{
+    let mut shelf = MemShelf::new(alloc);
+    match put_all(alloc, &mut shelf, segments) {
+        Ok(()) => shelf.crash(&[]),
+        Err(_) => Err(AllocError),
     }
 }
 
-/// What may be found of a shelf now, by each way.
-pub fn left_of<B: Fragile>(alloc: Global, shelf: &B) -> Result<Vec<B>, AllocError> {
-    let mut left = Vec::with_capacity(alloc, B::WAYS)?;
-    for way in 0..B::WAYS {
-        left.push(shelf.found(alloc, way)?)?;
+/// The same with one segment more, of these bytes.
+pub fn shelf_with(
+    alloc: Global,
+    segments: &[Segment],
+    number: u32,
+    bytes: &[u8],
+) -> Result<MemShelf, AllocError>
+    ensures { IfOk result (λ m. top_is_listed (disk_of m) ≡ true) }
+{
+    let mut shelf = shelf_of(alloc, segments)?;
+    match put(alloc, &mut shelf, number, bytes) {
+        Ok(()) => shelf.crash(&[]),
+        Err(_) => Err(AllocError),
     }
-    Ok(left)
+}
+
+// Makes calls of a shelf fail.
+fn set_failing(shelf: &mut MemShelf, failing: Failing)
+    ensures { disk_of shelf.new ≡ disk_of shelf.old }
+{
+    match failing {
+        Failing::After(calls) => shelf.fuse(calls),
+        Failing::Only(call) => shelf.fail_one(call),
+    }
+}
+
+/// A shelf in memory with these segments, all of their bytes synced, of which these calls fail.
+pub fn failing_shelf(
+    alloc: Global,
+    segments: &[Segment],
+    failing: Failing,
+) -> Result<MemShelf, AllocError>
+    ensures { IfOk result (λ m. top_is_listed (disk_of m) ≡ true) }
+{
+    let mut shelf = shelf_of(alloc, segments)?;
+    set_failing(&mut shelf, failing);
+    Ok(shelf)
+}
+
+/// Adds the calls of a shelf, in a line.
+pub fn write_calls(calls: &[Call], text: &mut String) -> Result<(), AllocError> {
+    text.push_str("calls:")?;
+    for call in calls {
+        write!(text, " {call:?}")?;
+    }
+    text.push('\n')?;
+    Ok(())
+}
+
+// Adds a blank and bytes, those that aren't printed as their numbers; nothing where there are none.
+fn write_bytes(bytes: &[u8], text: &mut String) -> Result<(), AllocError> {
+    if !bytes.is_empty() {
+        text.push(' ')?;
+    }
+    for byte in bytes {
+        if byte.is_ascii_graphic() {
+            text.push(char::from(*byte))?;
+        } else {
+            write!(text, "<{byte}>")?;
+        }
+    }
+    text.push('\n')
+}
+
+/// Adds the segments that a crash left, the highest first, each in a line.
+pub fn write_left<S: Shelf>(
+    alloc: Global,
+    left: &mut S,
+    text: &mut String,
+) -> Result<(), AllocError> {
+    match write_segments(alloc, left, text) {
+        Ok(()) => Ok(()),
+        Err(_) => Err(AllocError),
+    }
+}
+
+// Adds the segments of a shelf, the highest first, each in a line.
+fn write_segments<S: Shelf>(
+    alloc: Global,
+    shelf: &mut S,
+    text: &mut String,
+) -> Result<(), ShelfError> {
+    let listed = shelf.list(alloc)?;
+    for number in &listed {
+        let bytes = shelf.read(alloc, *number)?;
+        write!(text, "segment {number}, {} bytes:", bytes.len())?;
+        write_bytes(&bytes, text)?;
+    }
+    Ok(())
+}
+
+/// Adds the text of the first record in these bytes, and the bytes behind it.
+pub fn write_first(bytes: &[u8], text: &mut String) -> Result<(), AllocError> {
+    match first_record(bytes) {
+        Some((first, behind)) => {
+            text.push_str("first:")?;
+            write_bytes(first, text)?;
+            text.push_str("behind:")?;
+            write_bytes(behind, text)
+        }
+        None => text.push_str("none\n"),
+    }
+}
+
+/// Adds what a shelf with no segment answers that is asked so often for its numbers, where these calls fail.
+pub fn write_lists(
+    alloc: Global,
+    failing: Failing,
+    times: u64,
+    text: &mut String,
+) -> Result<(), AllocError> {
+    let mut shelf = MemShelf::new(alloc);
+    set_failing(&mut shelf, failing);
+    for _ in 0..times {
+        text.push_str(if shelf.list(alloc).is_ok() {
+            "ok "
+        } else {
+            "Device "
+        })?;
+    }
+    write!(text, "{} failed\n", shelf.failures())
 }

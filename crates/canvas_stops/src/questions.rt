@@ -1,19 +1,20 @@
 // The lines of a case: what they say, and what is answered to those that ask.
 use crate::bench::{Bench, Failing};
 use crate::growths::write_growths;
-use crate::hex::byte_of;
-use crate::lines::{cut, find, kept, number};
+use crate::journal_stops::{Asked, write_asked};
+use crate::lines::{byte_of, cut, find, kept, number};
 use crate::opening::write_opening;
 use crate::script::STEPS;
 use crate::shelves::{shelf_of, write_first, write_lists};
 use crate::spoiled::{write_cuts, write_spoiled};
-use crate::stops::{Asked, write_asked, write_faults, write_fuses, write_play};
-use canvas_shelf::record;
+use crate::stops::{write_play, write_stops};
 use std::alloc::{AllocError, Global};
+use std::sync::Wait;
 
-// What a line says that asks nothing and is no call of a journal.
+// What a line says that asks nothing and is none of a script.
 #[derive(Clone, Copy)]
 enum Saying {
+    Store,
     Segment,
     Record,
     Hex,
@@ -22,7 +23,8 @@ enum Saying {
     Keep,
 }
 
-const SAYINGS: [(&str, Saying); 6] = [
+const SAYINGS: [(&str, Saying); 7] = [
+    ("store", Saying::Store),
     ("segment", Saying::Segment),
     ("record", Saying::Record),
     ("hex", Saying::Hex),
@@ -66,27 +68,12 @@ const QUESTIONS: [(&str, Question); 13] = [
 ];
 
 // Adds bytes that are written as pairs of digits to the last segment.
-fn add_hex(bench: &mut Bench, pairs: &[u8]) -> Result<(), AllocError> {
+fn add_hex(alloc: Global, bench: &mut Bench, pairs: &[u8]) -> Result<(), AllocError> {
     for pair in pairs.split(|byte| *byte == b' ') {
         if let Some(byte) = byte_of(pair) {
-            bench.add_bytes(&[byte])?;
+            bench.add_bytes(alloc, &[byte])?;
         }
     }
-    Ok(())
-}
-
-// Adds a record of this text to the last segment.
-fn add_record(alloc: Global, bench: &mut Bench, text: &[u8]) -> Result<(), AllocError> {
-    match record(alloc, text) {
-        Ok(bytes) => bench.add_bytes(&bytes),
-        Err(_) => Err(AllocError),
-    }
-}
-
-// Adds a line.
-fn add_line(line: &[u8], lines: &mut Vec<u8>) -> Result<(), AllocError> {
-    lines.extend_from_slice(line)?;
-    lines.push(b'\n')?;
     Ok(())
 }
 
@@ -94,9 +81,13 @@ fn add_line(line: &[u8], lines: &mut Vec<u8>) -> Result<(), AllocError> {
 fn take(alloc: Global, bench: &mut Bench, saying: Saying, text: &[u8]) -> Result<(), AllocError> {
     let count = number(text).unwrap_or(0);
     match saying {
+        Saying::Store => {
+            bench.in_store = true;
+            Ok(())
+        }
         Saying::Segment => bench.begin_segment(alloc, u32::try_from(count).unwrap_or(0)),
-        Saying::Record => add_record(alloc, bench, text),
-        Saying::Hex => add_hex(bench, text),
+        Saying::Record => bench.add_record(alloc, text),
+        Saying::Hex => add_hex(alloc, bench, text),
         Saying::Fuse => {
             bench.failing = Failing::After(count);
             Ok(())
@@ -105,7 +96,7 @@ fn take(alloc: Global, bench: &mut Bench, saying: Saying, text: &[u8]) -> Result
             bench.failing = Failing::Only(count);
             Ok(())
         }
-        Saying::Keep => add_line(text, &mut bench.crashes),
+        Saying::Keep => bench.add_crash(text),
     }
 }
 
@@ -118,7 +109,8 @@ fn write_first_of(bench: &Bench, answer: &mut String) -> Result<(), AllocError> 
 }
 
 // Adds what a question is answered.
-fn write_answer(
+fn write_answer<R: Wait + Copy + Drop>(
+    rt: R,
     alloc: Global,
     bench: &Bench,
     question: Question,
@@ -135,9 +127,9 @@ fn write_answer(
             answer,
         ),
         Question::First => write_first_of(bench, answer),
-        Question::Play => write_play(alloc, bench, answer),
-        Question::Fuses => write_fuses(alloc, bench, answer),
-        Question::Faults => write_faults(alloc, bench, answer),
+        Question::Play => write_play(rt, alloc, bench, answer),
+        Question::Fuses => write_stops(rt, alloc, bench, false, answer),
+        Question::Faults => write_stops(rt, alloc, bench, true, answer),
         Question::Calls => write_asked(alloc, bench, Asked::Calls, answer),
         Question::Crash => write_asked(alloc, bench, Asked::Crash(text), answer),
         Question::Reopen => write_asked(alloc, bench, Asked::Reopen(text), answer),
@@ -150,8 +142,14 @@ fn write_answer(
     }
 }
 
+// Whether a line that begins with this word is one of a script: a call of a journal, or what a room is asked.
+fn is_step(word: &[u8]) -> bool {
+    word.starts_with(b"[") || word == b"read".as_slice() || find(&STEPS, word).is_some()
+}
+
 /// Takes what a line says, or adds to `out` what it is answered.
-pub fn answer_line(
+pub fn answer_line<R: Wait + Copy + Drop>(
+    rt: R,
     alloc: Global,
     bench: &mut Bench,
     line: &[u8],
@@ -161,13 +159,13 @@ pub fn answer_line(
     if let Some(saying) = find(&SAYINGS, word) {
         return take(alloc, bench, saying, text);
     }
-    if find(&STEPS, word).is_some() {
-        return add_line(line, &mut bench.script);
+    if is_step(word) {
+        return bench.add_step(line);
     }
     let Some(question) = find(&QUESTIONS, word) else {
         return out.extend_from_slice(b"cannot read\n");
     };
     let mut answer = String::new(alloc);
-    write_answer(alloc, bench, question, text, &mut answer)?;
+    write_answer(rt, alloc, bench, question, text, &mut answer)?;
     out.extend_from_slice(answer.as_bytes())
 }

@@ -1,4 +1,4 @@
-// A script of a journal, and what is found after it.
+// A script of a journal where calls of its shelf fail, and what is found after it.
 ghost use Rattle.std.specs.Prelude.{◌≡◌, true, IfOk};
 ghost use Rattle.canvas_shelf.specs.Disk.{top_is_listed};
 ghost use Rattle.canvas_shelf.specs.Shelved.{disk_of};
@@ -8,13 +8,10 @@ use crate::lines::{all_kept, without_end};
 use crate::opening::{write_found, write_opening, write_version};
 use crate::runs::Runs;
 use crate::script::play;
-use crate::shelves::{set_failing, shelf_of, write_calls, write_left};
+use crate::shelves::{failing_shelf, write_calls, write_left};
 use canvas_journal::{Journal, OpenError, open};
 use canvas_shelf::{MemShelf, Shelf};
 use std::alloc::{AllocError, Global};
-
-// A script makes fewer calls of its shelf than this.
-const MOST: u64 = 1000;
 
 /// What is asked of a shelf after a script.
 #[derive(Clone, Copy)]
@@ -29,31 +26,12 @@ pub enum Asked<'a> {
     Sizes(u32, u64),
 }
 
-// The shelf of a case, of which these calls fail.
-fn failing_shelf(alloc: Global, bench: &Bench, failing: Failing) -> Result<MemShelf, AllocError>
-    ensures { IfOk result (λ m. top_is_listed (disk_of m) ≡ true) }
-{
-    let mut shelf = shelf_of(alloc, &bench.segments)?;
-    set_failing(&mut shelf, failing);
-    Ok(shelf)
-}
-
 // What a crash leaves that keeps so much.
 fn left(alloc: Global, shelf: &MemShelf, keep: &[u8]) -> Result<MemShelf, AllocError>
     ensures { IfOk result (λ m. top_is_listed (disk_of m) ≡ true) }
 {
     let keep = all_kept(alloc, keep)?;
     shelf.crash(&keep)
-}
-
-// Adds what is found where a crash keeps so much.
-fn write_kept(
-    alloc: Global,
-    shelf: &MemShelf,
-    keep: &[u8],
-    text: &mut String,
-) -> Result<(), AllocError> {
-    write_found(alloc, &mut left(alloc, shelf, keep)?, text)
 }
 
 // Adds how many calls were made and how many of them failed, and what each crash leaves to be found.
@@ -71,7 +49,7 @@ fn write_crashes(
     )?;
     for keep in without_end(&bench.crashes).split(|byte| *byte == b'\n') {
         text.push_str("; ")?;
-        write_kept(alloc, shelf, keep, text)?;
+        write_found(alloc, &mut left(alloc, shelf, keep)?, text)?;
     }
     Ok(())
 }
@@ -104,49 +82,20 @@ fn write_unopened(
     write_crashes(alloc, bench, &shelf, text)?;
     text.push_str("; opened again: ")?;
     write_version(alloc, shelf, text)?;
-    text.push('\n')?;
     Ok(true)
 }
 
-// Adds what a case comes to where these calls fail, in a line; tells whether one failed.
-fn write_stop(
+/// Adds what a journal's script comes to where these calls fail, up to the end of the line. Tells whether one failed.
+pub fn write_journal_stop(
     alloc: Global,
     bench: &Bench,
     failing: Failing,
     text: &mut String,
 ) -> Result<bool, AllocError> {
-    match open(alloc, failing_shelf(alloc, bench, failing)?) {
+    match open(alloc, failing_shelf(alloc, &bench.segments, failing)?) {
         Ok((mut journal, _, _)) => write_played(alloc, bench, &mut journal, text),
         Err((shelf, error)) => write_unopened(alloc, bench, shelf, error, text),
     }
-}
-
-/// Adds what a case comes to, in a line.
-pub fn write_play(alloc: Global, bench: &Bench, text: &mut String) -> Result<(), AllocError> {
-    write_stop(alloc, bench, bench.failing, text)?;
-    Ok(())
-}
-
-/// Adds what a case comes to where each number of calls pass and all others fail, a line each.
-pub fn write_fuses(alloc: Global, bench: &Bench, text: &mut String) -> Result<(), AllocError> {
-    for calls in 0..MOST {
-        write!(text, "{calls}: ")?;
-        if !write_stop(alloc, bench, Failing::After(calls), text)? {
-            return Ok(());
-        }
-    }
-    Ok(())
-}
-
-/// Adds what a case comes to where each call fails alone, a line each.
-pub fn write_faults(alloc: Global, bench: &Bench, text: &mut String) -> Result<(), AllocError> {
-    for call in 1..MOST {
-        write!(text, "{call}: ")?;
-        if !write_stop(alloc, bench, Failing::Only(call), text)? {
-            return Ok(());
-        }
-    }
-    Ok(())
 }
 
 // Notes what is found where a crash keeps so many bytes of a segment.
@@ -215,7 +164,7 @@ pub fn write_asked(
     asked: Asked,
     text: &mut String,
 ) -> Result<(), AllocError> {
-    match open(alloc, failing_shelf(alloc, bench, bench.failing)?) {
+    match open(alloc, failing_shelf(alloc, &bench.segments, bench.failing)?) {
         Ok((mut journal, _, _)) => write_answer_after(alloc, bench, &mut journal, asked, text),
         Err((shelf, _)) => write_answer(alloc, &shelf, asked, text),
     }

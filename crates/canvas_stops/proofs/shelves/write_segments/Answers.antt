@@ -2,7 +2,7 @@ use Rattle.std.proofs.Common.{◌≡◌, ◌∙◌, true, sym, subst}
 use Rattle.std.specs.List.{AllByRecursion}
 use Rattle.canvas_shelf.specs.Disk.{is_listed}
 use Rattle.canvas_journal.proofs.Paired.{each_listed}
-use Rattle.canvas_segments.proofs.shelves.write_segments.Goals as goal
+use Rattle.canvas_stops.proofs.shelves.write_segments.Goals as goal
 
 pub loop-number-init : goal.loop-number-init
 loop-number-init g c =

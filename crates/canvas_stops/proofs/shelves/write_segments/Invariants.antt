@@ -1,7 +1,7 @@
 use Rattle.std.proofs.Common.{◌≡◌, true, IsTrue, drop}
 use Rattle.std.specs.List.{AllByRecursion}
 use Rattle.canvas_shelf.specs.Disk.{is_listed}
-use Rattle.canvas_segments.proofs.shelves.write_segments.Given as goal
+use Rattle.canvas_stops.proofs.shelves.write_segments.Given as goal
 
 abbrev pub invariant-loop-number : goal.invariant-loop-number
 invariant-loop-number g l = record {

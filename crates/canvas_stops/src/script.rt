@@ -1,7 +1,6 @@
 // Scripts of a journal.
 use crate::lines::{cut, find, without_end};
-use canvas_journal::{Journal, KeepError};
-use canvas_shelf::MemShelf;
+use canvas_journal::{KeepError, Keeper};
 use canvas_wire::{decode_checkpoint, decode_entry};
 use std::alloc::{AllocError, Global};
 
@@ -37,34 +36,27 @@ fn told(answer: Result<(), KeepError>) -> Result<&'static str, AllocError> {
     }
 }
 
-// Appends the entry of a text.
-fn append(
+// Appends the entry of a text, or makes it ready.
+fn add_entry<K: Keeper>(
     alloc: Global,
-    journal: &mut Journal<MemShelf>,
+    journal: &mut K,
     text: &[u8],
+    is_staged: bool,
 ) -> Result<&'static str, AllocError> {
-    match decode_entry(alloc, alloc, text) {
-        Ok(entry) => told(journal.append(alloc, &entry)),
-        Err(_) => Ok("unreadable"),
-    }
-}
-
-// Makes the entry of a text ready.
-fn stage(
-    alloc: Global,
-    journal: &mut Journal<MemShelf>,
-    text: &[u8],
-) -> Result<&'static str, AllocError> {
-    match decode_entry(alloc, alloc, text) {
-        Ok(entry) => told(journal.stage(alloc, &entry)),
-        Err(_) => Ok("unreadable"),
-    }
+    let Ok(entry) = decode_entry(alloc, alloc, text) else {
+        return Ok("unreadable");
+    };
+    told(if is_staged {
+        journal.stage(alloc, &entry)
+    } else {
+        journal.append(alloc, &entry)
+    })
 }
 
 // Makes the checkpoint of a text.
-fn checkpoint(
+fn checkpoint<K: Keeper>(
     alloc: Global,
-    journal: &mut Journal<MemShelf>,
+    journal: &mut K,
     text: &[u8],
 ) -> Result<&'static str, AllocError> {
     match decode_checkpoint(alloc, alloc, text) {
@@ -74,9 +66,9 @@ fn checkpoint(
 }
 
 // Makes the call of a line, and tells what it answers.
-fn call(
+fn call<K: Keeper>(
     alloc: Global,
-    journal: &mut Journal<MemShelf>,
+    journal: &mut K,
     line: &[u8],
 ) -> Result<&'static str, AllocError> {
     let (word, text) = cut(line);
@@ -84,10 +76,10 @@ fn call(
         return Ok("unreadable");
     };
     match step {
-        Step::Append => append(alloc, journal, text),
+        Step::Append => add_entry(alloc, journal, text, false),
         Step::Sync => told(journal.sync()),
         Step::Checkpoint => checkpoint(alloc, journal, text),
-        Step::Stage => stage(alloc, journal, text),
+        Step::Stage => add_entry(alloc, journal, text, true),
         Step::Unstage => {
             journal.unstage();
             Ok("ok")
@@ -97,9 +89,9 @@ fn call(
 }
 
 /// Makes the calls of a script, and adds what each answers.
-pub fn play(
+pub fn play<K: Keeper>(
     alloc: Global,
-    journal: &mut Journal<MemShelf>,
+    journal: &mut K,
     script: &[u8],
     text: &mut String,
 ) -> Result<(), AllocError> {

@@ -45,3 +45,8 @@ pub fn all_kept(alloc: Global, text: &[u8]) -> Result<Vec<(u32, u64)>, AllocErro
     }
     Ok(keep)
 }
+
+/// The byte that two hex digits spell.
+pub fn byte_of(digits: &[u8]) -> Option<u8> {
+    u8::from_str_radix(str::from_utf8(digits).ok()?, 16).ok()
+}

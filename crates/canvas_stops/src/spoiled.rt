@@ -1,14 +1,13 @@
 // What opening finds where the last segment is cut, or one of its bytes is another.
-ghost use Rattle.std.specs.Prelude.{◌≡◌, true, IfOk};
+ghost use Rattle.std.specs.Prelude.{◌≡◌, true, IsTrue, IfOk};
 ghost use Rattle.canvas_shelf.specs.Disk.{top_is_listed};
 ghost use Rattle.canvas_shelf.specs.Shelved.{disk_of};
 
 use crate::bench::Segment;
-use crate::opening::{write_found, write_opening};
+use crate::opening::{write_found, write_opening, write_version};
 use crate::runs::Runs;
 use crate::shelves::{shelf_with, write_left};
-use canvas_journal::open;
-use canvas_shelf::MemShelf;
+use canvas_shelf::{MemShelf, Shelf};
 use std::alloc::{AllocError, Global};
 
 // Notes what opening finds where the last segment is cut to this size.
@@ -60,37 +59,45 @@ fn spoiled_shelf(
     shelf_with(alloc, rest, last.number, &bytes)
 }
 
-// Adds what opening a shelf finds, in a line. Where it isn't opened, its segments must still be written so.
-fn write_opened(
-    alloc: Global,
-    shelf: MemShelf,
-    segments: &str,
-    text: &mut String,
-) -> Result<(), AllocError>
-    requires { top_is_listed (disk_of shelf) ≡ true }
-{
-    match open(alloc, shelf) {
-        Ok((_, _, version)) => write!(text, "open: version {version}\n"),
-        Err((shelf, error)) => {
-            write!(text, "open: {error}\n")?;
-            write_change(alloc, shelf, segments, text)
-        }
-    }
-}
-
 // Adds a line where the segments of a shelf aren't written so.
-fn write_change(
+fn write_change<S: Shelf>(
     alloc: Global,
-    mut shelf: MemShelf,
+    shelf: &mut S,
     segments: &str,
     text: &mut String,
 ) -> Result<(), AllocError> {
     let mut then = String::new(alloc);
-    write_left(alloc, &mut shelf, &mut then)?;
+    write_left(alloc, shelf, &mut then)?;
     if then.as_str() != segments {
         text.push_str("the segments have changed\n")?;
     }
     Ok(())
+}
+
+// Adds what opening a shelf finds, in a line. Where it isn't opened, its segments must still be written so.
+fn write_opened<S: Shelf + Drop>(
+    alloc: Global,
+    shelf: S,
+    segments: &str,
+    text: &mut String,
+) -> Result<(), AllocError>
+    requires { IsTrue (S.honest shelf) → top_is_listed (S.disk shelf) ≡ true }
+{
+    text.push_str("open: ")?;
+    match write_version(alloc, shelf, text)? {
+        Some(mut left) => write_change(alloc, &mut left, segments, text),
+        None => Ok(()),
+    }
+}
+
+// Adds what looking at a shelf finds whose bytes are all synced, in a line, and gives how its segments are written.
+fn write_looked(alloc: Global, shelf: &MemShelf, text: &mut String) -> Result<String, AllocError> {
+    let mut same = shelf.crash(&[])?;
+    write_found(alloc, &mut same, text)?;
+    text.push('\n')?;
+    let mut segments = String::new(alloc);
+    write_left(alloc, &mut same, &mut segments)?;
+    Ok(segments)
 }
 
 // Notes what looking at a shelf finds whose bytes are all synced, and what opening it finds.
@@ -104,11 +111,7 @@ fn note_found(
     requires { top_is_listed (disk_of shelf) ≡ true }
 {
     let mut answer = String::from_str(alloc, "look: ")?;
-    let mut segments = String::new(alloc);
-    let mut same = shelf.crash(&[])?;
-    write_found(alloc, &mut same, &mut answer)?;
-    write_left(alloc, &mut same, &mut segments)?;
-    answer.push('\n')?;
+    let segments = write_looked(alloc, &shelf, &mut answer)?;
     write_opened(alloc, shelf, &segments, &mut answer)?;
     runs.note(at as u64, &answer, text)
 }

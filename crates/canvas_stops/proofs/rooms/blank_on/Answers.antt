@@ -1,6 +1,6 @@
 use Rattle.std.proofs.Common.{IsTrue, rules, subst}
 use Rattle.canvas_journal.specs.Meaning.{IsCounted}
-use Rattle.canvas_stops.proofs.shelves.blank_on.Goals as goal
+use Rattle.canvas_stops.proofs.rooms.blank_on.Goals as goal
 
 pub blank_room-requires-clause-kept : goal.blank_room-requires-clause-kept
 blank_room-requires-clause-kept g c honest =

@@ -1,17 +1,17 @@
 // What looking at a shelf finds, and what opening it finds and leaves.
-ghost use Rattle.std.specs.Prelude.{◌≡◌, true};
+ghost use Rattle.std.specs.Prelude.{◌≡◌, true, IsTrue};
 ghost use Rattle.canvas_shelf.specs.Disk.{top_is_listed};
 ghost use Rattle.canvas_shelf.specs.Shelved.{disk_of};
 
 use crate::shelves::{write_calls, write_left};
 use canvas_journal::{look, open};
-use canvas_shelf::MemShelf;
+use canvas_shelf::{MemShelf, Shelf};
 use std::alloc::{AllocError, Global};
 
 /// Adds the version that looking at a shelf finds, or why it finds none.
-pub fn write_found(
+pub fn write_found<S: Shelf>(
     alloc: Global,
-    shelf: &mut MemShelf,
+    shelf: &mut S,
     text: &mut String,
 ) -> Result<(), AllocError> {
     match look(alloc, shelf) {
@@ -20,13 +20,23 @@ pub fn write_found(
     }
 }
 
-/// Adds the version that opening a shelf finds, or why it finds none.
-pub fn write_version(alloc: Global, shelf: MemShelf, text: &mut String) -> Result<(), AllocError>
-    requires { top_is_listed (disk_of shelf) ≡ true }
+/// Adds the version that opening a shelf finds, or why it finds none, in a line. The shelf comes back where it isn't opened.
+pub fn write_version<S: Shelf + Drop>(
+    alloc: Global,
+    shelf: S,
+    text: &mut String,
+) -> Result<Option<S>, AllocError>
+    requires { IsTrue (S.honest shelf) → top_is_listed (S.disk shelf) ≡ true }
 {
     match open(alloc, shelf) {
-        Ok((_, _, version)) => write!(text, "version {version}"),
-        Err((_, error)) => write!(text, "{error}"),
+        Ok((_, _, version)) => {
+            write!(text, "version {version}\n")?;
+            Ok(None)
+        }
+        Err((shelf, error)) => {
+            write!(text, "{error}\n")?;
+            Ok(Some(shelf))
+        }
     }
 }
 
