@@ -22,7 +22,7 @@ from pathlib import Path
 
 sys.path.insert(0, str(Path(__file__).resolve().parents[1]))
 
-from shared import end_all, free_port, require, spawn, try_groups  # noqa: E402
+from shared import Wrong, end_all, free_port, require, spawn, try_groups  # noqa: E402
 
 PROGRAM = os.path.abspath(sys.argv[1]) if len(sys.argv) > 1 else ""
 PATIENCE = 20  # for how many seconds anything is waited for
@@ -65,9 +65,10 @@ class Server:
             self.process = spawn([PROGRAM, "serve", "a", str(self.port), str(connections)], log, folder)
         deadline = time.monotonic() + PATIENCE
         while "\n" not in self.told.read_text():
-            require(self.process.poll() is None, "the server ended at once with", self.process.returncode, self.told.read_text())
+            require(self.process.poll() is None, "the server ended at once with", self.process.returncode)
             require(time.monotonic() < deadline, "the server doesn't begin to serve")
             time.sleep(0.002)
+        require(self.told.read_text().startswith("serving "), "the server doesn't serve:", self.told.read_text())
 
     def has_served(self, version):
         """That it ends well at this version, having begun with an empty document, and tells nothing else."""
@@ -204,8 +205,20 @@ def ask_for_nothing(folder, *words):
     same(os.listdir(folder), [])
 
 
+def server_at(folder, connections, port):
+    """A server at a port that another run of this script may have for a moment."""
+    deadline = time.monotonic() + PATIENCE
+    while True:
+        try:
+            return Server(folder, connections, port)
+        except Wrong:
+            if time.monotonic() > deadline:
+                raise
+        time.sleep(0.05)
+
+
 def serve_connections(folder, _serve, _folder, port, connections):
-    server = Server(folder, int(connections), int(port))
+    server = server_at(folder, int(connections), int(port))
     for _ in range(int(connections)):
         socket.create_connection(("127.0.0.1", int(port)), timeout=PATIENCE).close()
     server.has_served(0)
@@ -218,12 +231,11 @@ def edit_at_a_port(folder, *words):
         same(ended(folder, *words), (4, "", FAILED))
         return
     told = Path(folder, "told")
-    with door, open(told, "wb") as log:
+    with open(told, "wb") as log, door:
         door.settimeout(PATIENCE)
         client = spawn([PROGRAM, *words], log, folder)
         door.accept()[0].close()
-        status = client.wait(PATIENCE)
-    same((status, told.read_text()), (4, FAILED))
+    same((client.wait(PATIENCE), told.read_text()), (4, FAILED))
 
 
 def show_a_folder(folder, *words):
