@@ -8,11 +8,11 @@
 //! - `bytes HEX` is a message of the bytes that these digits spell. `text TEXT` is a WebSocket's message of text, and not of bytes as all others.
 //! - `segments` asks for the numbers of the segments that were made so far on the room's shelf.
 //!
-//! What is answered more than once in a row is written once, behind how often. Each talk is also held over a WebSocket in memory, whose
-//! seat answers by a copy that it holds where one is due; where that is sent something else, a line says so.
+//! What is answered more than once in a row is written once, behind how often. Talks are held over a WebSocket in memory. Each is held again
+//! with a seat that answers by a copy that it holds where one is due; where the client is sent something else then, a line says so.
 #![tactic(auto)]
 
-mod frames;
+mod messages;
 mod repeats;
 mod rooms;
 mod sharing;

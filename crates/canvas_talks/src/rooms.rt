@@ -1,17 +1,13 @@
-// Rooms over a journal in memory, and what their seats answer.
+// Rooms over a journal in memory, and what a connection to the seat of one is sent.
 ghost use Rattle.std.specs.Prelude.{◌≡◌};
 
-use crate::frames::{Frame, Kind, sent};
 use crate::sharing::Sharing;
 use canvas_board::{Opening, RoomName};
-use canvas_front::{CHECKPOINT_AT, answer};
 use canvas_journal::{Journal, open};
-use canvas_judge::{Message, NoReason};
-use canvas_nodes::asked;
+use canvas_nodes::Answerer;
 use canvas_room::{BlankRoom, Lock, Room, Seat, blank_room};
 use canvas_shelf::{Call, MemShelf};
 use canvas_sockets::serve_one;
-use canvas_wire::encode;
 use memory_sockets::{heard, socket};
 use std::alloc::{AllocError, Global};
 use std::marker::Brand;
@@ -24,7 +20,18 @@ type MemJournal = Journal<MemShelf>;
 // A seat of such a room.
 type MemSeat<N, R> = Seat<N, Lock<MemJournal, N, R>>;
 
-/// What a seat answered, one message a line, and the segments that were made on its room's shelf.
+/// What a client sends to the seat of a new room.
+#[derive(Clone, Copy)]
+pub struct Talk<'a> {
+    /// All calls of the room's shelf after so many fail.
+    pub calls: u64,
+    /// The bytes of its messages.
+    pub sent: &'a [u8],
+    /// Whether the seat answers by a copy that it holds, where one is due.
+    pub is_shared: bool,
+}
+
+/// What a client was sent, one message a line, and the segments that were made on the room's shelf.
 pub struct Answers {
     pub texts: Vec<u8>,
     pub segments: Vec<u32>,
@@ -52,62 +59,22 @@ fn blank(alloc: Global, calls: u64) -> Result<BlankRoom<MemJournal>, AllocError>
     }
 }
 
-// Adds a message, in a line.
-fn add(alloc: Global, message: &Message, texts: &mut Vec<u8>) -> Result<(), AllocError> {
-    texts.extend_from_slice(&encode(alloc, message)?)?;
-    texts.push(b'\n')?;
-    Ok(())
+// What a connection is sent that sends these bytes, one message a line.
+fn told<A: Answerer>(alloc: Global, answerer: &mut A, bytes: &[u8]) -> Result<Vec<u8>, AllocError> {
+    let mut server = socket(alloc, bytes, Role::Server);
+    let _ = serve_one(alloc, answerer, &mut server);
+    heard(alloc, &server.into_inner().writer)
 }
 
-// Adds messages, one a line.
-fn add_all(alloc: Global, messages: &[Message], texts: &mut Vec<u8>) -> Result<(), AllocError> {
-    for message in messages {
-        add(alloc, message, texts)?;
-    }
-    Ok(())
-}
-
-// Adds what a seat answers a message.
-fn tell<N: RoomName, R: Wait + Drop, W: Wait>(
+// The same of a connection to this seat.
+fn told_at<N: RoomName, R: Wait + Copy + Drop>(
     alloc: Global,
-    rt: &W,
-    seat: &mut MemSeat<N, R>,
-    message: &Message,
-    texts: &mut Vec<u8>,
-) -> Result<(), AllocError> {
-    let messages = answer(alloc, rt, seat, message, CHECKPOINT_AT)?;
-    add_all(alloc, &messages, texts)
-}
-
-// Adds what a seat answers these bytes.
-fn tell_bytes<N: RoomName, R: Wait + Drop, W: Wait>(
-    alloc: Global,
-    rt: &W,
-    seat: &mut MemSeat<N, R>,
-    bytes: &[u8],
-    texts: &mut Vec<u8>,
-) -> Result<(), AllocError> {
-    match asked(alloc, bytes) {
-        Ok(message) => tell(alloc, rt, seat, &message, texts),
-        Err(reason) => add(alloc, &Message::No(reason), texts),
-    }
-}
-
-// Adds what is answered each of these messages. A text never comes to the seat: it is refused as what isn't read.
-fn tell_frames<N: RoomName, R: Wait + Drop, W: Wait>(
-    alloc: Global,
-    rt: &W,
-    seat: &mut MemSeat<N, R>,
-    frames: &[Frame],
-    texts: &mut Vec<u8>,
-) -> Result<(), AllocError> {
-    for frame in frames {
-        match frame.kind {
-            Kind::Binary => tell_bytes(alloc, rt, seat, &frame.bytes, texts)?,
-            Kind::Text => add(alloc, &Message::No(NoReason::NotRead), texts)?,
-        }
-    }
-    Ok(())
+    rt: R,
+    seat: MemSeat<N, R>,
+    talk: Talk<'_>,
+) -> Result<Vec<u8>, AllocError> {
+    let mut answerer = Sharing::new(alloc, rt, seat, talk.is_shared);
+    told(alloc, &mut answerer, talk.sent)
 }
 
 // Notes the segments that were made on the shelf of a room.
@@ -125,105 +92,44 @@ fn note_segments<N: RoomName, R: Wait + Drop, W: Wait>(
     Ok(())
 }
 
-// Adds what the first seat of a room answers these messages, and the segments then.
-fn tell_room<N: RoomName, R: Wait + Drop, W: Wait>(
+// Holds the talk with this seat of a room.
+fn hold_at<N: RoomName, R: Wait + Copy + Drop>(
     alloc: Global,
-    rt: &W,
+    rt: R,
     room: &Room<MemJournal, N, R>,
-    seats: &mut [MemSeat<N, R>],
-    frames: &[Frame],
-    answers: &mut Answers,
-) -> Result<(), AllocError> {
-    if let Some(seat) = seats.first_mut() {
-        tell_frames(alloc, rt, seat, frames, &mut answers.texts)?;
-    }
-    note_segments(rt, room, &mut answers.segments)
-}
-
-// Opens a room, and adds what its seat answers these messages.
-fn answer_in<N: RoomName, R: Wait + Copy + Drop>(
-    alloc: Global,
-    rt: R,
-    blank: BlankRoom<MemJournal>,
-    frames: &[Frame],
-    answers: &mut Answers,
-) -> Result<(), AllocError>
-    requires book { blank.book ≡ N.book }
-    requires opening { blank.opening ≡ N.opening }
-{
-    match blank.open::<N, R>(rt) {
-        Ok((room, mut seats)) => tell_room(alloc, &rt, &room, &mut seats, frames, answers),
-        Err(_) => Err(AllocError),
-    }
-}
-
-/// Adds what a seat of a new room answers these messages, where all calls of its shelf after so many fail.
-pub fn answer_frames<R: Wait + Copy + Drop>(
-    alloc: Global,
-    rt: R,
-    calls: u64,
-    frames: &[Frame],
-    answers: &mut Answers,
-) -> Result<(), AllocError> {
-    answer_in::<Brand, R>(alloc, rt, blank(alloc, calls)?, frames, answers)
-}
-
-// Adds what a connection to a seat is sent, where it sends these bytes.
-fn serve_seat<N: RoomName, R: Wait + Copy + Drop>(
-    alloc: Global,
-    rt: R,
     seat: MemSeat<N, R>,
-    bytes: &[u8],
-    texts: &mut Vec<u8>,
-) -> Result<(), AllocError> {
-    let mut answerer = Sharing::new(alloc, rt, seat);
-    let mut server = socket(alloc, bytes, Role::Server);
-    let _ = serve_one(alloc, &mut answerer, &mut server);
-    let told = server.into_inner().writer;
-    texts.extend_from_slice(&heard(alloc, &told)?)
+    talk: Talk<'_>,
+) -> Result<Answers, AllocError> {
+    let texts = told_at(alloc, rt, seat, talk)?;
+    let mut segments = Vec::new(alloc);
+    note_segments(&rt, room, &mut segments)?;
+    Ok(Answers { texts, segments })
 }
 
-// Opens a room, and adds what a connection to its seat is sent, where it sends these bytes.
-fn serve_in<N: RoomName, R: Wait + Copy + Drop>(
+// Opens the room, and holds the talk with its seat.
+fn hold_in<N: RoomName, R: Wait + Copy + Drop>(
     alloc: Global,
     rt: R,
     blank: BlankRoom<MemJournal>,
-    bytes: &[u8],
-    texts: &mut Vec<u8>,
-) -> Result<(), AllocError>
+    talk: Talk<'_>,
+) -> Result<Answers, AllocError>
     requires book { blank.book ≡ N.book }
     requires opening { blank.opening ≡ N.opening }
 {
     match blank.open::<N, R>(rt) {
-        Ok((_room, mut seats)) => match seats.pop() {
-            Some(seat) => serve_seat(alloc, rt, seat, bytes, texts),
-            None => Ok(()),
+        Ok((room, mut seats)) => match seats.pop() {
+            Some(seat) => hold_at(alloc, rt, &room, seat, talk),
+            None => Err(AllocError),
         },
         Err(_) => Err(AllocError),
     }
 }
 
-// Adds what a connection to a new room is sent, where it sends these bytes.
-fn serve_bytes<R: Wait + Copy + Drop>(
+/// Holds a talk over a WebSocket in memory.
+pub fn hold<R: Wait + Copy + Drop>(
     alloc: Global,
     rt: R,
-    calls: u64,
-    bytes: &[u8],
-    texts: &mut Vec<u8>,
-) -> Result<(), AllocError> {
-    serve_in::<Brand, R>(alloc, rt, blank(alloc, calls)?, bytes, texts)
-}
-
-/// Adds what a connection to a new room is sent, where it sends these messages, and all calls of the room's shelf after so many fail.
-pub fn serve_frames<R: Wait + Copy + Drop>(
-    alloc: Global,
-    rt: R,
-    calls: u64,
-    frames: &[Frame],
-    texts: &mut Vec<u8>,
-) -> Result<(), AllocError> {
-    match sent(alloc, frames) {
-        Ok(bytes) => serve_bytes(alloc, rt, calls, &bytes, texts),
-        Err(_) => Err(AllocError),
-    }
+    talk: Talk<'_>,
+) -> Result<Answers, AllocError> {
+    hold_in::<Brand, R>(alloc, rt, blank(alloc, talk.calls)?, talk)
 }

@@ -1,4 +1,4 @@
-// A seat that answers out of a copy that is held.
+// A seat that may answer out of a copy that is held.
 ghost use Rattle.std.specs.Prelude.{◌≡◌};
 
 use canvas_board::RoomName;
@@ -11,10 +11,11 @@ use std::alloc::{AllocError, Global};
 use std::marker::Model;
 use std::sync::Wait;
 
-/// A seat that answers clients, and each Ask that wants a copy out of one that is held. Contracts see it as its seat.
+/// A seat that answers clients; where it shares, each Ask that wants a copy out of one that is held. Contracts see it as its seat.
 pub struct Sharing<N: RoomName, D: Drop, W: Drop> {
     answerer: SeatAnswerer<N, D, W>,
     held: Option<SharedCopy<N>>,
+    is_shared: bool,
 }
 
 impl<N: RoomName, D: Drop, W: Drop> Drop for Sharing<N, D, W> {
@@ -22,6 +23,7 @@ impl<N: RoomName, D: Drop, W: Drop> Drop for Sharing<N, D, W> {
         let Sharing {
             answerer: _,
             held: _,
+            is_shared: _,
         } = self;
     }
 }
@@ -41,12 +43,13 @@ impl<N: RoomName, D: Drop, W: Drop> Model for Sharing<N, D, W> {
 
 impl<N: RoomName, D: Drop, W: Drop> Sharing<N, D, W> {
     /// This seat, which waits by `rt`, and holds no copy yet.
-    pub fn new(alloc: Global, rt: W, seat: Seat<N, D>) -> Self
+    pub fn new(alloc: Global, rt: W, seat: Seat<N, D>, is_shared: bool) -> Self
         ensures { result ≡ seat }
     {
         Sharing {
             answerer: SeatAnswerer::new(alloc, rt, seat),
             held: None,
+            is_shared,
         }
     }
 }
@@ -62,12 +65,14 @@ impl<K: Keeper + Drop, N: RoomName, R: Wait + Drop, W: Wait + Drop> Answerer
     }
 
     fn texts(&mut self, alloc: Global, message: &Message) -> Result<Vec<Vec<u8>>, AllocError> {
-        if let Message::Ask { client, version } = message {
-            return self
+        match message {
+            Message::Ask { client, version } if self.is_shared => self
                 .answerer
-                .ask_texts(&mut self.held, 0, *client, *version);
+                .ask_texts(&mut self.held, 0, *client, *version),
+            _ => {
+                let answer = self.answerer.answer(message)?;
+                texts_of(alloc, &answer)
+            }
         }
-        let answer = self.answerer.answer(message)?;
-        texts_of(alloc, &answer)
     }
 }

@@ -1,16 +1,17 @@
 // Talks, line by line.
-use crate::frames::{Frame, Kind, add_beginnings, add_frame};
+use crate::messages::{add_beginnings, add_bytes, add_text};
 use crate::repeats::add_lines;
-use crate::rooms::{Answers, answer_frames, serve_frames};
+use crate::rooms::{Answers, Talk, hold};
 use canvas_cases::Answerer;
 use std::alloc::{AllocError, Global};
 use std::sync::Wait;
 
-/// A talk so far: its messages, how many calls of the shelf pass, how much was answered before, and whether the segments are asked for.
+/// A talk so far: how many calls of the shelf pass, the bytes of its messages, how much was answered before, and whether the segments are
+/// asked for.
 pub struct Talks<R: Wait + Copy + Drop> {
     rt: R,
     calls: u64,
-    frames: Vec<Frame>,
+    sent: Vec<u8>,
     told: usize,
     asks_segments: bool,
 }
@@ -20,7 +21,7 @@ impl<R: Wait + Copy + Drop> Drop for Talks<R> {
         let Talks {
             rt: _,
             calls: _,
-            frames: _,
+            sent: _,
             told: _,
             asks_segments: _,
         } = self;
@@ -39,23 +40,18 @@ fn bounds(text: &[u8]) -> Option<(u64, u64)> {
 }
 
 // Adds the messages of client 1's edits with these numbers.
-fn add_edits(
-    alloc: Global,
-    first: u64,
-    last: u64,
-    frames: &mut Vec<Frame>,
-) -> Result<(), AllocError> {
+fn add_edits(alloc: Global, first: u64, last: u64, sent: &mut Vec<u8>) -> Result<(), AllocError> {
     for seq in first..last.saturating_add(1) {
         let text = format!(in alloc; "[\"edit\",1,{seq},[\"set\",[1,1],\"n\",{seq}]]")?;
-        add_frame(alloc, Kind::Binary, text.as_bytes(), frames)?;
+        add_bytes(alloc, text.as_bytes(), sent)?;
     }
     Ok(())
 }
 
 // Adds a message of the bytes that these hex digits spell; where they spell none, an empty one.
-fn add_hex(alloc: Global, digits: &[u8], frames: &mut Vec<Frame>) -> Result<(), AllocError> {
+fn add_hex(alloc: Global, digits: &[u8], sent: &mut Vec<u8>) -> Result<(), AllocError> {
     let bytes = hex::decode(alloc, digits).unwrap_or(Vec::new(alloc));
-    add_frame(alloc, Kind::Binary, &bytes, frames)
+    add_bytes(alloc, &bytes, sent)
 }
 
 // Adds the segments that were made, in a line.
@@ -74,7 +70,7 @@ impl<R: Wait + Copy + Drop> Talks<R> {
         Talks {
             rt,
             calls: u64::MAX,
-            frames: Vec::new(alloc),
+            sent: Vec::new(alloc),
             told: 0,
             asks_segments: false,
         }
@@ -85,7 +81,7 @@ impl<R: Wait + Copy + Drop> Talks<R> {
         if let Some(calls) = line.strip_prefix(b"fuse ") {
             self.calls = number(calls).unwrap_or(u64::MAX);
         } else if let Some((first, last)) = line.strip_prefix(b"edits ").and_then(bounds) {
-            add_edits(alloc, first, last, &mut self.frames)?;
+            add_edits(alloc, first, last, &mut self.sent)?;
         } else if line == b"segments".as_slice() {
             self.asks_segments = true;
         } else {
@@ -97,14 +93,24 @@ impl<R: Wait + Copy + Drop> Talks<R> {
     // Takes a line that stands for messages.
     fn take_messages(&mut self, alloc: Global, line: &[u8]) -> Result<(), AllocError> {
         if let Some(message) = line.strip_prefix(b"beginnings ") {
-            add_beginnings(alloc, message, &mut self.frames)
+            add_beginnings(alloc, message, &mut self.sent)
         } else if let Some(text) = line.strip_prefix(b"text ") {
-            add_frame(alloc, Kind::Text, text, &mut self.frames)
+            add_text(alloc, text, &mut self.sent)
         } else if let Some(digits) = line.strip_prefix(b"bytes ") {
-            add_hex(alloc, digits, &mut self.frames)
+            add_hex(alloc, digits, &mut self.sent)
         } else {
-            add_frame(alloc, Kind::Binary, line, &mut self.frames)
+            add_bytes(alloc, line, &mut self.sent)
         }
+    }
+
+    // What comes of the talk so far.
+    fn hold(&self, alloc: Global, is_shared: bool) -> Result<Answers, AllocError> {
+        let talk = Talk {
+            calls: self.calls,
+            sent: &self.sent,
+            is_shared,
+        };
+        hold(alloc, self.rt, talk)
     }
 
     // Adds what is new of the answers to the talk so far.
@@ -121,15 +127,14 @@ impl<R: Wait + Copy + Drop> Talks<R> {
             self.asks_segments = false;
             add_segments(alloc, &answers.segments, out)?;
         }
-        self.compare(alloc, &answers.texts, out)
+        Ok(())
     }
 
-    // Adds a line where a connection is sent other texts.
+    // Adds a line where a seat that answers by a copy sends other texts.
     fn compare(&self, alloc: Global, texts: &[u8], out: &mut Vec<u8>) -> Result<(), AllocError> {
-        let mut sent = Vec::new(alloc);
-        serve_frames(alloc, self.rt, self.calls, &self.frames, &mut sent)?;
-        if sent.as_slice() != texts {
-            out.extend_from_slice(b"(a connection is sent something else)\n")?;
+        let shared = self.hold(alloc, true)?;
+        if shared.texts.as_slice() != texts {
+            out.extend_from_slice(b"(by a copy that is held, something else)\n")?;
         }
         Ok(())
     }
@@ -138,7 +143,7 @@ impl<R: Wait + Copy + Drop> Talks<R> {
 impl<R: Wait + Copy + Drop> Answerer for Talks<R> {
     fn begin(&mut self, _alloc: Global) -> Result<(), AllocError> {
         self.calls = u64::MAX;
-        self.frames.clear();
+        self.sent.clear();
         self.told = 0;
         self.asks_segments = false;
         Ok(())
@@ -154,11 +159,8 @@ impl<R: Wait + Copy + Drop> Answerer for Talks<R> {
                 self.take_messages(alloc, line)?;
             }
         }
-        let mut answers = Answers {
-            texts: Vec::new(alloc),
-            segments: Vec::new(alloc),
-        };
-        answer_frames(alloc, self.rt, self.calls, &self.frames, &mut answers)?;
-        self.tell(alloc, &answers, out)
+        let answers = self.hold(alloc, false)?;
+        self.tell(alloc, &answers, out)?;
+        self.compare(alloc, &answers.texts, out)
     }
 }
