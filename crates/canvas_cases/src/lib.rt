@@ -5,8 +5,11 @@
 //! what a program that answers it must print, and a case is added by writing what is asked and what must be answered.
 #![tactic(auto)]
 
+mod text;
+
 use std::alloc::{AllocError, Global};
 use std::io::{self, Read, Write};
+pub use text::Text;
 
 /// What answers the questions of cases.
 pub trait Answerer {

@@ -33,11 +33,11 @@ pub struct Bench {
     pub in_store: bool,
     pub failing: Failing,
     /// What is done, one line each.
-    pub script: Vec<u8>,
+    pub script: String,
     /// Whether the script is of what a room is asked, and not of calls of a journal.
     pub asks_room: bool,
     /// Crashes, one a line, each with what it keeps.
-    pub crashes: Vec<u8>,
+    pub crashes: String,
 }
 
 impl Drop for Bench {
@@ -60,9 +60,9 @@ impl Bench {
             segments: Vec::new(alloc),
             in_store: false,
             failing: Failing::Only(0),
-            script: Vec::new(alloc),
+            script: String::new(alloc),
             asks_room: false,
-            crashes: Vec::new(alloc),
+            crashes: String::new(alloc),
         }
     }
 
@@ -105,22 +105,21 @@ impl Bench {
     }
 
     /// Adds a line to the script. A message makes the script that of a room.
-    pub fn add_step(&mut self, line: &[u8]) -> Result<(), AllocError> {
-        if line.starts_with(b"[") {
+    pub fn add_step(&mut self, line: &str) -> Result<(), AllocError> {
+        if line.starts_with('[') {
             self.asks_room = true;
         }
         add_line(line, &mut self.script)
     }
 
     /// Adds a crash that keeps this.
-    pub fn add_crash(&mut self, keep: &[u8]) -> Result<(), AllocError> {
+    pub fn add_crash(&mut self, keep: &str) -> Result<(), AllocError> {
         add_line(keep, &mut self.crashes)
     }
 }
 
 // Adds a line and its line feed.
-fn add_line(line: &[u8], lines: &mut Vec<u8>) -> Result<(), AllocError> {
-    lines.extend_from_slice(line)?;
-    lines.push(b'\n')?;
-    Ok(())
+fn add_line(line: &str, lines: &mut String) -> Result<(), AllocError> {
+    lines.push_str(line)?;
+    lines.push('\n')
 }

@@ -1,7 +1,8 @@
 // Each growth of a record refused in turn.
+use canvas_cases::Text;
 use canvas_shelf::{RecordError, record};
 use refusing::Refusing;
-use std::alloc::{AllocError, Global};
+use std::alloc::Global;
 
 // A record has fewer growths than this.
 const MOST: u64 = 100;
@@ -13,11 +14,11 @@ fn is_refused(alloc: Global, text: &[u8], growth: u64) -> bool {
 }
 
 /// Adds how many growths a record of this text has.
-pub fn write_growths(alloc: Global, asked: &[u8], text: &mut String) -> Result<(), AllocError> {
+pub fn write_growths(alloc: Global, asked: &[u8], text: &mut Text) {
     for growth in 1..MOST {
         if !is_refused(alloc, asked, growth) {
-            return write!(text, "growths: {}\n", growth - 1);
+            write!(text, "growths: {}\n", growth - 1);
+            return;
         }
     }
-    Ok(())
 }

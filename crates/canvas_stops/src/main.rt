@@ -54,8 +54,7 @@ mod steps;
 mod stops;
 
 use bench::Bench;
-use canvas_cases::{Answerer, run_cases};
-use lines::without_end;
+use canvas_cases::{Answerer, Text, run_cases};
 use questions::answer_line;
 use std::alloc::{AllocError, Global};
 use std::io;
@@ -80,10 +79,11 @@ impl<R: Wait + Copy + Drop> Answerer for Answers<R> {
     }
 
     fn answer(&mut self, alloc: Global, asked: &[u8], out: &mut Vec<u8>) -> Result<(), AllocError> {
-        for line in without_end(asked).split(|byte| *byte == b'\n') {
-            answer_line(self.rt, alloc, &mut self.bench, line, out)?;
+        let mut text = Text::new(alloc);
+        for line in str::from_utf8(asked).unwrap_or("?").lines() {
+            answer_line(self.rt, alloc, &mut self.bench, line, &mut text)?;
         }
-        Ok(())
+        text.put(out)
     }
 }
 

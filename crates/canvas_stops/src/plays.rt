@@ -3,8 +3,9 @@ ghost use Rattle.std.specs.Prelude.{◌≡◌};
 
 use crate::fragile::Fragile;
 use crate::rooms::{BlankOn, left_of};
-use crate::steps::{SeatOf, entries_of, write_reads, write_step};
+use crate::steps::{SeatOf, entries_of, write_read, write_step};
 use canvas_board::RoomName;
+use canvas_cases::Text;
 use canvas_journal::{Journal, Keeper};
 use canvas_room::Room;
 use std::alloc::{AllocError, Global};
@@ -14,14 +15,14 @@ use std::sync::Wait;
 /// A script, and the version before its first line; none where that is the version at which the room opens.
 #[derive(Clone, Copy)]
 pub struct Play<'a> {
-    pub script: &'a [u8],
+    pub script: &'a str,
     pub before: Option<u64>,
 }
 
 /// What came of a script.
 pub struct Played<B> {
     /// What its lines were answered.
-    pub text: String,
+    pub text: Text,
     /// The version at which the room opened, and the one at the end.
     pub opened: u64,
     pub ended: u64,
@@ -44,7 +45,7 @@ impl<B: Drop> Drop for Played<B> {
 }
 
 // Takes the entries of a line off those that are passed over. False where the line isn't passed over.
-fn passes(over: &mut u64, line: &[u8]) -> bool {
+fn passes(over: &mut u64, line: &str) -> bool {
     let entries = entries_of(line);
     if *over == 0 || *over < entries {
         *over = 0;
@@ -55,7 +56,8 @@ fn passes(over: &mut u64, line: &[u8]) -> bool {
 }
 
 impl<'a> Play<'a> {
-    // Asks each line, but for those whose entries stand, in a room that opened at this version.
+    // Asks each line, but for those whose entries stand, in a room that opened at this version. Adds what they are answered, and what both
+    // seats read then.
     fn ask_lines<K: Keeper + Drop, N: RoomName, Q: Wait + Drop, W: Wait>(
         self,
         rt: &W,
@@ -63,16 +65,20 @@ impl<'a> Play<'a> {
         room: &Room<K, N, Q>,
         seats: &mut [SeatOf<K, N, Q>],
         opened: u64,
-        text: &mut String,
-    ) -> Result<(), AllocError> {
+        text: &mut Text,
+    ) {
+        let [one, two] = seats else {
+            return text.refuse();
+        };
         let mut over = opened.saturating_sub(self.before.unwrap_or(opened));
-        let lines = self.script.strip_suffix(b"\n").unwrap_or(self.script);
-        for line in lines.split(|byte| *byte == b'\n') {
+        for line in self.script.lines() {
             if !passes(&mut over, line) {
-                write_step(rt, alloc, room, seats, line, text)?;
+                write_step(rt, alloc, room, one, two, line, text);
             }
         }
-        write_reads(alloc, seats, text)
+        text.push_str("; read");
+        write_read(alloc, one, text);
+        write_read(alloc, two, text);
     }
 
     // Asks a room with its seats.
@@ -84,8 +90,8 @@ impl<'a> Play<'a> {
         seats: &mut [SeatOf<Journal<B>, N, Q>],
     ) -> Result<Played<B>, AllocError> {
         let opened = version_of(rt, room);
-        let mut text = String::new(alloc);
-        self.ask_lines(rt, alloc, room, seats, opened, &mut text)?;
+        let mut text = Text::new(alloc);
+        self.ask_lines(rt, alloc, room, seats, opened, &mut text);
         played_in(rt, alloc, room, opened, text)
     }
 }
@@ -104,17 +110,15 @@ fn played_in<B: Fragile, N: RoomName, Q: Wait + Drop, W: Wait>(
     alloc: Global,
     room: &Room<Journal<B>, N, Q>,
     opened: u64,
-    text: String,
+    text: Text,
 ) -> Result<Played<B>, AllocError> {
     let desk = room.desk(rt);
-    let ended = desk.version();
-    let failures = desk.keeper().failures();
     let left = left_of(alloc, desk.keeper().shelf())?;
     Ok(Played {
         text,
         opened,
-        ended,
-        failures,
+        ended: desk.version(),
+        failures: desk.keeper().failures(),
         left,
     })
 }

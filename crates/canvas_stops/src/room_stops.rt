@@ -6,6 +6,7 @@ use crate::bench::{Bench, Failing};
 use crate::fragile::Fragile;
 use crate::plays::{Play, Played, played_by};
 use crate::rooms::{blank_on, left_of};
+use canvas_cases::Text;
 use canvas_journal::OpenError;
 use std::alloc::{AllocError, Global};
 use std::sync::Wait;
@@ -16,18 +17,19 @@ fn write_rest<B: Fragile, R: Wait + Copy + Drop>(
     alloc: Global,
     shelf: B,
     play: Play<'_>,
-    text: &mut String,
+    text: &mut Text,
 ) -> Result<(), AllocError>
     requires { IsTrue (B.honest shelf) → top_is_listed (B.disk shelf) ≡ true }
 {
     match blank_on(alloc, shelf) {
         Ok(Some(blank)) => {
             let played = played_by(rt, alloc, blank, play)?;
-            write!(text, " {} to {}", played.opened, played.ended)
+            write!(text, " {} to {}", played.opened, played.ended);
         }
         Ok(None) => text.push_str(" more edits than entries"),
-        Err((_, error)) => write!(text, " {error}"),
+        Err((_shelf, error)) => write!(text, " {error}"),
     }
+    Ok(())
 }
 
 // Adds the same for each shelf that was found.
@@ -36,11 +38,11 @@ fn write_left<B: Fragile, R: Wait + Copy + Drop>(
     alloc: Global,
     left: &[B],
     play: Play<'_>,
-    text: &mut String,
+    text: &mut Text,
 ) -> Result<(), AllocError> {
     let mut before = "; found";
     for shelf in left {
-        text.push_str(before)?;
+        text.push_str(before);
         before = ",";
         write_rest(rt, alloc, shelf.found(alloc, 0)?, play, text)?;
     }
@@ -51,17 +53,16 @@ fn write_left<B: Fragile, R: Wait + Copy + Drop>(
 fn write_played<B: Fragile, R: Wait + Copy + Drop>(
     rt: R,
     alloc: Global,
-    script: &[u8],
+    script: &str,
     played: &Played<B>,
-    text: &mut String,
+    text: &mut Text,
 ) -> Result<bool, AllocError> {
-    text.push_str(&played.text)?;
+    text.push_text(&played.text);
     let play = Play {
         script,
         before: Some(played.opened),
     };
     write_left(rt, alloc, &played.left, play, text)?;
-    text.push('\n')?;
     Ok(played.failures > 0)
 }
 
@@ -69,23 +70,42 @@ fn write_played<B: Fragile, R: Wait + Copy + Drop>(
 fn write_unopened<B: Fragile, R: Wait + Copy + Drop>(
     rt: R,
     alloc: Global,
-    script: &[u8],
+    play: Play<'_>,
     shelf: B,
     error: OpenError,
-    text: &mut String,
+    text: &mut Text,
 ) -> Result<bool, AllocError>
     requires { IsTrue (B.honest shelf) → top_is_listed (B.disk shelf) ≡ true }
 {
-    write!(text, " {error}")?;
+    write!(text, " {error}");
+    write_left(rt, alloc, &left_of(alloc, &shelf)?, play, text)?;
+    text.push_str("; again");
+    write_rest(rt, alloc, shelf, play, text)?;
+    Ok(true)
+}
+
+// Adds what a script comes to over this shelf. Tells whether a call failed.
+fn write_over<B: Fragile, R: Wait + Copy + Drop>(
+    rt: R,
+    alloc: Global,
+    script: &str,
+    shelf: B,
+    text: &mut Text,
+) -> Result<bool, AllocError>
+    requires { IsTrue (B.honest shelf) → top_is_listed (B.disk shelf) ≡ true }
+{
     let play = Play {
         script,
         before: None,
     };
-    write_left(rt, alloc, &left_of(alloc, &shelf)?, play, text)?;
-    text.push_str("; again")?;
-    write_rest(rt, alloc, shelf, play, text)?;
-    text.push('\n')?;
-    Ok(true)
+    match blank_on(alloc, shelf) {
+        Ok(Some(blank)) => {
+            let played = played_by(rt, alloc, blank, play)?;
+            write_played(rt, alloc, script, &played, text)
+        }
+        Ok(None) => Err(AllocError),
+        Err((shelf, error)) => write_unopened(rt, alloc, play, shelf, error, text),
+    }
 }
 
 /// Adds what a room's script comes to where these calls fail, up to the end of the line. Tells whether one failed.
@@ -94,22 +114,15 @@ pub fn write_room_stop<B: Fragile, R: Wait + Copy + Drop>(
     alloc: Global,
     bench: &Bench,
     failing: Failing,
-    text: &mut String,
+    text: &mut Text,
 ) -> Result<bool, AllocError> {
-    let Some(shelf) = B::make(alloc, &bench.segments, failing)? else {
-        text.push_str(" device failed\n")?;
-        return Ok(true);
-    };
-    match blank_on(alloc, shelf) {
-        Ok(Some(blank)) => {
-            let play = Play {
-                script: &bench.script,
-                before: None,
-            };
-            let played = played_by(rt, alloc, blank, play)?;
-            write_played(rt, alloc, &bench.script, &played, text)
+    let has_failed = match B::make(alloc, &bench.segments, failing)? {
+        Some(shelf) => write_over(rt, alloc, &bench.script, shelf, text)?,
+        None => {
+            text.push_str(" device failed");
+            true
         }
-        Ok(None) => Err(AllocError),
-        Err((shelf, error)) => write_unopened(rt, alloc, &bench.script, shelf, error, text),
-    }
+    };
+    text.push_str("\n");
+    Ok(has_failed)
 }

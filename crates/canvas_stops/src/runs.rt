@@ -1,11 +1,12 @@
 // Answers in a row, where neighbours that are the same make one.
-use std::alloc::{AllocError, Global};
+use canvas_cases::Text;
+use std::alloc::Global;
 
 /// Answers to a count, each with the counts that were answered so.
 pub struct Runs {
     first: u64,
     last: u64,
-    answer: String,
+    answer: Text,
 }
 
 impl Drop for Runs {
@@ -24,27 +25,28 @@ impl Runs {
         Runs {
             first: 0,
             last: 0,
-            answer: String::new(alloc),
+            answer: Text::new(alloc),
         }
     }
 
     /// Notes what is answered to a count; adds the answer before, where that was another.
-    pub fn note(&mut self, count: u64, answer: &str, text: &mut String) -> Result<(), AllocError> {
-        if answer != self.answer.as_str() {
-            self.end(text)?;
-            self.first = count;
-            self.answer.clear();
-            self.answer.push_str(answer)?;
+    pub fn note(&mut self, count: u64, answer: &Text, text: &mut Text) {
+        if answer.is_same(&self.answer) {
+            self.last = count;
+            return;
         }
+        self.end(text);
+        self.first = count;
         self.last = count;
-        Ok(())
+        self.answer.clear();
+        self.answer.push_text(answer);
     }
 
     /// Adds the last answer.
-    pub fn end(&self, text: &mut String) -> Result<(), AllocError> {
-        if self.answer.is_empty() {
-            return Ok(());
+    pub fn end(&self, text: &mut Text) {
+        if !self.answer.as_str().is_empty() {
+            write!(text, "{} to {}:\n", self.first, self.last);
+            text.push_text(&self.answer);
         }
-        write!(text, "{} to {}:\n{}", self.first, self.last, self.answer)
     }
 }

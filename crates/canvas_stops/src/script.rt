@@ -1,8 +1,9 @@
 // Scripts of a journal.
-use crate::lines::{cut, find, without_end};
+use crate::lines::find;
+use canvas_cases::Text;
 use canvas_journal::{KeepError, Keeper};
 use canvas_wire::{decode_checkpoint, decode_entry};
-use std::alloc::{AllocError, Global};
+use std::alloc::Global;
 
 /// A call of a journal.
 #[derive(Clone, Copy)]
@@ -25,82 +26,66 @@ pub const STEPS: [(&str, Step); 6] = [
     ("commit", Step::Commit),
 ];
 
-// The word for an answer.
-fn told(answer: Result<(), KeepError>) -> Result<&'static str, AllocError> {
+// Adds what a call answers.
+fn write_told(answer: Result<(), KeepError>, text: &mut Text) {
     match answer {
-        Ok(()) => Ok("ok"),
-        Err(KeepError::Device) => Ok("Device"),
-        Err(KeepError::Failed) => Ok("Failed"),
-        Err(KeepError::TooLarge) => Ok("TooLarge"),
-        Err(KeepError::Memory) => Err(AllocError),
+        Ok(()) => text.push_str(" ok"),
+        Err(KeepError::Device) => text.push_str(" Device"),
+        Err(KeepError::Failed) => text.push_str(" Failed"),
+        Err(KeepError::TooLarge) => text.push_str(" TooLarge"),
+        Err(KeepError::Memory) => text.refuse(),
     }
 }
 
-// Appends the entry of a text, or makes it ready.
+// Appends the entry that is written so, or makes it ready, and adds what that answers.
 fn add_entry<K: Keeper>(
     alloc: Global,
     journal: &mut K,
-    text: &[u8],
+    written: &str,
     is_staged: bool,
-) -> Result<&'static str, AllocError> {
-    let Ok(entry) = decode_entry(alloc, alloc, text) else {
-        return Ok("unreadable");
-    };
-    told(if is_staged {
-        journal.stage(alloc, &entry)
-    } else {
-        journal.append(alloc, &entry)
-    })
-}
-
-// Makes the checkpoint of a text.
-fn checkpoint<K: Keeper>(
-    alloc: Global,
-    journal: &mut K,
-    text: &[u8],
-) -> Result<&'static str, AllocError> {
-    match decode_checkpoint(alloc, alloc, text) {
-        Ok((state, version)) => told(journal.checkpoint(alloc, &state, version)),
-        Err(_) => Ok("unreadable"),
+    text: &mut Text,
+) {
+    match decode_entry(alloc, alloc, written.as_bytes()) {
+        Ok(entry) => {
+            let answer = if is_staged {
+                journal.stage(alloc, &entry)
+            } else {
+                journal.append(alloc, &entry)
+            };
+            write_told(answer, text);
+        }
+        Err(_) => text.push_str(" unreadable"),
     }
 }
 
-// Makes the call of a line, and tells what it answers.
-fn call<K: Keeper>(
-    alloc: Global,
-    journal: &mut K,
-    line: &[u8],
-) -> Result<&'static str, AllocError> {
-    let (word, text) = cut(line);
-    let Some(step) = find(&STEPS, word) else {
-        return Ok("unreadable");
-    };
-    match step {
-        Step::Append => add_entry(alloc, journal, text, false),
-        Step::Sync => told(journal.sync()),
-        Step::Checkpoint => checkpoint(alloc, journal, text),
-        Step::Stage => add_entry(alloc, journal, text, true),
-        Step::Unstage => {
+// Makes the checkpoint that is written so, and adds what that answers.
+fn checkpoint<K: Keeper>(alloc: Global, journal: &mut K, written: &str, text: &mut Text) {
+    match decode_checkpoint(alloc, alloc, written.as_bytes()) {
+        Ok((state, version)) => write_told(journal.checkpoint(alloc, &state, version), text),
+        Err(_) => text.push_str(" unreadable"),
+    }
+}
+
+// Makes the call of a line, and adds what it answers.
+fn call<K: Keeper>(alloc: Global, journal: &mut K, line: &str, text: &mut Text) {
+    let (word, written) = line.split_once(' ').unwrap_or((line, ""));
+    match find(&STEPS, word) {
+        Some(Step::Append) => add_entry(alloc, journal, written, false, text),
+        Some(Step::Sync) => write_told(journal.sync(), text),
+        Some(Step::Checkpoint) => checkpoint(alloc, journal, written, text),
+        Some(Step::Stage) => add_entry(alloc, journal, written, true, text),
+        Some(Step::Unstage) => {
             journal.unstage();
-            Ok("ok")
+            text.push_str(" ok");
         }
-        Step::Commit => told(journal.commit()),
+        Some(Step::Commit) => write_told(journal.commit(), text),
+        None => text.push_str(" unreadable"),
     }
 }
 
 /// Makes the calls of a script, and adds what each answers.
-pub fn play<K: Keeper>(
-    alloc: Global,
-    journal: &mut K,
-    script: &[u8],
-    text: &mut String,
-) -> Result<(), AllocError> {
-    if script.is_empty() {
-        return Ok(());
+pub fn play<K: Keeper>(alloc: Global, journal: &mut K, script: &str, text: &mut Text) {
+    for line in script.lines() {
+        call(alloc, journal, line, text);
     }
-    for line in without_end(script).split(|byte| *byte == b'\n') {
-        let answer = call(alloc, journal, line)?;
-        write!(text, " {answer}")?;
-    }
-    Ok(())
 }

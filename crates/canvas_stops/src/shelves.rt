@@ -4,6 +4,7 @@ ghost use Rattle.canvas_shelf.specs.Disk.{is_listed, top_is_listed};
 ghost use Rattle.canvas_shelf.specs.Shelved.{disk_of};
 
 use crate::bench::{Failing, Segment};
+use canvas_cases::Text;
 use canvas_journal::OpenError;
 use canvas_shelf::{Call, CreateError, MemShelf, Shelf, ShelfError, first_record};
 use std::alloc::{AllocError, Global};
@@ -91,77 +92,66 @@ pub fn failing_shelf(
 }
 
 /// Adds the calls of a shelf, in a line.
-pub fn write_calls(calls: &[Call], text: &mut String) -> Result<(), AllocError> {
-    text.push_str("calls:")?;
+pub fn write_calls(calls: &[Call], text: &mut Text) {
+    text.push_str("calls:");
     for call in calls {
-        write!(text, " {call:?}")?;
+        write!(text, " {call:?}");
     }
-    text.push('\n')?;
-    Ok(())
+    text.push_str("\n");
 }
 
 // Adds a blank and bytes, those that aren't printed as their numbers; nothing where there are none.
-fn write_bytes(bytes: &[u8], text: &mut String) -> Result<(), AllocError> {
+fn write_bytes(bytes: &[u8], text: &mut Text) {
     if !bytes.is_empty() {
-        text.push(' ')?;
+        text.push_str(" ");
     }
     for byte in bytes {
         if byte.is_ascii_graphic() {
-            text.push(char::from(*byte))?;
+            write!(text, "{}", char::from(*byte));
         } else {
-            write!(text, "<{byte}>")?;
+            write!(text, "<{byte}>");
         }
     }
-    text.push('\n')
-}
-
-/// Adds the segments that a crash left, the highest first, each in a line.
-pub fn write_left<S: Shelf>(
-    alloc: Global,
-    left: &mut S,
-    text: &mut String,
-) -> Result<(), AllocError> {
-    match write_segments(alloc, left, text) {
-        Ok(()) => Ok(()),
-        Err(_) => Err(AllocError),
-    }
+    text.push_str("\n");
 }
 
 // Adds the segments of a shelf, the highest first, each in a line.
 fn write_segments<S: Shelf>(
     alloc: Global,
     shelf: &mut S,
-    text: &mut String,
+    text: &mut Text,
 ) -> Result<(), ShelfError> {
     let listed = shelf.list(alloc)?;
     for number in &listed {
         let bytes = shelf.read(alloc, *number)?;
-        write!(text, "segment {number}, {} bytes:", bytes.len())?;
-        write_bytes(&bytes, text)?;
+        write!(text, "segment {number}, {} bytes:", bytes.len());
+        write_bytes(&bytes, text);
     }
     Ok(())
 }
 
+/// Adds the segments that a crash left, the highest first, each in a line.
+pub fn write_left<S: Shelf>(alloc: Global, left: &mut S, text: &mut Text) {
+    if write_segments(alloc, left, text).is_err() {
+        text.refuse();
+    }
+}
+
 /// Adds the text of the first record in these bytes, and the bytes behind it.
-pub fn write_first(bytes: &[u8], text: &mut String) -> Result<(), AllocError> {
+pub fn write_first(bytes: &[u8], text: &mut Text) {
     match first_record(bytes) {
         Some((first, behind)) => {
-            text.push_str("first:")?;
-            write_bytes(first, text)?;
-            text.push_str("behind:")?;
-            write_bytes(behind, text)
+            text.push_str("first:");
+            write_bytes(first, text);
+            text.push_str("behind:");
+            write_bytes(behind, text);
         }
         None => text.push_str("none\n"),
     }
 }
 
 /// Adds what a shelf with no segment answers that is asked so often for its numbers, where these calls fail.
-pub fn write_lists(
-    alloc: Global,
-    failing: Failing,
-    times: u64,
-    text: &mut String,
-) -> Result<(), AllocError> {
+pub fn write_lists(alloc: Global, failing: Failing, times: u64, text: &mut Text) {
     let mut shelf = MemShelf::new(alloc);
     set_failing(&mut shelf, failing);
     for _ in 0..times {
@@ -169,7 +159,7 @@ pub fn write_lists(
             "ok "
         } else {
             "Device "
-        })?;
+        });
     }
-    write!(text, "{} failed\n", shelf.failures())
+    write!(text, "{} failed\n", shelf.failures());
 }

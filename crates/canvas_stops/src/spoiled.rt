@@ -4,9 +4,10 @@ ghost use Rattle.canvas_shelf.specs.Disk.{top_is_listed};
 ghost use Rattle.canvas_shelf.specs.Shelved.{disk_of};
 
 use crate::bench::Segment;
-use crate::opening::{write_found, write_opening, write_version};
+use crate::opening::{write_kept, write_opening, write_version};
 use crate::runs::Runs;
 use crate::shelves::{shelf_with, write_left};
+use canvas_cases::Text;
 use canvas_shelf::{MemShelf, Shelf};
 use std::alloc::{AllocError, Global};
 
@@ -17,29 +18,29 @@ fn note_cut(
     last: &Segment,
     size: usize,
     runs: &mut Runs,
-    text: &mut String,
-) -> Result<(), AllocError> {
+    text: &mut Text,
+) {
     let bytes = last.bytes.get(..size).unwrap_or(&last.bytes);
-    let shelf = shelf_with(alloc, rest, last.number, bytes)?;
-    let mut answer = String::new(alloc);
-    write_opening(alloc, shelf, &mut answer)?;
-    runs.note(size as u64, &answer, text)
+    match shelf_with(alloc, rest, last.number, bytes) {
+        Ok(shelf) => {
+            let mut answer = Text::new(alloc);
+            write_opening(alloc, shelf, &mut answer);
+            runs.note(size as u64, &answer, text);
+        }
+        Err(_) => text.refuse(),
+    }
 }
 
 /// Adds what opening finds where the last segment is cut to each length, and where it isn't.
-pub fn write_cuts(
-    alloc: Global,
-    segments: &[Segment],
-    text: &mut String,
-) -> Result<(), AllocError> {
+pub fn write_cuts(alloc: Global, segments: &[Segment], text: &mut Text) {
     let [rest @ .., last] = segments else {
-        return Ok(());
+        return;
     };
     let mut runs = Runs::new(alloc);
     for size in 0..last.bytes.len().saturating_add(1) {
-        note_cut(alloc, rest, last, size, &mut runs, text)?;
+        note_cut(alloc, rest, last, size, &mut runs, text);
     }
-    runs.end(text)
+    runs.end(text);
 }
 
 // A shelf on which this byte stands at this place of the last segment.
@@ -60,77 +61,58 @@ fn spoiled_shelf(
 }
 
 // Adds a line where the segments of a shelf aren't written so.
-fn write_change<S: Shelf>(
-    alloc: Global,
-    shelf: &mut S,
-    segments: &str,
-    text: &mut String,
-) -> Result<(), AllocError> {
-    let mut then = String::new(alloc);
-    write_left(alloc, shelf, &mut then)?;
-    if then.as_str() != segments {
-        text.push_str("the segments have changed\n")?;
+fn write_change<S: Shelf>(alloc: Global, shelf: &mut S, segments: &Text, text: &mut Text) {
+    let mut then = Text::new(alloc);
+    write_left(alloc, shelf, &mut then);
+    if !then.is_same(segments) {
+        text.push_str("the segments have changed\n");
     }
-    Ok(())
 }
 
 // Adds what opening a shelf finds, in a line. Where it isn't opened, its segments must still be written so.
-fn write_opened<S: Shelf + Drop>(
-    alloc: Global,
-    shelf: S,
-    segments: &str,
-    text: &mut String,
-) -> Result<(), AllocError>
+fn write_opened<S: Shelf + Drop>(alloc: Global, shelf: S, segments: &Text, text: &mut Text)
     requires { IsTrue (S.honest shelf) → top_is_listed (S.disk shelf) ≡ true }
 {
-    text.push_str("open: ")?;
-    match write_version(alloc, shelf, text)? {
-        Some(mut left) => write_change(alloc, &mut left, segments, text),
-        None => Ok(()),
+    text.push_str("open: ");
+    if let Some(mut left) = write_version(alloc, shelf, text) {
+        write_change(alloc, &mut left, segments, text);
     }
 }
 
-// Adds what looking at a shelf finds whose bytes are all synced, in a line, and gives how its segments are written.
-fn write_looked(alloc: Global, shelf: &MemShelf, text: &mut String) -> Result<String, AllocError> {
-    let mut same = shelf.crash(&[])?;
-    write_found(alloc, &mut same, text)?;
-    text.push('\n')?;
-    let mut segments = String::new(alloc);
-    write_left(alloc, &mut same, &mut segments)?;
-    Ok(segments)
+// Adds how the segments of a shelf are written whose bytes are all synced.
+fn write_synced(alloc: Global, shelf: &MemShelf, text: &mut Text) {
+    match shelf.crash(&[]) {
+        Ok(mut same) => write_left(alloc, &mut same, text),
+        Err(_) => text.refuse(),
+    }
 }
 
 // Notes what looking at a shelf finds whose bytes are all synced, and what opening it finds.
-fn note_found(
-    alloc: Global,
-    shelf: MemShelf,
-    at: usize,
-    runs: &mut Runs,
-    text: &mut String,
-) -> Result<(), AllocError>
+fn note_found(alloc: Global, shelf: MemShelf, at: usize, runs: &mut Runs, text: &mut Text)
     requires { top_is_listed (disk_of shelf) ≡ true }
 {
-    let mut answer = String::from_str(alloc, "look: ")?;
-    let segments = write_looked(alloc, &shelf, &mut answer)?;
-    write_opened(alloc, shelf, &segments, &mut answer)?;
-    runs.note(at as u64, &answer, text)
+    let mut answer = Text::new(alloc);
+    let mut segments = Text::new(alloc);
+    answer.push_str("look: ");
+    write_kept(alloc, &shelf, &[], &mut answer);
+    write_synced(alloc, &shelf, &mut segments);
+    answer.push_str("\n");
+    write_opened(alloc, shelf, &segments, &mut answer);
+    runs.note(at as u64, &answer, text);
 }
 
 /// Adds what looking and opening find where each byte of the last segment is replaced by this one; a line says so where opening fails
 /// and yet changes a segment.
-pub fn write_spoiled(
-    alloc: Global,
-    segments: &[Segment],
-    byte: u8,
-    text: &mut String,
-) -> Result<(), AllocError> {
+pub fn write_spoiled(alloc: Global, segments: &[Segment], byte: u8, text: &mut Text) {
     let [rest @ .., last] = segments else {
-        return Ok(());
+        return;
     };
     let mut runs = Runs::new(alloc);
     for at in 0..last.bytes.len() {
-        let shelf = spoiled_shelf(alloc, rest, last, at, byte)?;
-        note_found(alloc, shelf, at, &mut runs, text)?;
+        match spoiled_shelf(alloc, rest, last, at, byte) {
+            Ok(shelf) => note_found(alloc, shelf, at, &mut runs, text),
+            Err(_) => text.refuse(),
+        }
     }
-    runs.end(text)
+    runs.end(text);
 }

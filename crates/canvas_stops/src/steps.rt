@@ -1,5 +1,6 @@
 // The lines of a script, and what they are answered.
 use canvas_board::{Receipt, RoomName};
+use canvas_cases::Text;
 use canvas_desk::SubmitError;
 use canvas_journal::Keeper;
 use canvas_judge::Message;
@@ -40,24 +41,24 @@ fn add_request(alloc: Global, text: &[u8], requests: &mut Vec<Request>) -> Resul
 }
 
 // What the messages of a line ask.
-fn requests_of(alloc: Global, line: &[u8]) -> Result<Vec<Request>, AllocError> {
+fn requests_of(alloc: Global, line: &str) -> Result<Vec<Request>, AllocError> {
     let mut requests = Vec::new(alloc);
-    for text in line.split(|byte| *byte == b'&') {
-        add_request(alloc, text, &mut requests)?;
+    for text in line.split('&') {
+        add_request(alloc, text.as_bytes(), &mut requests)?;
     }
     Ok(requests)
 }
 
 /// How many entries the requests of a line lead to, where none is refused.
-pub fn entries_of(line: &[u8]) -> u64 {
-    if !line.starts_with(b"[") {
+pub fn entries_of(line: &str) -> u64 {
+    if !line.starts_with('[') {
         return 0;
     }
-    line.split(|byte| *byte == b'&').count() as u64
+    line.split('&').count() as u64
 }
 
 // Adds why there is no receipt, or no checkpoint.
-fn write_error(error: &SubmitError, text: &mut String) -> Result<(), AllocError> {
+fn write_error(error: &SubmitError, text: &mut Text) {
     match error {
         SubmitError::Refused(refusal) => write!(text, " {refusal:?}"),
         SubmitError::NotKept(error) => write!(text, " {error:?}"),
@@ -66,26 +67,11 @@ fn write_error(error: &SubmitError, text: &mut String) -> Result<(), AllocError>
 }
 
 // Adds what a request is answered.
-fn write_answer<N: RoomName>(
-    answer: &Result<Receipt<N>, SubmitError>,
-    text: &mut String,
-) -> Result<(), AllocError> {
+fn write_answer<N: RoomName>(answer: &Result<Receipt<N>, SubmitError>, text: &mut Text) {
     match answer {
         Ok(receipt) => write!(text, " {}", receipt.version()),
         Err(error) => write_error(error, text),
     }
-}
-
-// Adds what the requests of a batch are answered.
-fn write_answers<N: RoomName>(
-    answers: &[Result<Receipt<N>, SubmitError>],
-    text: &mut String,
-) -> Result<(), AllocError> {
-    text.push_str(" (")?;
-    for answer in answers {
-        write_answer(answer, text)?;
-    }
-    text.push_str(" )")
 }
 
 // Has requests judged as one batch, and adds what they are answered.
@@ -93,14 +79,20 @@ fn write_batch<K: Keeper + Drop, N: RoomName, Q: Wait + Drop, W: Wait>(
     rt: &W,
     room: &Room<K, N, Q>,
     requests: &[Request],
-    text: &mut String,
-) -> Result<(), AllocError> {
+    text: &mut Text,
+) {
     if requests.len() > 64 {
         return text.push_str(" too many");
     }
     let mut desk = room.desk(rt);
     match desk.submit_many(rt, requests) {
-        Ok(answers) => write_answers(&answers, text),
+        Ok(answers) => {
+            text.push_str(" (");
+            for answer in &answers {
+                write_answer(answer, text);
+            }
+            text.push_str(" )");
+        }
         Err(error) => write_error(&error, text),
     }
 }
@@ -111,8 +103,8 @@ fn write_requests<K: Keeper + Drop, N: RoomName, Q: Wait + Drop, W: Wait>(
     room: &Room<K, N, Q>,
     seat: &mut SeatOf<K, N, Q>,
     requests: &[Request],
-    text: &mut String,
-) -> Result<(), AllocError> {
+    text: &mut Text,
+) {
     match requests {
         [] => text.push_str(" unreadable"),
         [request] => write_answer(&seat.submit(rt, request), text),
@@ -124,8 +116,8 @@ fn write_requests<K: Keeper + Drop, N: RoomName, Q: Wait + Drop, W: Wait>(
 fn write_checkpoint<K: Keeper + Drop, N: RoomName, Q: Wait + Drop, W: Wait>(
     rt: &W,
     seat: &mut SeatOf<K, N, Q>,
-    text: &mut String,
-) -> Result<(), AllocError> {
+    text: &mut Text,
+) {
     match seat.tidy(rt, 0) {
         Ok(true) => text.push_str(" checkpoint"),
         Ok(false) => text.push_str(" none"),
@@ -133,52 +125,34 @@ fn write_checkpoint<K: Keeper + Drop, N: RoomName, Q: Wait + Drop, W: Wait>(
     }
 }
 
-// Adds the version that a seat reads as client 1; nothing is told before that has joined.
-fn write_read<N: RoomName, D: Drop>(
-    alloc: Global,
-    seat: &mut Seat<N, D>,
-    text: &mut String,
-) -> Result<(), AllocError> {
+/// Adds the version that a seat reads as client 1; nothing is told before that has joined.
+pub fn write_read<N: RoomName, D: Drop>(alloc: Global, seat: &mut Seat<N, D>, text: &mut Text) {
     match seat.copy(alloc, 1) {
         Ok(Some(copy)) => write!(text, " {}", copy.version),
         Ok(None) => text.push_str(" nothing"),
-        Err(_) => Err(AllocError),
+        Err(_) => text.refuse(),
     }
 }
 
-/// Adds the version that each seat reads.
-pub fn write_reads<N: RoomName, D: Drop>(
-    alloc: Global,
-    seats: &mut [Seat<N, D>],
-    text: &mut String,
-) -> Result<(), AllocError> {
-    let [one, two] = seats else {
-        return Err(AllocError);
-    };
-    text.push_str("; read")?;
-    write_read(alloc, one, text)?;
-    write_read(alloc, two, text)
-}
-
-/// Does what a line says, and adds what that is answered.
+/// Does what a line says at the first of a room's two seats, or has the second one read, and adds what that is answered.
 pub fn write_step<K: Keeper + Drop, N: RoomName, Q: Wait + Drop, W: Wait>(
     rt: &W,
     alloc: Global,
     room: &Room<K, N, Q>,
-    seats: &mut [SeatOf<K, N, Q>],
-    line: &[u8],
-    text: &mut String,
-) -> Result<(), AllocError> {
-    let [one, two] = seats else {
-        return Err(AllocError);
-    };
-    if line == b"checkpoint".as_slice() {
+    one: &mut SeatOf<K, N, Q>,
+    two: &mut SeatOf<K, N, Q>,
+    line: &str,
+    text: &mut Text,
+) {
+    if line == "checkpoint" {
         return write_checkpoint(rt, one, text);
     }
-    if line == b"read".as_slice() {
-        text.push_str(" reads")?;
+    if line == "read" {
+        text.push_str(" reads");
         return write_read(alloc, two, text);
     }
-    let requests = requests_of(alloc, line)?;
-    write_requests(rt, room, one, &requests, text)
+    match requests_of(alloc, line) {
+        Ok(requests) => write_requests(rt, room, one, &requests, text),
+        Err(_) => text.refuse(),
+    }
 }

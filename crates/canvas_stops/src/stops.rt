@@ -3,6 +3,7 @@ use crate::bench::{Bench, Failing};
 use crate::fragile::StoreShelf;
 use crate::journal_stops::write_journal_stop;
 use crate::room_stops::write_room_stop;
+use canvas_cases::Text;
 use canvas_shelf::MemShelf;
 use std::alloc::{AllocError, Global};
 use std::sync::Wait;
@@ -16,7 +17,7 @@ fn write_stop<R: Wait + Copy + Drop>(
     alloc: Global,
     bench: &Bench,
     failing: Failing,
-    text: &mut String,
+    text: &mut Text,
 ) -> Result<bool, AllocError> {
     if !bench.asks_room {
         write_journal_stop(alloc, bench, failing, text)
@@ -32,31 +33,39 @@ pub fn write_play<R: Wait + Copy + Drop>(
     rt: R,
     alloc: Global,
     bench: &Bench,
-    text: &mut String,
+    text: &mut Text,
 ) -> Result<(), AllocError> {
     if bench.asks_room {
-        text.push_str("all:")?;
+        text.push_str("all:");
     }
     write_stop(rt, alloc, bench, bench.failing, text)?;
     Ok(())
 }
 
-/// Adds what a script comes to where each number of calls pass and all others fail, or where each call fails alone, a line each.
+/// Which calls fail, one run after another.
+#[derive(Clone, Copy)]
+pub enum Way {
+    /// All of them after each number of calls.
+    Fuse,
+    /// Each one alone.
+    Fault,
+}
+
+/// Adds what a script comes to where calls fail this way, a line each, up to the number at which none fails.
 pub fn write_stops<R: Wait + Copy + Drop>(
     rt: R,
     alloc: Global,
     bench: &Bench,
-    is_alone: bool,
-    text: &mut String,
+    way: Way,
+    text: &mut Text,
 ) -> Result<(), AllocError> {
     let gap = if bench.asks_room { "" } else { " " };
-    for number in u64::from(is_alone)..MOST {
-        let failing = if is_alone {
-            Failing::Only(number)
-        } else {
-            Failing::After(number)
+    for calls in 0..MOST {
+        let (number, failing) = match way {
+            Way::Fuse => (calls, Failing::After(calls)),
+            Way::Fault => (calls + 1, Failing::Only(calls + 1)),
         };
-        write!(text, "{number}:{gap}")?;
+        write!(text, "{number}:{gap}");
         if !write_stop(rt, alloc, bench, failing, text)? {
             return Ok(());
         }
