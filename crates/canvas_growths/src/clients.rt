@@ -2,6 +2,7 @@
 use crate::reads::{write_beginnings, write_path, write_view};
 use crate::same::same_client;
 use crate::trials::{Trial, write_growths};
+use canvas_cases::Text;
 use canvas_client::{Client, EditError, EditRequest, EditRequestVariant, Received};
 use canvas_doc::ObjId;
 use canvas_edit_lines::{read_edit, write_client};
@@ -132,7 +133,7 @@ impl<'a, A: Allocator + Copy> Trial<A> for LastStep<'a> {
 }
 
 // Adds what a step is answered.
-fn write_told(told: Told, text: &mut String) -> Result<(), AllocError> {
+fn write_told(told: Told, text: &mut Text) {
     match told {
         Told::Received(received, changes) => {
             write!(text, "{received:?}, last changes {changes}")
@@ -148,48 +149,50 @@ fn answer_last(
     global: Global,
     heap: &Refusing<Global>,
     steps: &[Step],
-    text: &mut String,
+    text: &mut Text,
 ) -> Result<(), AllocError> {
     let [before @ .., step] = steps else {
         return Ok(());
     };
     let told = told_after(global, before, step)?;
-    write_told(told, text)?;
+    write_told(told, text);
     let trial = LastStep {
         before,
         step,
         all: steps,
         told,
     };
-    write_growths(global, heap, &trial, text)
+    write_growths(global, heap, &trial, text);
+    Ok(())
 }
 
 // The step that a line asks for.
-fn read_step(alloc: Global, line: &[u8]) -> Option<Step> {
-    if let Some(text) = line.strip_prefix(b"give ") {
-        return Some(Step::Give(decode(alloc, alloc, text).ok()?));
+fn read_step(alloc: Global, line: &str) -> Option<Step> {
+    if let Some(text) = line.strip_prefix("give ") {
+        return Some(Step::Give(decode(alloc, alloc, text.as_bytes()).ok()?));
     }
-    if let Some(text) = line.strip_prefix(b"make ") {
-        return Some(Step::Make(read_edit(alloc, text).ok()?));
+    if let Some(text) = line.strip_prefix("make ") {
+        return Some(Step::Make(read_edit(alloc, text.as_bytes()).ok()?));
     }
-    let text = line.strip_prefix(b"edit ")?;
-    Some(Step::Edit(read_edit(alloc, text).ok()?))
+    let text = line.strip_prefix("edit ")?;
+    Some(Step::Edit(read_edit(alloc, text.as_bytes()).ok()?))
 }
 
 // Adds the client's block, and the number of its last edit that it knows to be judged.
-fn write_block(alloc: Global, client: &Client, text: &mut String) -> Result<(), AllocError> {
-    let mut block = Vec::new(alloc);
-    write_client(alloc, b"client", client, &mut block)?;
-    text.push_str(str::from_utf8(&block).unwrap_or("cannot show\n"))?;
-    write!(text, "acknowledged {}\n", client.acknowledged())
+fn write_block(global: Global, client: &Client, text: &mut Text) -> Result<(), AllocError> {
+    let mut block = Vec::new(global);
+    write_client(global, b"client", client, &mut block)?;
+    text.push_str(str::from_utf8(&block).unwrap_or("cannot show\n"));
+    write!(text, "acknowledged {}\n", client.acknowledged());
+    Ok(())
 }
 
 // Adds the messages of the edits that wait.
-fn write_waiting(alloc: Global, client: &Client, text: &mut String) -> Result<(), AllocError> {
+fn write_waiting(global: Global, client: &Client, text: &mut Text) -> Result<(), AllocError> {
     for i in 1..=client.unacknowledged() {
-        let message = encode(alloc, &client.message(alloc, i)?)?;
-        text.push_str(str::from_utf8(&message).unwrap_or("cannot show"))?;
-        text.push('\n')?;
+        let message = encode(global, &client.message(global, i)?)?;
+        text.push_str(str::from_utf8(&message).unwrap_or("cannot show"));
+        text.push_str("\n");
     }
     Ok(())
 }
@@ -199,26 +202,21 @@ fn write_seen(
     global: Global,
     heap: &Refusing<Global>,
     client: &Client,
-    asked: &[u8],
-    text: &mut String,
+    asked: &str,
+    text: &mut Text,
 ) -> Result<(), AllocError> {
-    if let Some(id) = asked.strip_prefix(b"path ") {
-        return match ObjId::try_from(id) {
-            Ok(id) => write_path(global, heap, client.view(), id, text),
-            Err(_) => text.push_str("cannot read\n"),
-        };
-    }
-    if asked == b"show".as_slice() {
-        write_block(global, client, text)
-    } else if asked == b"waiting".as_slice() {
-        write_waiting(global, client, text)
-    } else if asked == b"reads".as_slice() {
-        write_view(global, heap, client.view(), text)
-    } else if asked == b"beginnings".as_slice() {
-        write_beginnings(global, heap, text)
+    if asked == "show" {
+        write_block(global, client, text)?;
+    } else if asked == "waiting" {
+        write_waiting(global, client, text)?;
+    } else if asked == "reads" {
+        write_view(global, heap, client.view(), text)?;
+    } else if asked == "beginnings" {
+        write_beginnings(global, heap, text);
     } else {
-        text.push_str("cannot read\n")
+        text.push_str("cannot read\n");
     }
+    Ok(())
 }
 
 /// Adds what a client that has taken these steps answers a line. Where the line is a step, it is added to the steps.
@@ -226,13 +224,19 @@ pub fn answer_line(
     global: Global,
     heap: &Refusing<Global>,
     steps: &mut Vec<Step>,
-    line: &[u8],
-    text: &mut String,
+    line: &str,
+    text: &mut Text,
 ) -> Result<(), AllocError> {
     if let Some(step) = read_step(global, line) {
         steps.push(step)?;
         return answer_last(global, heap, steps, text);
     }
     let client = after(global, steps)?;
-    write_seen(global, heap, &client, line, text)
+    let Some(id) = line.strip_prefix("path ") else {
+        return write_seen(global, heap, &client, line, text);
+    };
+    match ObjId::try_from(id.as_bytes()) {
+        Ok(id) => write_path(global, heap, client.view(), id, text),
+        Err(_) => write_seen(global, heap, &client, line, text),
+    }
 }

@@ -12,7 +12,7 @@ mod same;
 mod stories;
 mod trials;
 
-use canvas_cases::{Answerer, run_cases};
+use canvas_cases::{Answerer, Text, run_cases};
 use canvas_script::{Script, is_world, read_script};
 use clients::{Step, answer_line};
 use refusing::Refusing;
@@ -32,17 +32,18 @@ fn answer_script(
     global: Global,
     heap: &Refusing<Global>,
     asked: &[u8],
-    text: &mut String,
+    text: &mut Text,
 ) -> Result<(), AllocError> {
     let Script {
         items,
         names: _,
         bad_line,
     } = read_script(global, asked)?;
-    match bad_line {
-        Some(line) => write!(text, "line {line}: cannot read\n"),
-        None => write_story(global, heap, &items, text),
+    if let Some(line) = bad_line {
+        write!(text, "line {line}: cannot read\n");
+        return Ok(());
     }
+    write_story(global, heap, &items, text)
 }
 
 // Answers what is asked of one client.
@@ -51,10 +52,10 @@ fn answer_lines(
     heap: &Refusing<Global>,
     steps: &mut Vec<Step>,
     asked: &[u8],
-    text: &mut String,
+    text: &mut Text,
 ) -> Result<(), AllocError> {
     for line in str::from_utf8(asked).unwrap_or("?").lines() {
-        answer_line(global, heap, steps, line.as_bytes(), text)?;
+        answer_line(global, heap, steps, line, text)?;
     }
     Ok(())
 }
@@ -67,13 +68,13 @@ impl Answerer for Answers {
 
     fn answer(&mut self, alloc: Global, asked: &[u8], out: &mut Vec<u8>) -> Result<(), AllocError> {
         let heap = Refusing::new(alloc, 0);
-        let mut text = String::new(alloc);
+        let mut text = Text::new(alloc);
         if is_world(asked) {
             answer_script(alloc, &heap, asked, &mut text)?;
         } else {
             answer_lines(alloc, &heap, &mut self.steps, asked, &mut text)?;
         }
-        out.extend_from_slice(text.as_bytes())
+        text.put(out)
     }
 }
 

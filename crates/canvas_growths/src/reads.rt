@@ -1,6 +1,7 @@
 // Calls that only read, and calls that make what is empty, with each growth refused in turn.
 use crate::same::{same_client, same_world};
 use crate::trials::{Trial, write_growths};
+use canvas_cases::Text;
 use canvas_client::Client;
 use canvas_doc::{Doc, ObjId};
 use canvas_judge::{Entry, State};
@@ -41,7 +42,7 @@ enum Reading<'a> {
     // A tree is copied.
     CopyTree(&'a Tree),
     // A tree is written behind what stands there.
-    WriteTree(&'a Tree, Form, &'a [u8]),
+    WriteTree(&'a Tree, Form),
     // The path to an object is looked for in a tree.
     FindPath(&'a Tree, ObjId, Option<&'a [ObjId]>),
     // A state is copied.
@@ -85,17 +86,23 @@ fn write_tree<A: Allocator>(
     }
 }
 
-// Whether a tree is written so behind what stands there.
+// Whether this is what a tree is written as behind what stands there.
+fn is_written(global: Global, tree: &Tree, form: Form, text: &[u8]) -> Result<bool, AllocError> {
+    let mut wanted = Vec::from_slice(global, HEAD)?;
+    write_tree(global, tree, form, &mut wanted)?;
+    Ok(wanted.as_slice() == text)
+}
+
+// Whether a tree is written as in ample memory behind what stands there.
 fn writes_tree<A: Allocator + Copy>(
     global: Global,
     alloc: A,
     tree: &Tree,
     form: Form,
-    text: &[u8],
 ) -> Result<bool, AllocError> {
     let mut out = Vec::from_slice(alloc, HEAD)?;
     match write_tree(global, tree, form, &mut out) {
-        Ok(()) => Ok(out.as_slice() == text),
+        Ok(()) => is_written(global, tree, form, &out),
         // Nothing may have been written then.
         Err(error) if out.as_slice() == HEAD => Err(error),
         Err(_) => Ok(false),
@@ -153,7 +160,7 @@ impl<'a, A: Allocator + Copy> Trial<A> for Reading<'a> {
             Reading::ListChildren(doc) => lists_children(global, alloc, doc),
             Reading::GrowTree(doc, tree) => Ok(grow(alloc, doc)?.same(tree)),
             Reading::CopyTree(tree) => Ok(tree.copy_in(alloc)?.same(tree)),
-            Reading::WriteTree(tree, form, text) => writes_tree(global, alloc, tree, *form, text),
+            Reading::WriteTree(tree, form) => writes_tree(global, alloc, tree, *form),
             Reading::FindPath(tree, id, path) => finds_path(alloc, tree, *id, *path),
             Reading::CopyState(state) => Ok(state.copy_in(alloc)?.same(state)),
             Reading::TellEntries(server, entries) => tells_entries(alloc, server, entries),
@@ -176,56 +183,16 @@ fn write_call(
     heap: &Refusing<Global>,
     word: &str,
     reading: Reading<'_>,
-    text: &mut String,
-) -> Result<(), AllocError> {
-    text.push_str(word)?;
-    write_growths(global, heap, &reading, text)
+    text: &mut Text,
+) {
+    text.push_str(word);
+    write_growths(global, heap, &reading, text);
 }
 
 /// Adds what comes of making a client and a world.
-pub fn write_beginnings(
-    global: Global,
-    heap: &Refusing<Global>,
-    text: &mut String,
-) -> Result<(), AllocError> {
-    write_call(global, heap, "new client", Reading::NewClient, text)?;
-    write_call(global, heap, "new world", Reading::NewWorld, text)
-}
-
-// Adds what comes of writing a tree in this form.
-fn write_written(
-    global: Global,
-    heap: &Refusing<Global>,
-    word: &str,
-    tree: &Tree,
-    form: Form,
-    text: &mut String,
-) -> Result<(), AllocError> {
-    let mut out = Vec::from_slice(global, HEAD)?;
-    write_tree(global, tree, form, &mut out)?;
-    write_call(
-        global,
-        heap,
-        word,
-        Reading::WriteTree(tree, form, &out),
-        text,
-    )
-}
-
-// Adds what comes of the calls on a document's tree.
-fn write_trees(
-    global: Global,
-    heap: &Refusing<Global>,
-    doc: &Doc,
-    tree: &Tree,
-    text: &mut String,
-) -> Result<(), AllocError> {
-    write!(text, "tree of {} grown", tree.count())?;
-    write_growths(global, heap, &Reading::GrowTree(doc, tree), text)?;
-    write_call(global, heap, "tree copied", Reading::CopyTree(tree), text)?;
-    write_written(global, heap, "tree written", tree, Form::Text, text)?;
-    let word = "root's properties written";
-    write_written(global, heap, word, tree, Form::Props, text)
+pub fn write_beginnings(global: Global, heap: &Refusing<Global>, text: &mut Text) {
+    write_call(global, heap, "new client", Reading::NewClient, text);
+    write_call(global, heap, "new world", Reading::NewWorld, text);
 }
 
 /// Adds what comes of the calls that read a view.
@@ -233,7 +200,7 @@ pub fn write_view(
     global: Global,
     heap: &Refusing<Global>,
     view: &Doc,
-    text: &mut String,
+    text: &mut Text,
 ) -> Result<(), AllocError> {
     write_call(
         global,
@@ -241,22 +208,28 @@ pub fn write_view(
         "document copied",
         Reading::CopyDoc(view),
         text,
-    )?;
-    write_call(global, heap, "children", Reading::ListChildren(view), text)?;
+    );
+    write_call(global, heap, "children", Reading::ListChildren(view), text);
     let tree = grow(global, view)?;
-    write_trees(global, heap, view, &tree, text)
+    write!(text, "tree of {} grown", tree.count());
+    write_call(global, heap, "", Reading::GrowTree(view, &tree), text);
+    write_call(global, heap, "tree copied", Reading::CopyTree(&tree), text);
+    let whole = Reading::WriteTree(&tree, Form::Text);
+    write_call(global, heap, "tree written", whole, text);
+    let props = Reading::WriteTree(&tree, Form::Props);
+    write_call(global, heap, "root's properties written", props, text);
+    Ok(())
 }
 
 // Adds the ids of a path, or that there is none.
-fn write_ids(ids: Option<&[ObjId]>, text: &mut String) -> Result<(), AllocError> {
+fn write_ids(ids: Option<&[ObjId]>, text: &mut Text) {
     let Some(ids) = ids else {
         return text.push_str("no path");
     };
-    text.push_str("path")?;
+    text.push_str("path");
     for id in ids {
-        write!(text, " {id}")?;
+        write!(text, " {id}");
     }
-    Ok(())
 }
 
 /// Adds the path to an object in a document's tree, and what comes of looking for it.
@@ -265,13 +238,14 @@ pub fn write_path(
     heap: &Refusing<Global>,
     doc: &Doc,
     id: ObjId,
-    text: &mut String,
+    text: &mut Text,
 ) -> Result<(), AllocError> {
     let tree = grow(global, doc)?;
     let found = tree.path_to(global, id)?;
     let path = found.as_deref();
-    write_ids(path, text)?;
-    write_growths(global, heap, &Reading::FindPath(&tree, id, path), text)
+    write_ids(path, text);
+    write_growths(global, heap, &Reading::FindPath(&tree, id, path), text);
+    Ok(())
 }
 
 /// Adds what comes of the calls that read a server.
@@ -279,7 +253,7 @@ pub fn write_server(
     global: Global,
     heap: &Refusing<Global>,
     server: &Server,
-    text: &mut String,
+    text: &mut Text,
 ) -> Result<(), AllocError> {
     let state = server.state();
     write_call(
@@ -288,12 +262,10 @@ pub fn write_server(
         "state copied",
         Reading::CopyState(state),
         text,
-    )?;
-    match server.tail(global, server.floor(), MOST_TOLD)? {
-        Some(entries) => {
-            let reading = Reading::TellEntries(server, &entries);
-            write_call(global, heap, "entries told", reading, text)
-        }
-        None => Ok(()),
+    );
+    if let Some(entries) = server.tail(global, server.floor(), MOST_TOLD)? {
+        let reading = Reading::TellEntries(server, &entries);
+        write_call(global, heap, "entries told", reading, text);
     }
+    Ok(())
 }

@@ -3,6 +3,7 @@ use crate::events::events_in;
 use crate::reads::{write_server, write_view};
 use crate::same::same_world;
 use crate::trials::{Trial, write_growths};
+use canvas_cases::Text;
 use canvas_script::Item;
 use canvas_world::{Answer, Event, World};
 use refusing::Refusing;
@@ -121,7 +122,7 @@ fn write_item(
     items: &[Item],
     item: &Item,
     stage: &mut Stage<Global>,
-    text: &mut String,
+    text: &mut Text,
 ) -> Result<(), AllocError> {
     match item {
         Item::ShowsServer => write_server(global, heap, stage.world.server(), text),
@@ -133,9 +134,10 @@ fn write_item(
             let at = stage.done;
             let answer = stage.step()?;
             if let Some(answer) = answer {
-                write!(text, "{answer:?}")?;
+                write!(text, "{answer:?}");
             }
-            write_growths(global, heap, &Part { items, at, answer }, text)
+            write_growths(global, heap, &Part { items, at, answer }, text);
+            Ok(())
         }
     }
 }
@@ -147,17 +149,18 @@ pub fn write_story(
     global: Global,
     heap: &Refusing<Global>,
     items: &[Item],
-    text: &mut String,
+    text: &mut Text,
 ) -> Result<(), AllocError> {
     let mut stage = Stage::after(global, global, items, 0)?;
     for item in items {
         write_item(global, heap, items, item, &mut stage, text)?;
     }
-    text.push_str("all at once")?;
+    text.push_str("all at once");
     let all = Part {
         items,
         at: 0,
         answer: None,
     };
-    write_growths(global, heap, &all, text)
+    write_growths(global, heap, &all, text);
+    Ok(())
 }

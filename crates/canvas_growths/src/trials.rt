@@ -1,4 +1,5 @@
 // Calls that are made once for each of their growths, with that growth refused.
+use canvas_cases::Text;
 use refusing::Refusing;
 use std::alloc::{AllocError, Allocator, Global};
 
@@ -102,24 +103,25 @@ pub fn write_growths<'h, T: Trial<&'h Refusing<Global>>>(
     global: Global,
     heap: &'h Refusing<Global>,
     trial: &T,
-    text: &mut String,
-) -> Result<(), AllocError> {
+    text: &mut Text,
+) {
     let mut refused = 0u64;
     let mut absorbed = 0u64;
     let mut end = Went::Otherwise;
     for number in 1..MOST {
-        match refuse(global, heap, trial, number)? {
-            Went::Refused => refused = refused.saturating_add(1),
-            Went::Absorbed => absorbed = absorbed.saturating_add(1),
-            other => {
+        match refuse(global, heap, trial, number) {
+            Ok(Went::Refused) => refused = refused.saturating_add(1),
+            Ok(Went::Absorbed) => absorbed = absorbed.saturating_add(1),
+            Ok(other) => {
                 end = other;
                 break;
             }
+            Err(_) => return text.refuse(),
         }
     }
-    write!(text, ", {refused} refused")?;
+    write!(text, ", {refused} refused");
     if absorbed > 0 {
-        write!(text, ", {absorbed} absorbed")?;
+        write!(text, ", {absorbed} absorbed");
     }
-    text.push_str(end_text(end))
+    text.push_str(end_text(end));
 }

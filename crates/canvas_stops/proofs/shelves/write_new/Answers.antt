@@ -1,4 +1,4 @@
-use Rattle.std.proofs.Common.{◌≡◌, ◌∙◌, IsTrue, ap, subst}
+use Rattle.std.proofs.Common.{◌∙◌, IsTrue, ap, subst}
 use Rattle.canvas_shelf.specs.Disk.{is_listed}
 use Rattle.canvas_journal.proofs.Listed.{is_listed-appended}
 use Rattle.canvas_stops.proofs.Listed.{created_is_listed}
