@@ -18,8 +18,7 @@ pub fn add_bytes(alloc: Global, bytes: &[u8], sent: &mut Vec<u8>) -> Result<(), 
 }
 
 /// Adds the bytes by which a client sends a message of this text.
-pub fn add_text(alloc: Global, text: &[u8], sent: &mut Vec<u8>) -> Result<(), AllocError> {
-    let text = str::from_utf8(text).unwrap_or("");
+pub fn add_text(alloc: Global, text: &str, sent: &mut Vec<u8>) -> Result<(), AllocError> {
     add_message(alloc, Message::text(alloc, text)?, sent)
 }
 

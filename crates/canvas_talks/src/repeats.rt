@@ -1,35 +1,28 @@
 // Lines that come again.
-use std::alloc::{AllocError, Global};
+use canvas_cases::Text;
 
 // Adds a line that came so often in a row.
-fn add(alloc: Global, line: &[u8], times: u64, out: &mut Vec<u8>) -> Result<(), AllocError> {
-    if times == 0 {
-        return Ok(());
-    }
+fn add(line: &str, times: u64, text: &mut Text) {
     if times > 1 {
-        let often = format!(in alloc; "{times} x ")?;
-        out.extend_from_slice(often.as_bytes())?;
+        write!(text, "{times} x ");
     }
-    out.extend_from_slice(line)?;
-    out.push(b'\n')?;
-    Ok(())
+    if times > 0 {
+        write!(text, "{line}\n");
+    }
 }
 
 /// Adds these lines, those that come more than once in a row behind how often they do.
-pub fn add_lines(alloc: Global, lines: &[u8], out: &mut Vec<u8>) -> Result<(), AllocError> {
-    let Some(lines) = lines.strip_suffix(b"\n") else {
-        return Ok(());
-    };
-    let mut last: &[u8] = &[];
+pub fn add_lines(lines: &str, text: &mut Text) {
+    let mut last = "";
     let mut times = 0u64;
-    for line in lines.split(|byte| *byte == b'\n') {
+    for line in lines.lines() {
         if times > 0 && line == last {
             times = times.saturating_add(1);
         } else {
-            add(alloc, last, times, out)?;
+            add(last, times, text);
             last = line;
             times = 1;
         }
     }
-    add(alloc, last, times, out)
+    add(last, times, text);
 }

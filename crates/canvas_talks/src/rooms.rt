@@ -3,7 +3,8 @@ ghost use Rattle.std.specs.Prelude.{◌≡◌};
 
 use crate::sharing::Sharing;
 use canvas_board::{Opening, RoomName};
-use canvas_journal::{Journal, open};
+use canvas_cases::Text;
+use canvas_journal::{Journal, Keeper, open};
 use canvas_nodes::Answerer;
 use canvas_room::{BlankRoom, Lock, Room, Seat, blank_room};
 use canvas_shelf::{Call, MemShelf};
@@ -17,8 +18,21 @@ use tungstenite::Role;
 // What keeps the entries of such a room.
 type MemJournal = Journal<MemShelf>;
 
-// A seat of such a room.
-type MemSeat<N, R> = Seat<N, Lock<MemJournal, N, R>>;
+// A keeper that tells which segments were made on its shelf. What asks it is generic in it, since the type of a room over a journal is large.
+trait Making {
+    // Adds the numbers of the segments that were made so far.
+    fn write_made(&self, text: &mut Text);
+}
+
+impl Making for MemJournal {
+    fn write_made(&self, text: &mut Text) {
+        for call in self.shelf().calls() {
+            if let Call::Create(number) = call {
+                write!(text, " {number}");
+            }
+        }
+    }
+}
 
 /// What a client sends to the seat of a new room.
 #[derive(Clone, Copy)]
@@ -31,10 +45,10 @@ pub struct Talk<'a> {
     pub is_shared: bool,
 }
 
-/// What a client was sent, one message a line, and the segments that were made on the room's shelf.
+/// What a client was sent, one message a line, and the segments that were made on the room's shelf, each behind a blank.
 pub struct Answers {
     pub texts: Vec<u8>,
-    pub segments: Vec<u32>,
+    pub segments: Text,
 }
 
 impl Drop for Answers {
@@ -67,62 +81,47 @@ fn told<A: Answerer>(alloc: Global, answerer: &mut A, bytes: &[u8]) -> Result<Ve
 }
 
 // The same of a connection to this seat.
-fn told_at<N: RoomName, R: Wait + Copy + Drop>(
+fn told_at<K: Keeper + Drop, N: RoomName, R: Wait + Copy + Drop>(
     alloc: Global,
     rt: R,
-    seat: MemSeat<N, R>,
+    seat: Seat<N, Lock<K, N, R>>,
     talk: Talk<'_>,
 ) -> Result<Vec<u8>, AllocError> {
     let mut answerer = Sharing::new(alloc, rt, seat, talk.is_shared);
     told(alloc, &mut answerer, talk.sent)
 }
 
-// Notes the segments that were made on the shelf of a room.
-fn note_segments<N: RoomName, R: Wait + Drop, W: Wait>(
-    rt: &W,
-    room: &Room<MemJournal, N, R>,
-    segments: &mut Vec<u32>,
-) -> Result<(), AllocError> {
-    let desk = room.desk(rt);
-    for call in desk.keeper().shelf().calls() {
-        if let Call::Create(number) = call {
-            segments.push(*number)?;
-        }
-    }
-    Ok(())
-}
-
-// Holds the talk with this seat of a room.
-fn hold_at<N: RoomName, R: Wait + Copy + Drop>(
+// The segments that were made on the shelf of a room.
+fn made_in<K: Keeper + Making + Drop, N: RoomName, R: Wait + Drop, W: Wait>(
     alloc: Global,
-    rt: R,
-    room: &Room<MemJournal, N, R>,
-    seat: MemSeat<N, R>,
-    talk: Talk<'_>,
-) -> Result<Answers, AllocError> {
-    let texts = told_at(alloc, rt, seat, talk)?;
-    let mut segments = Vec::new(alloc);
-    note_segments(&rt, room, &mut segments)?;
-    Ok(Answers { texts, segments })
+    rt: &W,
+    room: &Room<K, N, R>,
+) -> Text {
+    let mut segments = Text::new(alloc);
+    let desk = room.desk(rt);
+    desk.keeper().write_made(&mut segments);
+    segments
 }
 
 // Opens the room, and holds the talk with its seat.
-fn hold_in<N: RoomName, R: Wait + Copy + Drop>(
+fn hold_in<N: RoomName, K: Keeper + Making + Drop, R: Wait + Copy + Drop>(
     alloc: Global,
     rt: R,
-    blank: BlankRoom<MemJournal>,
+    blank: BlankRoom<K>,
     talk: Talk<'_>,
 ) -> Result<Answers, AllocError>
     requires book { blank.book ≡ N.book }
     requires opening { blank.opening ≡ N.opening }
 {
-    match blank.open::<N, R>(rt) {
-        Ok((room, mut seats)) => match seats.pop() {
-            Some(seat) => hold_at(alloc, rt, &room, seat, talk),
-            None => Err(AllocError),
-        },
-        Err(_) => Err(AllocError),
-    }
+    let Ok((room, mut seats)) = blank.open::<N, R>(rt) else {
+        return Err(AllocError);
+    };
+    let Some(seat) = seats.pop() else {
+        return Err(AllocError);
+    };
+    let texts = told_at(alloc, rt, seat, talk)?;
+    let segments = made_in(alloc, &rt, &room);
+    Ok(Answers { texts, segments })
 }
 
 /// Holds a talk over a WebSocket in memory.
@@ -131,5 +130,5 @@ pub fn hold<R: Wait + Copy + Drop>(
     rt: R,
     talk: Talk<'_>,
 ) -> Result<Answers, AllocError> {
-    hold_in::<Brand, R>(alloc, rt, blank(alloc, talk.calls)?, talk)
+    hold_in::<Brand, MemJournal, R>(alloc, rt, blank(alloc, talk.calls)?, talk)
 }

@@ -2,7 +2,7 @@
 use crate::messages::{add_beginnings, add_bytes, add_text};
 use crate::repeats::add_lines;
 use crate::rooms::{Answers, Talk, hold};
-use canvas_cases::Answerer;
+use canvas_cases::{Answerer, Text};
 use std::alloc::{AllocError, Global};
 use std::sync::Wait;
 
@@ -28,14 +28,9 @@ impl<R: Wait + Copy + Drop> Drop for Talks<R> {
     }
 }
 
-// The number of a text of decimal digits.
-fn number(text: &[u8]) -> Option<u64> {
-    str::from_utf8(text).ok()?.parse::<u64>().ok()
-}
-
 // The two numbers of a text, with a blank between.
-fn bounds(text: &[u8]) -> Option<(u64, u64)> {
-    let (first, last) = str::from_utf8(text).ok()?.split_once(' ')?;
+fn bounds(text: &str) -> Option<(u64, u64)> {
+    let (first, last) = text.split_once(' ')?;
     Some((first.parse::<u64>().ok()?, last.parse::<u64>().ok()?))
 }
 
@@ -49,19 +44,9 @@ fn add_edits(alloc: Global, first: u64, last: u64, sent: &mut Vec<u8>) -> Result
 }
 
 // Adds a message of the bytes that these hex digits spell; where they spell none, an empty one.
-fn add_hex(alloc: Global, digits: &[u8], sent: &mut Vec<u8>) -> Result<(), AllocError> {
-    let bytes = hex::decode(alloc, digits).unwrap_or(Vec::new(alloc));
+fn add_hex(alloc: Global, digits: &str, sent: &mut Vec<u8>) -> Result<(), AllocError> {
+    let bytes = hex::decode(alloc, digits.as_bytes()).unwrap_or(Vec::new(alloc));
     add_bytes(alloc, &bytes, sent)
-}
-
-// Adds the segments that were made, in a line.
-fn add_segments(alloc: Global, segments: &[u32], out: &mut Vec<u8>) -> Result<(), AllocError> {
-    let mut line = String::from_str(alloc, "segments:")?;
-    for number in segments {
-        write!(line, " {number}")?;
-    }
-    line.push('\n')?;
-    out.extend_from_slice(line.as_bytes())
 }
 
 impl<R: Wait + Copy + Drop> Talks<R> {
@@ -76,31 +61,32 @@ impl<R: Wait + Copy + Drop> Talks<R> {
         }
     }
 
-    // Takes a line that says something of the talk, and tells whether it was one.
-    fn take_word(&mut self, alloc: Global, line: &[u8]) -> Result<bool, AllocError> {
-        if let Some(calls) = line.strip_prefix(b"fuse ") {
-            self.calls = number(calls).unwrap_or(u64::MAX);
-        } else if let Some((first, last)) = line.strip_prefix(b"edits ").and_then(bounds) {
-            add_edits(alloc, first, last, &mut self.sent)?;
-        } else if line == b"segments".as_slice() {
-            self.asks_segments = true;
-        } else {
-            return Ok(false);
-        }
-        Ok(true)
-    }
-
     // Takes a line that stands for messages.
-    fn take_messages(&mut self, alloc: Global, line: &[u8]) -> Result<(), AllocError> {
-        if let Some(message) = line.strip_prefix(b"beginnings ") {
-            add_beginnings(alloc, message, &mut self.sent)
-        } else if let Some(text) = line.strip_prefix(b"text ") {
+    fn take_messages(&mut self, alloc: Global, line: &str) -> Result<(), AllocError> {
+        if let Some((first, last)) = line.strip_prefix("edits ").and_then(bounds) {
+            add_edits(alloc, first, last, &mut self.sent)
+        } else if let Some(message) = line.strip_prefix("beginnings ") {
+            add_beginnings(alloc, message.as_bytes(), &mut self.sent)
+        } else if let Some(text) = line.strip_prefix("text ") {
             add_text(alloc, text, &mut self.sent)
-        } else if let Some(digits) = line.strip_prefix(b"bytes ") {
+        } else if let Some(digits) = line.strip_prefix("bytes ") {
             add_hex(alloc, digits, &mut self.sent)
         } else {
-            add_bytes(alloc, line, &mut self.sent)
+            add_bytes(alloc, line.as_bytes(), &mut self.sent)
         }
+    }
+
+    // Takes a line that says something of the talk.
+    fn take(&mut self, alloc: Global, line: &str) -> Result<(), AllocError> {
+        if let Some(calls) = line.strip_prefix("fuse ") {
+            self.calls = calls.parse::<u64>().unwrap_or(u64::MAX);
+            return Ok(());
+        }
+        if line == "segments" {
+            self.asks_segments = true;
+            return Ok(());
+        }
+        self.take_messages(alloc, line)
     }
 
     // What comes of the talk so far.
@@ -114,27 +100,27 @@ impl<R: Wait + Copy + Drop> Talks<R> {
     }
 
     // Adds what is new of the answers to the talk so far.
-    fn tell(
-        &mut self,
-        alloc: Global,
-        answers: &Answers,
-        out: &mut Vec<u8>,
-    ) -> Result<(), AllocError> {
+    fn tell(&mut self, answers: &Answers, text: &mut Text) {
         let before = self.told.min(answers.texts.len());
-        add_lines(alloc, &answers.texts[before..], out)?;
+        add_lines(
+            str::from_utf8(&answers.texts[before..]).unwrap_or("?"),
+            text,
+        );
         self.told = answers.texts.len();
         if self.asks_segments {
             self.asks_segments = false;
-            add_segments(alloc, &answers.segments, out)?;
+            text.push_str("segments:");
+            text.push_text(&answers.segments);
+            text.push_str("\n");
         }
-        Ok(())
     }
 
-    // Adds a line where a seat that answers by a copy sends other texts.
-    fn compare(&self, alloc: Global, texts: &[u8], out: &mut Vec<u8>) -> Result<(), AllocError> {
-        let shared = self.hold(alloc, true)?;
-        if shared.texts.as_slice() != texts {
-            out.extend_from_slice(b"(by a copy that is held, something else)\n")?;
+    // Adds what comes of the talk, and a line where a seat that answers by a copy sends other texts.
+    fn write_talk(&mut self, alloc: Global, text: &mut Text) -> Result<(), AllocError> {
+        let answers = self.hold(alloc, false)?;
+        self.tell(&answers, text);
+        if self.hold(alloc, true)?.texts != answers.texts {
+            text.push_str("(by a copy that is held, something else)\n");
         }
         Ok(())
     }
@@ -150,17 +136,11 @@ impl<R: Wait + Copy + Drop> Answerer for Talks<R> {
     }
 
     fn answer(&mut self, alloc: Global, asked: &[u8], out: &mut Vec<u8>) -> Result<(), AllocError> {
-        for line in asked
-            .strip_suffix(b"\n")
-            .unwrap_or(asked)
-            .split(|byte| *byte == b'\n')
-        {
-            if !self.take_word(alloc, line)? {
-                self.take_messages(alloc, line)?;
-            }
+        for line in str::from_utf8(asked).unwrap_or("?").lines() {
+            self.take(alloc, line)?;
         }
-        let answers = self.hold(alloc, false)?;
-        self.tell(alloc, &answers, out)?;
-        self.compare(alloc, &answers.texts, out)
+        let mut text = Text::new(alloc);
+        self.write_talk(alloc, &mut text)?;
+        text.put(out)
     }
 }
