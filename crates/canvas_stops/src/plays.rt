@@ -6,7 +6,7 @@ use crate::rooms::{BlankOn, left_of};
 use crate::steps::{SeatOf, entries_of, write_read, write_step};
 use canvas_board::RoomName;
 use canvas_cases::Text;
-use canvas_journal::{Journal, Keeper};
+use canvas_journal::Keeper;
 use canvas_room::Room;
 use std::alloc::{AllocError, Global};
 use std::marker::Brand;
@@ -80,47 +80,6 @@ impl<'a> Play<'a> {
         write_read(alloc, one, text);
         write_read(alloc, two, text);
     }
-
-    // Asks a room with its seats.
-    fn ask_room<B: Fragile, N: RoomName, Q: Wait + Drop, W: Wait>(
-        self,
-        rt: &W,
-        alloc: Global,
-        room: &Room<Journal<B>, N, Q>,
-        seats: &mut [SeatOf<Journal<B>, N, Q>],
-    ) -> Result<Played<B>, AllocError> {
-        let opened = version_of(rt, room);
-        let mut text = Text::new(alloc);
-        self.ask_lines(rt, alloc, room, seats, opened, &mut text);
-        played_in(rt, alloc, room, opened, text)
-    }
-}
-
-// The version that a room has published.
-fn version_of<K: Keeper + Drop, N: RoomName, Q: Wait + Drop, W: Wait>(
-    rt: &W,
-    room: &Room<K, N, Q>,
-) -> u64 {
-    room.desk(rt).version()
-}
-
-// What came of a script in a room that opened at this version, where its lines were answered this.
-fn played_in<B: Fragile, N: RoomName, Q: Wait + Drop, W: Wait>(
-    rt: &W,
-    alloc: Global,
-    room: &Room<Journal<B>, N, Q>,
-    opened: u64,
-    text: Text,
-) -> Result<Played<B>, AllocError> {
-    let desk = room.desk(rt);
-    let left = left_of(alloc, desk.keeper().shelf())?;
-    Ok(Played {
-        text,
-        opened,
-        ended: desk.version(),
-        failures: desk.keeper().failures(),
-        left,
-    })
 }
 
 // Asks this room, once it has its name.
@@ -133,10 +92,21 @@ fn played_under<N: RoomName, B: Fragile, R: Wait + Copy + Drop>(
     requires book { blank.book ≡ N.book }
     requires opening { blank.opening ≡ N.opening }
 {
-    match blank.open::<N, R>(rt) {
-        Ok((room, mut seats)) => play.ask_room(&rt, alloc, &room, &mut seats),
-        Err(_) => Err(AllocError),
-    }
+    let Ok((room, mut seats)) = blank.open::<N, R>(rt) else {
+        return Err(AllocError);
+    };
+    let opened = room.desk(&rt).version();
+    let mut text = Text::new(alloc);
+    play.ask_lines(&rt, alloc, &room, &mut seats, opened, &mut text);
+    let desk = room.desk(&rt);
+    let left = left_of(alloc, desk.keeper().shelf())?;
+    Ok(Played {
+        text,
+        opened,
+        ended: desk.version(),
+        failures: desk.keeper().failures(),
+        left,
+    })
 }
 
 /// What comes of a script that this room is asked.

@@ -1,4 +1,4 @@
-use Rattle.canvas_talks.proofs.rooms.hold.Given as goal
+use Rattle.canvas_hostile.proofs.rooms.hold.Given as goal
 
 -- the room that was just made
 abbrev pub ghosts-hold_in : goal.ghosts-hold_in

@@ -2,7 +2,7 @@
 use crate::messages::{add_beginnings, add_bytes, add_text};
 use crate::repeats::add_lines;
 use crate::rooms::{Answers, Talk, hold};
-use canvas_cases::{Answerer, Text};
+use canvas_cases::Text;
 use std::alloc::{AllocError, Global};
 use std::sync::Wait;
 
@@ -76,8 +76,11 @@ impl<R: Wait + Copy + Drop> Talks<R> {
         }
     }
 
-    // Takes a line that says something of the talk.
+    // Takes a line of the talk, of which `talk` is the first.
     fn take(&mut self, alloc: Global, line: &str) -> Result<(), AllocError> {
+        if line == "talk" {
+            return Ok(());
+        }
         if let Some(calls) = line.strip_prefix("fuse ") {
             self.calls = calls.parse::<u64>().unwrap_or(u64::MAX);
             return Ok(());
@@ -124,23 +127,25 @@ impl<R: Wait + Copy + Drop> Talks<R> {
         }
         Ok(())
     }
-}
 
-impl<R: Wait + Copy + Drop> Answerer for Talks<R> {
-    fn begin(&mut self, _alloc: Global) -> Result<(), AllocError> {
+    /// Forgets the talk.
+    pub fn clear(&mut self) {
         self.calls = u64::MAX;
         self.sent.clear();
         self.told = 0;
         self.asks_segments = false;
-        Ok(())
     }
 
-    fn answer(&mut self, alloc: Global, asked: &[u8], out: &mut Vec<u8>) -> Result<(), AllocError> {
+    /// Takes more lines of the talk, and adds what comes of it.
+    pub fn answer(
+        &mut self,
+        alloc: Global,
+        asked: &[u8],
+        text: &mut Text,
+    ) -> Result<(), AllocError> {
         for line in str::from_utf8(asked).unwrap_or("?").lines() {
             self.take(alloc, line)?;
         }
-        let mut text = Text::new(alloc);
-        self.write_talk(alloc, &mut text)?;
-        text.put(out)
+        self.write_talk(alloc, text)
     }
 }

@@ -1,6 +1,6 @@
 use denote.Text.{Utf8}
 use denote.Shadow.{shadow}
-use Rattle.canvas_talks.proofs.repeats.add_lines.Given as goal
+use Rattle.canvas_hostile.proofs.repeats.add_lines.Given as goal
 
 -- the last line is a text
 abbrev pub invariant-loop-line : goal.invariant-loop-line
