@@ -184,7 +184,14 @@ def origins(room):
         require(client.status == status, "Origin", origin, "is answered", client.status)
         client.drop()
     server.kill()
-    return f"{len(wanted)} origins"
+    named = ["null", "http://[::1]:8000", "capacitor://localhost", "file://"]
+    server = Server(room, *[word for origin in named for word in ("--origin", origin)], "--quiet")
+    for origin in named:
+        client = Client(server.port, origin=origin)
+        require(client.status == 101, "the named Origin", origin, "is answered", client.status)
+        client.drop()
+    server.kill()
+    return f"{len(wanted) + len(named)} origins"
 
 
 def identity(room):
@@ -568,6 +575,12 @@ def sentences(room):
     fault(2, "--clients", "serve", room, "--clients", "65")
     fault(2, "--port", "serve", room, "--port", "70000")
     fault(2, "Usage", "serve")
+    for origin in ("canvas.example", "https://canvas.example/", "https://Canvas.example", "https://canvas.example/page", "https:canvas.example",
+                   "://canvas.example", "https://canvas example", "https://canvas.example,http://b.example", ""):
+        fault(2, "--origin wants an origin", "serve", room, "--port", "0", "--origin", origin)
+    for site in (above, os.path.join(above, "nothing"), os.path.join(above, "file")):
+        fault(2, "--page wants a folder", "serve", os.path.join(above, "other"), "--port", "0", "--page", site)
+    require(not os.path.exists(os.path.join(above, "other")), "a missing page touches the folder")
     server.kill()
     with open(os.path.join(room, "identity"), "w") as name:
         name.write("nonsense\n")

@@ -116,11 +116,20 @@ fn page_file<R>(files: &R, shared: &Shared, file: PageFile) -> io::Result<Vec<u8
 where
     R: Files<File = File> + AllocGlobal,
 {
+    match &shared.page {
+        Some(folder) => read_page(files, folder, file),
+        None => Err(io::Error::from(io::ErrorKind::NotFound)),
+    }
+}
+
+/// What this file of a page holds, whose files are in the folder: at most its first 16 MiB.
+///
+/// Fails where it isn't there or can't be read, or memory was refused.
+pub fn read_page<R>(files: &R, folder: &str, file: PageFile) -> io::Result<Vec<u8>>
+where
+    R: Files<File = File> + AllocGlobal,
+{
     let alloc = files.alloc();
-    let folder = match &shared.page {
-        Some(folder) => folder.as_str(),
-        None => return Err(io::Error::from(io::ErrorKind::NotFound)),
-    };
     let name = file.name();
     let path = format!(in alloc; "{folder}/{name}")?;
     let mut bytes = Vec::new(alloc);

@@ -7,6 +7,7 @@ mod figures;
 mod noes;
 mod options;
 
+pub use answers::read_page;
 pub use doors::stand;
 pub use figures::Figures;
 pub use options::{Limits, Shared};

@@ -1,16 +1,16 @@
 // What `lugcurrant serve` does: a room over the journal of a document, whose seats serve clients for as long as it runs.
 ghost use Rattle.std.specs.Prelude.{◌≡◌, IfErr, IfOk, string_bytes};
 ghost use Rattle.canvas_http.specs.Identities.{IsIdentity};
-ghost use Rattle.canvas_places.specs.Faults.{IsJournalFault, IsPreparingFault, IsRunningFault, IsServeFault};
+ghost use Rattle.canvas_places.specs.Faults.{IsJournalFault, IsPageFault, IsPreparingFault, IsRunningFault, IsServeFault};
 
 use crate::copies::Copies;
 use crate::documents::{DocumentJournal, Ownership, open_document, ownership_of};
 use crate::opening::{FolderJournal, OpenRoom, listen, open_room, opened};
 use crate::tasks::{DoorTask, LeaseTask, SeatTask, begin_task};
 use canvas_board::RoomName;
-use canvas_doors::{Figures, Limits, Shared};
+use canvas_doors::{Figures, Limits, Shared, read_page};
 use canvas_folder::Removed;
-use canvas_http::Site;
+use canvas_http::{PageFile, Site};
 use canvas_identity::{Address, identity};
 use canvas_journal::Keeper;
 use canvas_places::{DocumentShelf, Fault};
@@ -20,7 +20,7 @@ use canvas_store::Lease;
 use canvas_words::{Options, Place, Serving};
 use crossbeam_channel::{Receiver, Sender, bounded};
 use std::alloc::Global;
-use std::io::Eprint;
+use std::io::{Eprint, ErrorKind};
 use std::marker::Brand;
 use std::net::{Net, TcpListener, TcpStream};
 use std::sync::atomic::{AtomicBool, Ordering};
@@ -44,10 +44,10 @@ const WAIT_MILLIS: u64 = 500;
 /// A folder is made where it is missing, and nobody else can open it to write meanwhile. A document in an etcd is taken over, under a
 /// lease that a thread keeps alive; a standby waits until nobody has it, and doesn't listen before. A `kill` at any moment is safe.
 ///
-/// The faults: `ClientCount`, only for fewer clients than 1 or more than 64; `PortInUse` and `NoPort`, where the port can't be had,
-/// and then the document is left alone; `FolderInUse`, `NoFolder`, `NoIdentity`, `Lost`, `NotKept` of a folder, `DocumentInUse`, `NoStore`,
-/// `NoKey` of a document in an etcd, and `Damaged` and `TooLarge`, where it isn't opened; `NoThread`, where not all threads can be made;
-/// `Memory`; and later `JournalFailed`, once the device of the journal has failed, or `StoreFailed` and `LeaseEnded` of an etcd.
+/// The faults: `NoPage`, where the options name the folder of a page and no file `index.html` can be read in it, and `PortInUse` and
+/// `NoPort`, where the port can't be had, and then the document is left alone; `ClientCount`, only for fewer clients than 1 or more than
+/// 64; `FolderInUse`, `NoFolder`, `NoIdentity`, `Lost`, `NotKept` of a folder, `DocumentInUse`, `NoStore`, `NoKey` of a document in an
+/// etcd, and `Damaged` and `TooLarge`, where it isn't opened; `NoThread`, where not all threads can be made; `Memory`; and later `JournalFailed`, once the device of the journal has failed, or `StoreFailed` and `LeaseEnded` of an etcd.
 pub fn serve<R>(rt: &R, files: HostRuntime, options: Options) -> Fault
 where
     R: Net<Listener = TcpListener, Stream = TcpStream>
@@ -64,9 +64,28 @@ where
     ensures { IsServeFault options.serving.clients result }
 {
     let (place, serving) = options.apart();
+    if let Err(fault) = look_at_page(&files, &serving) {
+        return fault;
+    }
     match &place {
         Place::Folder(dir) => serve_folder(rt, files, dir, serving),
         Place::Document(address) => serve_document(rt, files, address, serving),
+    }
+}
+
+// Looks whether the page is there that is to be served, if one is.
+fn look_at_page(files: &HostRuntime, serving: &Serving) -> Result<(), Fault>
+    ensures { IfErr result IsPageFault }
+{
+    let Some(folder) = &serving.page else {
+        return Ok(());
+    };
+    match read_page(files, folder, PageFile::Index) {
+        Ok(_) => Ok(()),
+        Err(error) => match error.kind() {
+            ErrorKind::OutOfMemory => Err(Fault::Memory),
+            _ => Err(Fault::NoPage),
+        },
     }
 }
 

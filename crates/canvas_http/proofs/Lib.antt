@@ -1,6 +1,7 @@
 pub mod FieldLemmas
 pub mod HeadLines
 pub mod Laws
+pub mod Origins
 pub mod Paths
 pub mod ResponseLemmas
 pub mod Words

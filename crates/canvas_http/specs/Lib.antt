@@ -2,6 +2,7 @@ pub mod Answers
 pub mod Fields
 pub mod Heads
 pub mod Identities
+pub mod Origins
 pub mod Responses
 pub mod Sites
 pub mod Table

@@ -19,12 +19,13 @@ use Rattle.canvas_care.specs.declared.fault.Fault as care
 use Rattle.canvas_care.specs.declared.fault.Fault.TheVariants as looked
 use Rattle.canvas_places.specs.Causes.{cause_text, loss_text}
 use Rattle.canvas_places.specs.declared.fault.Fault.{Fault}
-use Rattle.canvas_places.specs.declared.fault.Fault.TheVariants.{ClientCount, PortInUse, NoPort, FolderInUse, NoFolder, NoIdentity, DocumentInUse, NoStore, NoKey, Damaged, Lost, NotKept, TooLarge, NoThread, JournalFailed, StoreFailed, LeaseEnded, Memory}
+use Rattle.canvas_places.specs.declared.fault.Fault.TheVariants.{ClientCount, NoPage, PortInUse, NoPort, FolderInUse, NoFolder, NoIdentity, DocumentInUse, NoStore, NoKey, Damaged, Lost, NotKept, TooLarge, NoThread, JournalFailed, StoreFailed, LeaseEnded, Memory}
 
--- 2 for a wrong number of clients, 3 for want of memory, 5 for a journal that is damaged or would lose something, 6 for one without room,
+-- 2 for a wrong number of clients and for no page, 3 for want of memory, 5 for a journal that is damaged or would lose something, 6 for one without room,
 -- and 4 for all that the system refuses
 abbrev pub status_of : Fault → ℕ
 status_of ClientCount = 2
+status_of NoPage = 2
 status_of PortInUse = 4
 status_of NoPort = 4
 status_of FolderInUse = 4
@@ -46,6 +47,7 @@ status_of Memory = 3
 -- the sentence that tells of a fault at this folder, or document of this name, and port
 abbrev pub sentence : Fault → List ℕ → ℕ → List ℕ
 sentence ClientCount dir port = codes "1 to 64 clients can be served at once"
+sentence NoPage dir port = codes "--page wants a folder with a file index.html that can be read"
 sentence PortInUse dir port = codes "port " ++ decimal port ++ codes " is in use: end the other program, or choose another port"
 sentence NoPort dir port = codes "port " ++ decimal port ++ codes " can't be had: choose one above 1023"
 sentence FolderInUse dir port = codes "another server has the folder " ++ dir
@@ -121,6 +123,10 @@ abbrev pub fault_of_shelf : ShelfError → Fault
 fault_of_shelf shelf.Device = NoFolder
 fault_of_shelf shelf.Memory = Memory
 
+-- why a server doesn't get its page
+abbrev pub IsPageFault : Fault → Type 0
+IsPageFault fault = (fault ≡ NoPage) ⊎ (fault ≡ Memory)
+
 -- the fault is one of the port
 abbrev pub IsPortFault : Fault → Type 0
 IsPortFault fault = (fault ≡ PortInUse) ⊎ (fault ≡ NoPort)
@@ -132,6 +138,7 @@ IsClientCount clients = (0 < clients) × (clients ≤ 64)
 -- why a document isn't opened for so many clients
 abbrev pub IsOpeningFault : ℕ → Fault → Type 0
 IsOpeningFault clients ClientCount = IsClientCount clients → ⊥
+IsOpeningFault clients NoPage = ⊥
 IsOpeningFault clients PortInUse = ⊥
 IsOpeningFault clients NoPort = ⊥
 IsOpeningFault clients FolderInUse = Unit {0}
@@ -175,7 +182,7 @@ IsRunningFault fault = (fault ≡ NoThread) ⊎ IsJournalFault fault ⊎ (fault 
 
 -- what may end a server for so many clients
 abbrev pub IsServeFault : ℕ → Fault → Type 0
-IsServeFault clients fault = IsPreparingFault clients fault ⊎ IsRunningFault fault
+IsServeFault clients fault = IsPageFault fault ⊎ IsPreparingFault clients fault ⊎ IsRunningFault fault
 
 -- the fault's status, where it was told by its sentence in a line of its own, or 4
 abbrev pub IsEnd : Fault → List ℕ → ℕ → ℕ → Option (List ℕ) → Option (List ℕ) → Type 0

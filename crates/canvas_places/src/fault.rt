@@ -19,6 +19,8 @@ use std::fmt;
 pub enum Fault {
     /// Fewer clients than 1 or more than 64 were asked for.
     ClientCount,
+    /// The folder of the page has no file `index.html` that can be read.
+    NoPage,
     /// Another program listens at the port.
     PortInUse,
     /// The port can't be had for another reason.
@@ -75,7 +77,7 @@ impl Fault {
         ensures { result ≡ status_of self.now }
     {
         match self {
-            Fault::ClientCount => 2,
+            Fault::ClientCount | Fault::NoPage => 2,
             Fault::Memory => 3,
             Fault::PortInUse
             | Fault::NoPort
@@ -115,6 +117,10 @@ impl fmt::Display for Told<'_> {
         let Told { fault, dir, port } = *self;
         match fault {
             Fault::ClientCount => write!(f, "1 to 64 clients can be served at once"),
+            Fault::NoPage => write!(
+                f,
+                "--page wants a folder with a file index.html that can be read"
+            ),
             Fault::PortInUse => write!(
                 f,
                 "port {port} is in use: end the other program, or choose another port"

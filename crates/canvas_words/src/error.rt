@@ -1,25 +1,52 @@
 // Why words ask for nothing.
 use canvas_identity::AddressError;
-use clap::Error;
 use std::alloc::{AllocError, AllocFailed};
+use thiserror::Error;
 
 /// Why words ask for nothing.
 #[derive(Drop)]
 pub enum WordsError {
     /// They are no command, or ask for its help or version.
-    Line(Error),
-    /// They don't say where a document in an etcd is; or memory was refused.
-    Address(AddressError),
+    Line(clap::Error),
+    /// They are a command, of which a word isn't as it has to be; or memory was refused.
+    Word(WordError),
+}
+
+/// Which word isn't as it has to be.
+#[derive(Clone, Copy, Debug, PartialEq, Eq, Error)]
+pub enum WordError {
+    /// An origin isn't as browsers send it.
+    #[error("no origin")]
+    NotAnOrigin,
+    /// The URLs of an etcd aren't as `http://127.0.0.1:2379`, or there is none.
+    #[error("no URL of an etcd")]
+    NotAUrl,
+    /// The name of a document in an etcd isn't 1 to 64 letters, digits, `-`, `.` and `_`.
+    #[error("no name of a document")]
+    NotAName,
+    /// Memory was refused.
+    #[error("out of memory")]
+    Memory,
+}
+
+impl From<AddressError> for WordsError {
+    fn from(error: AddressError) -> WordsError {
+        WordsError::Word(match error {
+            AddressError::NotAUrl => WordError::NotAUrl,
+            AddressError::NotAName => WordError::NotAName,
+            AddressError::Memory => WordError::Memory,
+        })
+    }
 }
 
 impl From<AllocError> for WordsError {
     fn from(_: AllocError) -> WordsError {
-        WordsError::Address(AddressError::Memory)
+        WordsError::Word(WordError::Memory)
     }
 }
 
 impl<T: Drop> From<AllocFailed<T>> for WordsError {
     fn from(_: AllocFailed<T>) -> WordsError {
-        WordsError::Address(AddressError::Memory)
+        WordsError::Word(WordError::Memory)
     }
 }

@@ -6,5 +6,5 @@ mod error;
 mod words;
 
 pub use asked::{Asked, Options, Place, Serving};
-pub use error::WordsError;
+pub use error::{WordError, WordsError};
 pub use words::read_words;

@@ -1,17 +1,24 @@
 // The command line, as `clap` reads it.
+ghost use Rattle.std.specs.Prelude.{IfOk, string_bytes};
+ghost use Rattle.std.specs.List.{All};
+ghost use Rattle.canvas_http.specs.Origins.{IsOrigin};
+ghost use Rattle.canvas_words.specs.Origins.{AsksForOrigins, NamesOrigins};
 
 use crate::asked::{Asked, Options, Place, Serving};
-use crate::error::WordsError;
+use crate::error::{WordError, WordsError};
 use canvas_care::Layout;
-use canvas_identity::{Address, AddressError};
+use canvas_http::is_origin;
+use canvas_identity::Address;
 use clap::{Arg, ArgAction, ArgGroup, ArgMatches, Command, value_parser};
 use std::alloc::{AllocError, Global};
 
 /// What the words ask for, of which the first is the program's name.
 ///
 /// The errors: `Line` is `clap`'s: it has the text to print, which for `--help` and `--version` is no fault, and the program's status;
-/// `Address`, where they don't say where a document in an etcd is.
-pub fn read_words<'a>(alloc: Global, words: &'a [String]) -> Result<Asked, WordsError> {
+/// `Word`, where an origin, a URL or a name isn't as it has to be, or memory was refused.
+pub fn read_words<'a>(alloc: Global, words: &'a [String]) -> Result<Asked, WordsError>
+    ensures { IfOk result AsksForOrigins }
+{
     match program(alloc)?.try_get_matches_from(words) {
         Ok(matches) => asked_of(alloc, &matches),
         Err(error) => Err(WordsError::Line(error)),
@@ -19,15 +26,19 @@ pub fn read_words<'a>(alloc: Global, words: &'a [String]) -> Result<Asked, Words
 }
 
 // What the words ask for that match the command line so.
-fn asked_of(alloc: Global, matches: &ArgMatches<'_>) -> Result<Asked, WordsError> {
+fn asked_of(alloc: Global, matches: &ArgMatches<'_>) -> Result<Asked, WordsError>
+    ensures { IfOk result AsksForOrigins }
+{
     match matches.subcommand() {
         Some((name, matches)) => command_of(alloc, name, matches),
-        None => Err(WordsError::Address(AddressError::Memory)),
+        None => Err(WordsError::Word(WordError::Memory)),
     }
 }
 
 // What the command of this name asks for.
-fn command_of(alloc: Global, name: &str, matches: &ArgMatches<'_>) -> Result<Asked, WordsError> {
+fn command_of(alloc: Global, name: &str, matches: &ArgMatches<'_>) -> Result<Asked, WordsError>
+    ensures { IfOk result AsksForOrigins }
+{
     Ok(match name {
         "serve" => Asked::Serve(options_of(alloc, matches)?),
         "show" => Asked::Show {
@@ -70,10 +81,7 @@ fn address_of(alloc: Global, matches: &ArgMatches<'_>) -> Result<Address, WordsE
         urls.push(String::from_str(alloc, url)?)?;
     }
     let name = matches.get_str("document").unwrap_or_default();
-    match Address::new(alloc, &urls, name) {
-        Ok(address) => Ok(address),
-        Err(error) => Err(WordsError::Address(error)),
-    }
+    Ok(Address::new(alloc, &urls, name)?)
 }
 
 // How the rows of a document are to be laid out, if they are asked for.
@@ -386,7 +394,9 @@ fn log_command<'a>(alloc: Global) -> Result<Command<'a>, AllocError> {
 }
 
 // What `serve` is asked for.
-fn options_of(alloc: Global, matches: &ArgMatches<'_>) -> Result<Options, WordsError> {
+fn options_of(alloc: Global, matches: &ArgMatches<'_>) -> Result<Options, WordsError>
+    ensures { IfOk result (λ options. NamesOrigins options.serving) }
+{
     let serving = serving_of(alloc, matches)?;
     Ok(Options {
         place: place_of(alloc, matches)?,
@@ -395,7 +405,9 @@ fn options_of(alloc: Global, matches: &ArgMatches<'_>) -> Result<Options, WordsE
 }
 
 // How a document is to be served.
-fn serving_of(alloc: Global, matches: &ArgMatches<'_>) -> Result<Serving, AllocError> {
+fn serving_of(alloc: Global, matches: &ArgMatches<'_>) -> Result<Serving, WordsError>
+    ensures { IfOk result NamesOrigins }
+{
     let origins = origins_of(alloc, matches)?;
     let page = page_of(alloc, matches)?;
     Ok(Serving {
@@ -412,12 +424,24 @@ fn serving_of(alloc: Global, matches: &ArgMatches<'_>) -> Result<Serving, AllocE
 }
 
 // The origins whose pages may connect.
-fn origins_of(alloc: Global, matches: &ArgMatches<'_>) -> Result<Vec<String>, AllocError> {
+fn origins_of(alloc: Global, matches: &ArgMatches<'_>) -> Result<Vec<String>, WordsError>
+    ensures { IfOk result (λ origins. All (λ text. IsOrigin (string_bytes text)) origins.items) }
+{
     let mut origins = Vec::new(alloc);
-    for origin in matches.get_strs("origin").unwrap_or_default() {
-        origins.push(String::from_str(alloc, origin)?)?;
+    for text in matches.get_strs("origin").unwrap_or_default() {
+        origins.push(origin_in(alloc, text)?)?;
     }
     Ok(origins)
+}
+
+// The origin that this text is.
+fn origin_in(alloc: Global, text: &str) -> Result<String, WordsError>
+    ensures { IfOk result (λ origin. IsOrigin (string_bytes origin)) }
+{
+    if !is_origin(text.as_bytes()) {
+        return Err(WordsError::Word(WordError::NotAnOrigin));
+    }
+    Ok(String::from_str(alloc, text)?)
 }
 
 // The folder of the page's files, if one is named.

@@ -1,8 +1,6 @@
 -- What the program did, by what its words ask for.
 use Rattle.std.specs.Prelude.{◌≡◌, ◌⊎◌, ℕ, List, [], ◌∷◌, ◌++◌, codes, Option, Some, None, string_bytes}
 use Rattle.std.specs.Io.KnownBytes.{Appends}
-use Rattle.canvas_identity.specs.declared.address.AddressError.{AddressError}
-use Rattle.canvas_identity.specs.declared.address.AddressError.TheVariants.{NotAUrl, NotAName, Memory}
 use Rattle.canvas_care.specs.Begun.{WritesBegun, WritesImported}
 use Rattle.canvas_care.specs.Checks.{WritesCheck, WritesShelf}
 use Rattle.canvas_care.specs.Faults.{Ends}
@@ -15,6 +13,8 @@ use Rattle.canvas_words.specs.declared.asked.Asked.{Asked}
 use Rattle.canvas_words.specs.declared.asked.Asked.TheVariants.{Serve, Show, Import, Restore, Move, Check, Log}
 use Rattle.canvas_words.specs.declared.asked.Place.{Place}
 use Rattle.canvas_words.specs.declared.asked.Place.TheVariants.{Folder, Document}
+use Rattle.canvas_words.specs.declared.error.WordError.{WordError}
+use Rattle.canvas_words.specs.declared.error.WordError.TheVariants.{NotAnOrigin, NotAUrl, NotAName, Memory}
 use Rattle.canvas_places.specs.Faults.{IsServed}
 
 -- the folder of a document, or its name in an etcd
@@ -61,25 +61,27 @@ Does (Check place) status read left written after faults told =
 Does (Log place) status read left written after faults told =
     (left ≡ read) × EndsAt place (WritesLog written after) status faults told
 
--- what is told of words that don't say where a document in an etcd is
-abbrev pub refusal : AddressError → List ℕ
+-- what is told of a word that isn't as it has to be
+abbrev pub refusal : WordError → List ℕ
+refusal NotAnOrigin = codes "--origin wants an origin as browsers send it, https://canvas.example: small letters, and no path or slash behind"
 refusal NotAUrl = codes "--etcd wants URLs as http://127.0.0.1:2379, with commas between them"
 refusal NotAName = codes "--document wants a name of 1 to 64 letters, digits, -, . and _"
 refusal Memory = codes "out of memory"
 
 -- 2 for words, 3 for want of memory
-abbrev pub refusal_status : AddressError → ℕ
+abbrev pub refusal_status : WordError → ℕ
+refusal_status NotAnOrigin = 2
 refusal_status NotAUrl = 2
 refusal_status NotAName = 2
 refusal_status Memory = 3
 
 -- the status of the refusal, where it was told in a line of its own, or 4
-abbrev pub IsRefused : AddressError → ℕ → (faults told : Option (List ℕ)) → Type 0
+abbrev pub IsRefused : WordError → ℕ → (faults told : Option (List ℕ)) → Type 0
 IsRefused error status faults told = ((status ≡ refusal_status error) × Appends faults told (refusal error ++ 10 ∷ [])) ⊎ (status ≡ 4)
 
--- what some words ask for was done; or they ask for nothing, or for help, and then nothing was read or written, and at most it was told that
--- they don't say where a document is
+-- what some words ask for was done; or they ask for nothing, or for help, and then nothing was read or written, and at most it was told which
+-- of them isn't as it has to be
 abbrev pub IsRun : ℕ → (read left written after faults told : Option (List ℕ)) → Type 0
 IsRun status read left written after faults told =
     ((asked : Asked) × Does asked status read left written after faults told)
-    ⊎ ((left ≡ read) × (after ≡ written) × ((told ≡ faults) ⊎ ((error : AddressError) × IsRefused error status faults told)))
+    ⊎ ((left ≡ read) × (after ≡ written) × ((told ≡ faults) ⊎ ((error : WordError) × IsRefused error status faults told)))

@@ -9,9 +9,8 @@ use crate::remote::{
 };
 use canvas_care::Layout;
 use canvas_host::serve;
-use canvas_identity::AddressError;
 use canvas_places::{Fault, Told};
-use canvas_words::{Asked, Options, Place, WordsError, read_words};
+use canvas_words::{Asked, Options, Place, WordError, WordsError, read_words};
 use std::alloc::{AllocError, Global};
 use std::io::{Eprint, Print, Read, Write};
 use std::net::{Net, TcpListener, TcpStream};
@@ -56,31 +55,35 @@ where
             Ok(()) => error.exit_code() as u8,
             Err(_) => 4,
         },
-        Err(WordsError::Address(error)) => refuse(error, faults),
+        Err(WordsError::Word(error)) => refuse(error, faults),
     }
 }
 
-// Tells that the words don't say where a document in an etcd is.
-fn refuse<F: Write>(error: AddressError, faults: &mut F) -> u8
+// Tells which word isn't as it has to be.
+fn refuse<F: Write>(error: WordError, faults: &mut F) -> u8
     ensures { IsRefused error result (F.contents faults.old) (F.contents faults.new) }
 {
     let told = match error {
-        AddressError::NotAUrl => writeln!(
+        WordError::NotAnOrigin => writeln!(
+            faults,
+            "--origin wants an origin as browsers send it, https://canvas.example: small letters, and no path or slash behind"
+        ),
+        WordError::NotAUrl => writeln!(
             faults,
             "--etcd wants URLs as http://127.0.0.1:2379, with commas between them"
         ),
-        AddressError::NotAName => writeln!(
+        WordError::NotAName => writeln!(
             faults,
             "--document wants a name of 1 to 64 letters, digits, -, . and _"
         ),
-        AddressError::Memory => writeln!(faults, "out of memory"),
+        WordError::Memory => writeln!(faults, "out of memory"),
     };
     if told.is_err() || faults.flush().is_err() {
         return 4;
     }
     match error {
-        AddressError::NotAUrl | AddressError::NotAName => 2,
-        AddressError::Memory => 3,
+        WordError::NotAnOrigin | WordError::NotAUrl | WordError::NotAName => 2,
+        WordError::Memory => 3,
     }
 }
 
