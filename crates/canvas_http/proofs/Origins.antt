@@ -1,11 +1,13 @@
 -- Where the scheme of an origin ends.
 use Rattle.std.proofs.Common.{◌≡◌, ◌<◌, ◌+◌, ◌-◌, ℕ, suc, Bool, true, false, cond, not, ◌&&◌, List, [], ◌∷◌, ◌++◌, length, take, drop, codes, IsTrue, nat_eq, refl, sym, ap, ◌∙◌, subst, arith, ltb, Some, None}
 use Rattle.std.specs.List.{list_all, position, position_or_len, starts_with}
+use Rattle.std.proofs.lemmas.Bool.{and_from, and_parts}
 use Rattle.std.proofs.lemmas.Bool.Decides.{Decides-eqb}
 use Rattle.std.proofs.lemmas.List.{length-append, length-drop, length-take-le, take_all, take-append-drop}
 use Rattle.std.proofs.lemmas.List.Quantifiers.{position-Some}
 use Rattle.std.proofs.lemmas.Slice.Eq.{starts_is}
 use Rattle.std.proofs.Math.Seq.{drop-append_seam}
+use Rattle.canvas_http.proofs.Paths.{cut_at}
 use Rattle.canvas_http.specs.Origins.{IsSchemeAndHost, is_host_byte, is_scheme_byte}
 
 -- no byte of a scheme
@@ -24,18 +26,10 @@ length_of : (scheme rest : List ℕ) → list_all is_scheme_byte scheme ≡ true
 length_of [] rest e = refl
 length_of (b ∷ scheme) rest e = one_more (is_scheme_byte b) (list_all is_scheme_byte scheme) _ _ (length_of scheme rest) e
 
-both : (b c : Bool) → b ≡ true → c ≡ true → (b && c) ≡ true
-both true c e f = f
-both false c e f = cc
-
-of_both : (b c : Bool) → (b && c) ≡ true → (b ≡ true) × (c ≡ true)
-of_both true c e = (refl, e)
-of_both false c e = cc
-
 all_more : (x : ℕ) (xs : List ℕ) (n : ℕ) (b : Bool) → is_scheme_byte x ≡ b → list_all is_scheme_byte (take n xs) ≡ true
     → list_all is_scheme_byte (take (cond (not (not b)) (1 + n) 0) (x ∷ xs)) ≡ true
 all_more x xs n true is all =
-    subst (λ (k : ℕ). list_all is_scheme_byte (take k (x ∷ xs)) ≡ true) (sym (one_and n)) (both (is_scheme_byte x) (list_all is_scheme_byte (take n xs)) is all)
+    subst (λ (k : ℕ). list_all is_scheme_byte (take k (x ∷ xs)) ≡ true) (sym (one_and n)) (and_from (is_scheme_byte x) (list_all is_scheme_byte (take n xs)) is all)
 all_more x xs n false is all = refl
 
 -- all that stands before the first other byte is of a scheme
@@ -46,10 +40,6 @@ all_before (x ∷ xs) = all_more x xs (position_or_len is_other xs) (is_scheme_b
 some_where : (b : Bool) (m n : ℕ) → b ≡ true → m ≡ n → cond b (Some m) None ≡ Some n
 some_where true m n b e = ap (λ (k : ℕ). Some k) e
 some_where false m n b e = cc
-
-some_of : (b : Bool) (m n : ℕ) → Some m ≡ cond b (Some n) None → m ≡ n
-some_of true m n e = cc
-some_of false m n e = cc
 
 -- a scheme ends at the colon behind it
 ends_at : (scheme host : List ℕ) → list_all is_scheme_byte scheme ≡ true → position is_other (scheme ++ (codes "://" ++ host)) ≡ Some (length scheme)
@@ -95,10 +85,9 @@ host_behind text end r at says (scheme, host, is, long, all, hosted) =
 -- and where they do, there are
 pub scheme_before : (text : List ℕ) (end : ℕ) (r : Bool) → Some end ≡ position is_other text → 0 < end → r ≡ is_behind (take (length text - end) (drop end text)) → IsTrue r → IsSchemeAndHost text
 scheme_before text end r at some says is =
-    let parts : (starts_with nat_eq (drop end text) (codes "://") ≡ true) × (list_all is_host_byte (drop 3 (drop end text)) ≡ true) = of_both _ _ (sym (says ∙ ap is_behind (all_left text end)) ∙ is) in
+    let parts : (starts_with nat_eq (drop end text) (codes "://") ≡ true) × (list_all is_host_byte (drop 3 (drop end text)) ≡ true) = and_parts _ _ (sym (says ∙ ap is_behind (all_left text end)) ∙ is) in
     let starts : drop end text ≡ codes "://" ++ drop 3 (drop end text) = (starts_is Decides-eqb (drop end text) (codes "://") (starts_with nat_eq (drop end text) (codes "://")) refl).0 parts.0 in
-    let place : end ≡ position_or_len is_other text = some_of _ _ _ at in
     let within : end < length text = (position-Some is_other text end 0 (sym at)).0 in
     let long : length (take end text) ≡ end = length-take-le end text (grind arith) in
-    let all : list_all is_scheme_byte (take end text) ≡ true = subst (λ (n : ℕ). list_all is_scheme_byte (take n text) ≡ true) (sym place) (all_before text) in
+    let all : list_all is_scheme_byte (take end text) ≡ true = subst (λ (xs : List ℕ). list_all is_scheme_byte xs ≡ true) (sym (cut_at is_other text end at)) (all_before text) in
     (take end text, drop 3 (drop end text), sym (take-append-drop end text) ∙ ap (λ (xs : List ℕ). take end text ++ xs) starts, subst (λ (n : ℕ). 0 < n) (sym long) some, all, parts.1)
