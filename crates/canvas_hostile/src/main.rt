@@ -4,16 +4,17 @@
 //!   that only read.
 //! - a talk, which begins with the line `talk`: messages that a client sends to a room over a journal in memory, hostile ones among them.
 //!
-//! **Growths.** A call is made again and again: from the same beginning, with its first growth refused, then with its second, until none is left to
-//! refuse. Where one is refused, all must be as it was before the call; and the same call once more, with what comes after it, must go
-//! as it goes where nothing is refused. What is written of a call is its answer and how many of its growths were refused so.
+//! **Growths.** A call is made again and again: from the same beginning, with its first growth refused, then with its second, until none
+//! is left to refuse. Where one is refused, all must be as it was before the call; and the same call once more, with what comes after it,
+//! must go as it goes where nothing is refused. What is written of a call is its answer and how many of its growths were refused so.
 //!
 //! **Talks.** Each line is a message that the room's one seat is asked, but for these:
 //!
 //! - `fuse N` lets so many calls of the room's shelf pass, and makes all others fail; it stands at the beginning.
 //! - `edits A B` is one edit of client 1 for each number from A to B, which sets a property of the object 1:1 to that number.
 //! - `beginnings TEXT` is a message of each proper beginning of this text, the empty one first.
-//! - `bytes HEX` is a message of the bytes that these digits spell. `text TEXT` is a WebSocket's message of text, and not of bytes as all others.
+//! - `bytes HEX` is a message of the bytes that these digits spell. `text TEXT` is a WebSocket's message of text, and not of bytes as all
+//!   others.
 //! - `segments` asks for the numbers of the segments that were made so far on the room's shelf.
 //!
 //! What is answered more than once in a row is written once, behind how often. Each talk is held again with a seat that answers by a copy
