@@ -1,0 +1,241 @@
+import type { FaultCode, HeardWhat, Kind, LinkState, RefusalName } from './api.js';
+export * from './api.js';
+
+/** The id of the document itself, `0:0`. */
+export declare const ROOT: ObjectId;
+/** `client:counter` */
+export type ObjectId = string;
+/** A number of 64 bits: a BigInt where it doesn't fit a number. */
+export type Whole = number | bigint;
+export type Value = Whole | boolean | string | Colour | Value[];
+
+/** A colour, 8 bits each for red, green, blue and how opaque it is. */
+export declare class Colour {
+  constructor(rgba: number);
+  /** `#rrggbb` or `#rrggbbaa`. */
+  static of(hex: string): Colour;
+  readonly rgba: number;
+  toString(): string;
+}
+
+/** Why a call did nothing. After each the client is as it was. */
+export declare class ClientError extends Error {
+  readonly code: FaultCode;
+  readonly number: number;
+}
+
+export interface CanvasObject {
+  readonly id: ObjectId;
+  readonly kind: Kind | 'document';
+  /** null for the document. */
+  readonly parent: ObjectId | null;
+  readonly position: string | null;
+  readonly properties: Readonly<Record<string, Value>>;
+  /** In their order. */
+  readonly children: readonly ObjectId[];
+}
+
+export type Heard = { what: Exclude<HeardWhat, 'no'> } | { what: 'no'; reason: number };
+export type ModuleSource = WebAssembly.Module | BufferSource | Response | Promise<WebAssembly.Module | BufferSource | Response>;
+
+/** The compiled module, out of its bytes or the answer to a request for it. */
+export declare function compile(source: ModuleSource): Promise<WebAssembly.Module>;
+/** The JSON of a value. */
+export declare function valueText(value: Value): string;
+/** The value of which this is the JSON. */
+export declare function readValue(json: string): Value;
+
+/** A client: what it shows, and its edits that wait. Each call either does what it says or throws a ClientError and changes nothing. */
+export declare class Client {
+  /** A client without an id, or the one that was saved as these bytes. Without a source the module of the package is taken. */
+  static load(source?: ModuleSource | null, saved?: Uint8Array | string | null): Promise<Client>;
+  static defaultModule: (() => ModuleSource) | null;
+  constructor(exports: WebAssembly.Exports, saved?: Uint8Array | string | null);
+  /** Ends the client, with all that waits. */
+  free(): void;
+  /** The client as bytes: to be kept before an edit is sent, and loaded for the same document alone. `Kept` does so by itself. */
+  save(): Uint8Array;
+  /** Its id, or null while it has none. */
+  readonly id: number | null;
+  /** The version that it has reached. */
+  readonly version: Whole;
+  /** The number of its last edit of which it has the entry. */
+  readonly acknowledged: Whole;
+  /** How many of its edits wait. */
+  readonly waiting: Whole;
+  /** The number of its last edit. */
+  readonly lastEdit: Whole;
+  /** The bytes of memory that the module has. */
+  readonly memory: number;
+  /** Those that are in use. */
+  readonly memoryInUse: number;
+  /** Receives a message of the server, and tells what came of it. */
+  receive(message: Uint8Array | string): Heard;
+  /** Creates an object in the parent, behind its child `after` or as the first, and answers its id. */
+  create(kind: Kind, parent: ObjectId, after?: ObjectId | null): ObjectId;
+  /** Behind all children of the parent: there is room for 41 million. */
+  createLast(kind: Kind, parent: ObjectId): ObjectId;
+  /** Before all children of the parent. */
+  createFirst(kind: Kind, parent: ObjectId): ObjectId;
+  /** At a position that no other child of the parent has. */
+  createAt(kind: Kind, parent: ObjectId, position: string): ObjectId;
+  /** Gives a property a value. */
+  set(id: ObjectId, name: string, value: Value): void;
+  /** The same with the JSON of the value. */
+  setJson(id: ObjectId, name: string | Uint8Array, json: string | Uint8Array): void;
+  /** Takes a property away. */
+  clear(id: ObjectId, name: string): void;
+  /** Moves the object into the parent, behind its child `after` or as the first. */
+  move(id: ObjectId, parent: ObjectId, after?: ObjectId | null): void;
+  moveLast(id: ObjectId, parent: ObjectId): void;
+  moveFirst(id: ObjectId, parent: ObjectId): void;
+  moveAt(id: ObjectId, parent: ObjectId, position: string): void;
+  /** Removes the object; what lies below it is shown no more. */
+  delete(id: ObjectId): void;
+  /** What is sent to get an id. */
+  joinMessage(): Uint8Array;
+  /** What is sent to hear what is new; null while there is no id. */
+  askMessage(): Uint8Array | null;
+  /** The i-th edit that waits, counted from 1; null where so many don't. */
+  editMessage(i: Whole): Uint8Array | null;
+  messages(): Generator<Uint8Array>;
+  /** The tree as text, as `lugcurrant show` prints it. */
+  text(): string;
+  /** Whether parents lead from the object to the document's root. */
+  isInTree(id: ObjectId): boolean;
+  objects(): ReadonlyMap<ObjectId, CanvasObject>;
+  object(id: ObjectId): CanvasObject | null;
+  children(id: ObjectId): readonly ObjectId[];
+  tree(): CanvasObject;
+  /** What has become other since the last call: objects that are new or changed, each before its children, and ids that are gone. */
+  changed(): Changes;
+  /** A client without an id in the same module's memory. */
+  sibling(): Client;
+  /** Becomes another client of the same module, which is none any more then. */
+  become(other: Client): void;
+  /** Calls `told` after each edit, each message that was taken, and each `become`. Answers a function that ends it. */
+  watch(told: (what: 'edit' | 'took' | 'anew', bytes: Uint8Array | string | null) => void): () => void;
+}
+
+export interface Changes { put: CanvasObject[]; gone: ObjectId[] }
+export interface Refusal { version: Whole; number: Whole; edit: string; id: ObjectId; name: RefusalName; words: string }
+/** An edit that couldn't be made again, as its JSON (docs/wire.md), and why. */
+export interface LostEdit { change: string; code: string }
+export interface Anew { made: number; lost: LostEdit[]; ids: ReadonlyMap<ObjectId, ObjectId> }
+
+export interface LinkEvents { state: Link; change: boolean; refused: Refusal; anew: Anew; settled: Link; unsent: number }
+
+export interface FlowOptions {
+  /** Edits under way at once, and their bytes. */
+  window?: number;
+  windowBytes?: number;
+  /** Asks under way at once while few news come, and while catching up. */
+  asks?: number;
+  mostAsks?: number;
+  /** Milliseconds between two asks. */
+  leastPause?: number;
+  mostPause?: number;
+}
+
+export interface LinkOptions extends FlowOptions {
+  /** The identity of the document, where it was kept; false for a server that answers clients alone, as `canvasd` does. */
+  document?: string | false;
+  /** Begin anew where the server has another document, in place of ending. */
+  follow?: boolean;
+  /** Keeps the client before an edit is sent. */
+  kept?: Kept;
+  WebSocket?: unknown;
+  /** Milliseconds before the first try of another connection, of which each later one waits twice as long, and the longest wait. */
+  retry?: number;
+  mostRetry?: number;
+  /** Milliseconds without a message, while one is awaited, after which the connection is given up. */
+  patience?: number;
+  state?(link: Link): void;
+  /** `own` where it was an edit of this program. */
+  changed?(own: boolean): void;
+  refused?(refusal: Refusal): void;
+  anew?(anew: Anew): void;
+}
+
+/** A client's connection to a server, made again where it is lost. */
+export declare class Link extends EventTarget {
+  static findWebSocket: () => Promise<unknown>;
+  constructor(client: Client, url: string | URL, options?: LinkOptions);
+  readonly client: Client;
+  readonly url: URL;
+  readonly state: LinkState;
+  /** Why, in words; empty while all is well. */
+  readonly words: string;
+  /** The identity of the document, once it is known. */
+  readonly document: string | null;
+  /** When the client has an id, and has heard what there is. */
+  readonly ready: Promise<Link>;
+  /** When the link has ended. */
+  readonly done: Promise<void>;
+  /** How many edits the server hasn't said to have. */
+  readonly unsent: number;
+  /** Whether edits would be lost if the program ended now. */
+  readonly isLosing: boolean;
+  offline: boolean;
+  on<K extends keyof LinkEvents>(name: K, act: (detail: LinkEvents[K]) => void): () => void;
+  /** The changes of the tree, until the link is closed. */
+  changes(): AsyncGenerator<Changes>;
+  /** When nothing waits, and what there is was heard. */
+  settled(): Promise<void>;
+  wake(): void;
+  close(): void;
+  /** Closes it when the server has all edits, or after so many milliseconds; whether it has them. */
+  finish(milliseconds?: number): Promise<boolean>;
+}
+
+/** Lets the browser ask before the page is closed while `count()` edits would be lost. */
+export declare function warnBeforeClosing(count: () => number, target?: EventTarget): () => void;
+
+/** What keeps one client: in a file, or in the browser. */
+export interface Shelf {
+  read(): Promise<{ all: Uint8Array | null; journal: Uint8Array[] }>;
+  put(all: Uint8Array): Promise<void>;
+  add(parts: Uint8Array[]): Promise<void>;
+  end(): Promise<void>;
+  close(): Promise<void>;
+}
+
+/** Keeps a client: all of it at times, and each edit and message since. */
+export declare class Kept {
+  constructor(shelf: Shelf);
+  /** Why nothing is kept any more, or not all could be read. */
+  readonly fault: Error | null;
+  readonly isKeeping: boolean;
+  /** The client that was kept, or a new one. */
+  load(module?: ModuleSource | null): Promise<Client>;
+  watch(client: Client): void;
+  flush(): Promise<void>;
+  end(): Promise<void>;
+  close(): Promise<void>;
+}
+
+/** In browsers: a shelf for the document of this identity, of the window of this number or of the first that is closed. */
+export declare function shelfOfBrowser(document: string | null, options?: { window?: number | null; wait?: number; database?: string }): Promise<(Shelf & { window: number }) | null>;
+export declare function lockOfBrowser(name: string, milliseconds?: number): Promise<(() => void) | null>;
+/** In node: a shelf in a file, with a lock beside it. */
+export declare function shelfOfFile(path: string): Shelf;
+
+export interface FlowEvent { type: string; [more: string]: unknown }
+/** What a link says and hears, without sockets and clocks. */
+export declare class Flow {
+  constructor(client: Client, options?: FlowOptions);
+  readonly unsent: number;
+  readonly isSettled: boolean;
+  limit: bigint;
+  events: FlowEvent[];
+  open(now: number): void;
+  lost(): void;
+  wake(now: number): void;
+  outgoing(now: number): Uint8Array[];
+  due(now: number): number | null;
+  hear(bytes: Uint8Array, now: number): void;
+  beginAnew(state: LinkState, how?: { scan?: boolean; drop?: boolean; from?: bigint }): void;
+}
+export declare function changeOf(message: string): string;
+export declare function members(list: string): string[];
+export declare function remake(client: Client, change: string, ids?: Map<ObjectId, ObjectId>): FaultCode | null;
