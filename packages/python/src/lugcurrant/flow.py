@@ -1,0 +1,457 @@
+"""What a link says and hears, without sockets and clocks: which messages to send next on the open connection, and what an answer means. The
+same machine as js/src/flow.js, in which the reasons stand; both are tried against the same made-up servers. Times are in seconds here."""
+
+import json
+import re
+from dataclasses import dataclass, field
+from typing import Any
+
+from ._api import NO_REASONS, REFUSALS, State, What
+from .client import Client
+from .library import ClientError
+from .remake import change_of, members, remake
+from .values import ObjectId
+
+MOST_ENTRIES = 64
+ENDLESS = 1 << 62
+MOST_AHEAD = 4  # asks at once where a round trip's news fill more than one answer
+MOST_WAIT = 10  # seconds before what a server couldn't keep is sent again
+PROVEN, PROVEN_AFTER = 3, 2  # asks that must miss an edit that was answered, and for how long
+
+_HELD = (State.DISK_FAILED, State.DISK_FAILED_BEFORE, State.NO_MEMORY)
+
+
+@dataclass
+class Event:
+    """What came of a message: "took", "refused", "state", "anew" or "caught up", and what belongs to it."""
+
+    type: str
+    detail: dict[str, Any] = field(default_factory=dict)
+
+
+@dataclass(eq=False)
+class _Round:
+    """The asks that are under way together: how many brought news, and whether an answer was full."""
+
+    useful: int = 0
+    full: bool = False
+
+
+@dataclass(eq=False)
+class _Sent:
+    what: str
+    size: int
+    number: int = 0
+    first: bool = False
+    start: int = 0
+    at: float = 0.0
+    last_judged: int = 0
+    entries: int = 0
+    took: bool = False
+    ahead: bool = False
+    copy: bool = False
+    void: bool = False
+    scan: bool = False
+    counted: bool = False
+    round: _Round = field(default_factory=_Round)
+
+
+@dataclass
+class _Anew:
+    state: State
+    step: str
+    start: int
+    drop: bool
+    client: Client | None = None
+    found: dict[int, str] = field(default_factory=dict)
+    done: int = 0
+    asking: bool = False
+
+
+class Flow:
+    """The state machine of a link. `outgoing` gives the messages to send, `due` the seconds after which it may have more, `hear` takes what
+    came; `events` has what came of it."""
+
+    def __init__(self, client: Client, window: int = 64, window_bytes: int = 262144, asks: int = 4, most_asks: int = 32,
+                 least_pause: float = 0.005, most_pause: float = 0.4, second: float = 1.0) -> None:  # fmt: skip
+        self.client = client
+        self.second = second  # how much of the clock is a second
+        self.window, self.window_bytes, self.asks, self.most_asks = window, window_bytes, asks, most_asks
+        self.least_pause, self.most_pause = least_pause, most_pause
+        self.limit = ENDLESS  # edits above this number aren't sent yet: they aren't kept
+        self.judged = 0  # the greatest number of an edit that was answered by idle
+        self.state = State.CONNECTING
+        self.words = ""
+        self.anew: _Anew | None = None
+        self.dropping: int | None = None
+        self.events: list[Event] = []
+        self._reset()
+
+    def _reset(self) -> None:
+        self.is_open = False
+        self.fifo: list[_Sent] = []
+        self.edits = self.bytes = self.asking = 0
+        self.width, self.top = 1, 0
+        self.round = _Round()
+        self.ask_at, self.asked_at = 0.0, float("-inf")
+        self.pause = self.least_pause
+        self.hold_until, self.hold_for = 0.0, self.second
+        self.sent = 0
+        self.is_caught_up = False
+        self.trip, self.lately = 0.0, 0
+        self._missing: tuple[float, int] | None = None
+        self.is_full = False
+
+    def open(self, now: float) -> None:
+        """A connection is open."""
+        self._reset()
+        self.is_open = True
+        self.ask_at = now
+        if self.anew:
+            self.anew.asking = False
+
+    def lost(self) -> None:
+        """The connection is lost."""
+        self._reset()
+
+    def wake(self, now: float) -> None:
+        """Something is to be sent, or heard: no pause is waited out."""
+        if self.is_open:
+            self.ask_at = min(self.ask_at, now)
+            self.pause = self.least_pause
+
+    @property
+    def unsent(self) -> int:
+        """How many edits the server hasn't said to have."""
+        return max(0, self.client.last_edit - max(self.client.acknowledged, self.judged))
+
+    @property
+    def is_settled(self) -> bool:
+        return self.is_caught_up and self.anew is None and self.client.waiting == 0
+
+    # What to send.
+
+    def outgoing(self, now: float) -> list[bytes]:
+        """The messages to send now, in order."""
+        out: list[bytes] = []
+        if not self.is_open:
+            return out
+        if self.anew and self.anew.step == "scan":
+            self._scan(out, now)
+        elif self._hearer().id is None:
+            if not self.fifo and now >= self.hold_until:
+                self._push(out, self._hearer().join_message(), _Sent("join", 0))
+        else:
+            if self.anew is None and not self.is_full and self.dropping is None:
+                self._send_edits(out, now)
+            self._ask(out, now)
+        return out
+
+    def due(self, now: float) -> float | None:
+        """Seconds after which `outgoing` may have more, or None: then something must happen first."""
+        if not self.is_open or (self.anew and self.anew.step == "scan"):
+            return None
+        if self._hearer().id is None:
+            return None if self.fifo else max(0.0, self.hold_until - now)
+        waits = [self.ask_at - now] if self._may_ask() else []
+        if self.hold_until > now and self.client.waiting:
+            waits.append(self.hold_until - now)
+        return max(0.0, min(waits)) if waits else None
+
+    def _hearer(self) -> Client:
+        return self.anew.client if self.anew and self.anew.client else self.client
+
+    def _push(self, out: list[bytes], message: bytes, sent: _Sent) -> None:
+        sent.size = len(message)
+        self.fifo.append(sent)
+        out.append(message)
+
+    def _send_edits(self, out: list[bytes], now: float) -> None:
+        if now < self.hold_until:
+            return
+        known = self.client.acknowledged
+        self.sent = max(self.sent, known)
+        pushed = False
+        while self.edits < self.window and self.sent < self.limit:
+            message = self.client.edit_message(self.sent - known + 1)
+            if message is None or (self.edits and self.bytes + len(message) > self.window_bytes):
+                break
+            self.sent += 1
+            self.edits += 1
+            self.bytes += len(message)
+            self._push(out, message, _Sent("edit", 0, number=self.sent, first=self.sent == known + 1))
+            pushed = True
+        if pushed:
+            self.ask_at = now
+            self.pause = self.least_pause
+
+    def _may_ask(self) -> bool:
+        return self.asking < (self.width if self.width > 1 else self._steady())
+
+    def _steady(self) -> int:
+        """Asks under way one behind the other hear some news twice: few news an answer leave room for that."""
+        return 1 if self.pause > 4 * self.least_pause else max(1, min(self.asks, MOST_ENTRIES // max(1, self.lately)))
+
+    def _ask(self, out: list[bytes], now: float) -> None:
+        client = self._hearer()
+        while self._may_ask() and (now >= self.ask_at or (self.width > 1 and self.asking)):
+            version = client.version
+            if not self.asking:
+                self.round = _Round()
+            start = self.top if self.width > 1 and self.asking and self.top > version else version
+            self.top = start + MOST_ENTRIES
+            self.asking += 1
+            self.asked_at = now
+            self._push(out, _ask_text(client.id, start), _Sent("ask", 0, start=start, at=now, last_judged=self.judged, counted=True, round=self.round))
+            self.ask_at = now + max(self.least_pause, self.trip / self._steady())
+
+    # What is heard.
+
+    def hear(self, message: bytes, now: float) -> None:
+        """A message of the server. What came of it stands in `events`."""
+        letter = message[2:3]  # of ["welcome", ["entry", ["copy", ["idle"], ["no"
+        if not self.fifo:
+            return self._fault("an answer came that nobody has asked for")
+        head = self.fifo[0]
+        if head.void or (self.anew and self.anew.step == "scan"):
+            return self._pass(head, letter, message, now)
+        client = self._hearer()
+        try:
+            heard = client.receive(message)
+        except (ClientError, MemoryError) as fault:
+            return self._fault(str(fault) or "there is no memory left")
+        if letter in (b"e", b"c"):
+            head.entries += 1
+            head.copy = head.copy or letter == b"c"
+            if heard.took:
+                head.took = True
+                if client is self.client:
+                    self.events.append(Event("took"))
+                    self._tell_refusal(message, letter)
+            elif heard.what is What.AHEAD:
+                head.ahead = True
+            elif heard.what is What.NOT_FOR_ME and client is self.client:
+                self._another(letter, message)
+            return None
+        self.fifo.pop(0)
+        if heard.what is What.NO:
+            return self._no(head, heard.reason, now)
+        if head.what == "edit":
+            self._left(head)
+            self.judged = max(self.judged, head.number)
+            self.hold_for = self.second
+            self._online()
+        elif head.what == "ask":
+            self._answered(head, now)
+        else:
+            self.events.append(Event("took"))
+            self._online()
+            self.ask_at = now
+        return None
+
+    def _left(self, head: _Sent) -> None:
+        if head.what == "edit":
+            self.edits -= 1
+            self.bytes -= head.size
+        elif head.counted:
+            self.asking -= 1
+
+    def _answered(self, head: _Sent, now: float) -> None:
+        if not head.counted:
+            return
+        self._left(head)
+        self.trip = 0.8 * self.trip + 0.2 * (now - head.at) if self.trip else now - head.at
+        self.lately = head.entries
+        self._online()
+        head.round.useful += head.entries > 0
+        if head.entries >= MOST_ENTRIES:
+            head.round.full = True
+            self.width = min(2 * self.width, self.most_asks)
+            self.ask_at = now
+            return
+        self.width = max(1, min(head.round.useful, MOST_AHEAD)) if head.round.full else 1
+        for it in self.fifo:  # what was asked ahead of the end brings nothing, and hinders no ask
+            if it.counted and it.start > self._hearer().version:
+                self.asking -= 1
+                it.counted = False
+        more = head.took or (self.client.waiting > 0 and self.anew is None)
+        self.pause = self.least_pause if more else min(1.25 * self.pause, self.most_pause)
+        steady = self._steady()
+        spaced = self.asked_at + max(self.pause, self.trip / steady) if steady > 1 else now + self.pause
+        self.ask_at = now if head.copy or head.ahead else max(now, spaced)
+        if not head.copy and not head.ahead:
+            self._caught_up(head, now)
+
+    def _caught_up(self, head: _Sent, now: float) -> None:
+        if self.anew:
+            return self._swap()
+        self.is_caught_up = True
+        self._misses(head, now)
+        if self.dropping is not None and self.client.acknowledged >= self.dropping - 1:
+            self.begin_anew(self.state, drop=True)
+        self.events.append(Event("caught up"))
+        return None
+
+    def _misses(self, head: _Sent, now: float) -> None:
+        """The number of an edit was answered, and its entry isn't among those that came, again and again: it stands in another history."""
+        if head.last_judged <= self.client.acknowledged:
+            self._missing = None
+            return
+        since, times = self._missing or (now, 0)
+        self._missing = (since, times + 1)
+        if times + 1 >= PROVEN and now - since >= PROVEN_AFTER * self.second:
+            self.begin_anew(State.STRANGER, scan=True, start=0)
+
+    def _another(self, letter: bytes, message: bytes) -> None:
+        """A message for this version that the client can't take: an entry of its own id that isn't its edit, or a copy with other edits of it.
+        Where the number isn't the next one either, the server has another history: the entries before it were passed by."""
+        if letter == b"c":
+            if _done_of(message) < self.client.acknowledged:
+                return self.begin_anew(State.STRANGER)
+            return self.begin_anew(State.REPLACED, scan=True)
+        number = int(members(members(message.decode())[2])[1])
+        if number == self.client.acknowledged + 1:
+            return self.begin_anew(State.REPLACED, scan=True)
+        return self.begin_anew(State.STRANGER, scan=True, start=0)
+
+    def _no(self, head: _Sent, reason: int, now: float) -> None:
+        name, words = NO_REASONS.get(reason, ("fault", f"the server refuses for the reason {reason}"))
+        self._left(head)
+        if reason == 1:
+            return self.begin_anew(State.STRANGER)
+        if head.what == "ask":
+            self.ask_at = now + self.second
+            return self._tell(State(name), words) if reason == 7 else self._fault(words)
+        if head.what == "join":
+            self._tell(State(name), words)
+            return self._hold(now)
+        # Whatever was sent behind this edit is answered by gaps now: it is sent again.
+        for it in self.fifo:
+            it.void = it.void or it.what == "edit"
+        self.sent = 0
+        if reason == 3:
+            return self.begin_anew(State.STRANGER) if head.first else None
+        self._tell(State(name), words)
+        if reason == 4:
+            self.is_full = True
+        elif reason in (8, 9):
+            self.dropping = head.number
+            self.ask_at = now
+        else:
+            self._hold(now)
+        return None
+
+    def _hold(self, now: float) -> None:
+        self.hold_until = now + self.hold_for
+        self.hold_for = min(2 * self.hold_for, MOST_WAIT * self.second)
+
+    def _pass(self, head: _Sent, letter: bytes, message: bytes, now: float) -> None:
+        """An answer that is of no use any more, or one that is looked through for edits of this id."""
+        ends = letter not in (b"e", b"c")
+        scan = self.anew if self.anew and self.anew.step == "scan" and head.scan else None
+        if scan and not ends:
+            head.entries += 1
+            if letter == b"e":
+                author, number, what, _ = members(members(message.decode())[2])
+                if int(author) == self.client.id:
+                    scan.found[int(number)] = what
+            else:
+                scan.done = _done_of(message)
+        if not ends:
+            return
+        self.fifo.pop(0)
+        self._left(head)
+        if head.what == "edit" and letter == b"i":
+            self.judged = max(self.judged, head.number)
+        if scan and letter == b"i" and head.entries >= MOST_ENTRIES:
+            scan.start += head.entries
+            scan.asking = False
+        elif scan:
+            scan.step, scan.client = "join", Client()
+            self.ask_at = now
+
+    def _tell_refusal(self, message: bytes, letter: bytes) -> None:
+        if letter != b"e" or b'["refused",' not in message:
+            return
+        _, version, entry = members(message.decode())
+        author, number, what, outcome = members(entry)
+        if int(author) != self.client.id or not outcome.startswith('["refused",'):
+            return
+        edit, at, *_ = members(what)
+        name, words = REFUSALS.get(int(members(outcome)[1]), ("Unknown", "the server refused it"))
+        self.events.append(Event("refused", {"version": int(version), "number": int(number), "edit": json.loads(edit), "id": ObjectId(*json.loads(at)), "name": name, "words": words}))
+
+    # Beginning anew.
+
+    def begin_anew(self, state: State, scan: bool = False, drop: bool = False, start: int | None = None) -> None:
+        """Goes on as another client: joins, hears what there is, and makes again what waits and was never judged."""
+        if self.anew or self.client.id is None:
+            return  # without an id it has neither edits nor news
+        for it in self.fifo:
+            it.void = True
+        self.anew = _Anew(state, "scan" if scan else "join", self.client.version if start is None else start, drop)
+        if not scan:
+            self.anew.client = Client()
+        self.dropping = None
+        self._missing = None
+        self.top, self.width = 0, 1
+        words = "another program uses this id; it begins anew" if state is State.REPLACED else self.words if state is self.state else "the server has another history; it begins anew"
+        self._tell(state, words)
+
+    def _scan(self, out: list[bytes], now: float) -> None:
+        assert self.anew is not None
+        if self.anew.asking or self.fifo:
+            return
+        self.anew.asking = True
+        self.asking += 1
+        self._push(out, _ask_text(self.client.id, self.anew.start), _Sent("ask", 0, scan=True, at=now, counted=True))
+
+    def _swap(self) -> None:
+        anew = self.anew
+        assert anew is not None and anew.client is not None
+        ids: dict[ObjectId, ObjectId] = {}
+        lost: list[tuple[str, str]] = []
+        made = 0
+        first = self.client.acknowledged + 1
+        for number, message in enumerate(self.client.messages(), first):
+            change = change_of(message)
+            if anew.found.get(number) == change or (anew.state is State.STRANGER and number <= anew.done):
+                continue  # it was judged
+            code = anew.state.value if anew.drop and number == first else remake(anew.client, change, ids)
+            if code:
+                lost.append((change, code))
+            else:
+                made += 1
+        self.anew = None
+        self.judged = self.sent = 0
+        self.is_full = False
+        self.client.become(anew.client)
+        self.events.append(Event("anew", {"made": made, "lost": lost, "ids": ids}))
+        self.is_caught_up = True
+        self._tell(State.ONLINE, "")
+        self.events.append(Event("caught up"))
+
+    # States.
+
+    def _online(self) -> None:
+        if self.anew or self.is_full or self.dropping is not None or (self.hold_for > self.second and self.state in _HELD):
+            return
+        self._tell(State.ONLINE, "")
+
+    def _fault(self, words: str) -> None:
+        self._tell(State.FAULT, words)
+
+    def _tell(self, state: State, words: str) -> None:
+        if (self.state, self.words) == (state, words):
+            return
+        self.state, self.words = state, words
+        self.events.append(Event("state", {"state": state, "words": words}))
+
+
+def _ask_text(id: int | None, version: int) -> bytes:
+    return f'["ask",{id},{version}]'.encode()
+
+
+def _done_of(copy: bytes) -> int:
+    found = re.match(rb'\["copy",\d+,(\d+)', copy)
+    return int(found.group(1)) if found else 0

@@ -1,0 +1,71 @@
+"""The calls of `liblugcurrant.so`. `packages/c/include/lugcurrant.h` says what each does, and what the numbers mean."""
+
+import ctypes
+import os
+from pathlib import Path
+from typing import Any
+
+from ._api import CALLS, FAULTS, Handle
+
+BUILD = "clients/c/build --unproved makes it, and packages/python/build a wheel with it; or name it in the variable LUGCURRANT_LIBRARY"
+
+
+class LibraryMissing(ImportError):
+    """The shared library isn't there, or can't be loaded."""
+
+
+class ClientError(Exception):
+    """Why a call did nothing: `code` is the name, as in all languages, and the message says it in words. Nothing has changed."""
+
+    def __init__(self, number: int) -> None:
+        self.code, words = FAULTS.get(number, ("Unknown", f"the library answered {number}"))
+        self.number = number
+        super().__init__(f"{self.code}: {words}")
+        self.words = words
+
+
+class Library:
+    """The loaded library: each call by its name, without `lugcurrant_`."""
+
+    def __init__(self, path: str) -> None:
+        try:
+            loaded = ctypes.CDLL(path)
+        except OSError as fault:
+            raise LibraryMissing(f"the library {path} can't be loaded ({fault}): {BUILD}") from None
+        self._calls: dict[str, Any] = {}
+        for name, (result, arguments) in CALLS.items():
+            call = getattr(loaded, "lugcurrant_" + name, None)
+            if call is None:
+                raise LibraryMissing(f"the library {path} has no call lugcurrant_{name}: it is another version than this package")
+            call.restype = result
+            call.argtypes = [ctypes.POINTER(Handle), *arguments]
+            self._calls[name] = call
+
+    def __call__(self, name: str, handle: Handle, *arguments: object) -> int:
+        """What the call of this name answers."""
+        number: int = self._calls[name](handle, *arguments)
+        return number
+
+
+_library: Library | None = None
+
+
+def places() -> list[Path]:
+    """Where the library is looked for: in the variable LUGCURRANT_LIBRARY alone where that is set, beside the package, in `clients/c`."""
+    named = os.environ.get("LUGCURRANT_LIBRARY")
+    if named:
+        return [Path(named)]
+    here = Path(__file__).resolve().parent
+    built = [above / "clients" / "c" / "liblugcurrant.so" for above in here.parents if (above / "crates").is_dir()]
+    return [here / "liblugcurrant.so", *built]
+
+
+def library() -> Library:
+    """The library, loaded once."""
+    global _library
+    if _library is None:
+        found = [path for path in places() if path.exists()]
+        if not found:
+            raise LibraryMissing(f"there is no {' and no '.join(map(str, places()))}: {BUILD}")
+        _library = Library(str(found[0]))
+    return _library

@@ -1,0 +1,143 @@
+#!/usr/bin/env python3
+"""A link against a real server:  link.py LUGCURRANT. Needs the package `websockets`."""
+
+import asyncio
+import pathlib
+import re
+import subprocess
+import sys
+import tempfile
+
+from lugcurrant import ROOT, Client, ClientError, Colour, FileShelf, Kept, Link, State
+
+
+class Server:
+    def __init__(self, program: str, folder: pathlib.Path) -> None:
+        self.program, self.folder, self.port = program, folder, 0
+
+    def run(self, name: str = "canvas") -> None:
+        self.process = subprocess.Popen([self.program, "serve", str(self.folder / name), "--port", str(self.port)], stderr=subprocess.PIPE, text=True)
+        self.port = int(re.search(r"127\.0\.0\.1:(\d+)", self.process.stderr.readline())[1])
+
+    def kill(self) -> None:
+        self.process.kill()
+        self.process.wait()
+
+    @property
+    def url(self) -> str:
+        return f"ws://127.0.0.1:{self.port}/"
+
+    def tree(self) -> str:
+        return subprocess.run([self.program, "show", str(self.folder / "canvas")], capture_output=True, text=True, check=True).stdout.split("\n", 1)[1]
+
+
+async def becomes(link: Link, state: State) -> None:
+    for _ in range(600):
+        if link.state is state:
+            return
+        await asyncio.sleep(0.05)
+    raise AssertionError(f"{link.state} ({link.words}) in place of {state}")
+
+
+async def main(program: str) -> None:
+    folder = pathlib.Path(tempfile.mkdtemp())
+    server = Server(program, folder)
+    server.run()
+    try:
+        async with Link(Client(), server.url, retry=0.05, most_retry=0.4) as link:
+            client = link.client
+            page = client.create_last("page", ROOT)
+            client.set(page, "name", "Plan")
+            client.set(page, "at", [1, 2])
+            client.set(page, "fill", Colour.of("#112233"))
+            await link.settled()
+            assert server.tree() == client.text() and link.unsent == 0
+            heard = []
+            other = Link(Client(), server.url)
+            task = asyncio.create_task(other.run())
+
+            async def listen() -> None:
+                async for changes in other.changes():
+                    heard.extend(it.properties.get("name") for it in changes.put)
+                    if "late" in heard:
+                        return
+
+            listening = asyncio.create_task(listen())
+            await other.ready()
+            client.set(page, "name", "late")
+            await asyncio.wait_for(listening, 20)
+            server.kill()
+            await becomes(link, State.NO_SERVER)
+            client.set(page, "name", "meanwhile")
+            assert link.unsent == 1 and link.is_losing
+            server.run()
+            await becomes(link, State.ONLINE)
+            await link.settled()
+            await other.settled()
+            assert other.client.text() == client.text() == server.tree()
+
+            # Twins of one saved client: one begins anew, and no edit is lost.
+            twin = Link(Client.load(client.save()), server.url, retry=0.05)
+            states = []
+            twin._callbacks = (lambda it: states.append(it.state), None, None, None)
+            client.set(page, "a", 1)
+            twin.client.set(page, "b", 2)
+            running = asyncio.create_task(twin.run())
+            await twin.settled()
+            await link.settled()
+            await other.settled()
+            twin.client.set(page, "c", 3)
+            await twin.settled()
+            await other.settled()
+            await asyncio.sleep(0.6)
+            await other.settled()
+            found = other.client.object(page).properties
+            assert (found["a"], found["b"], found["c"]) == (1, 2, 3), found
+            print("twins", [it.value for it in states], "ids", client.id, twin.client.id)
+
+            # Kept: the same client again, with what waits.
+            shelf = Kept(FileShelf(folder / "kept"))
+            mine = shelf.load()
+            keeping = Link(mine, server.url, kept=shelf)
+            third = asyncio.create_task(keeping.run())
+            await keeping.ready()
+            mine.set(page, "kept", 1)
+            await keeping.settled()
+            keeping.offline = True
+            await becomes(keeping, State.OFFLINE)
+            mine.set(page, "kept", 2)
+            try:
+                FileShelf(folder / "kept")
+                raise AssertionError("two have the shelf")
+            except BlockingIOError as fault:
+                assert "already" in str(fault)
+            keeping.close()
+            await third
+            shelf.close()
+            again = Kept(FileShelf(folder / "kept"))
+            same = again.load()
+            assert (same.id, same.waiting, again.fault) == (mine.id, 1, None), (same.id, mine.id, same.waiting, again.fault)
+            async with Link(same, server.url, kept=again) as last:
+                await last.settled()
+                assert same.text() == server.tree()
+            again.close()
+
+            # Another folder at the same port.
+            server.kill()
+            server.run("another")
+            await becomes(other, State.ANOTHER_DOCUMENT)
+            follower = Link(Client(), server.url, follow=True)
+            for one in (twin, other):
+                one.close()
+            await asyncio.gather(task, running)
+            follower.close()
+            try:
+                client.set(page, "Name", 1)
+            except ClientError as fault:
+                assert fault.code == "NameBadByte"
+    finally:
+        server.kill()
+    print("all as it should be")
+
+
+asyncio.run(asyncio.wait_for(main(sys.argv[1]), 120))
