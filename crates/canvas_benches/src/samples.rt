@@ -10,7 +10,7 @@ pub fn object(client: u32, counter: u32) -> ObjId {
     ObjId { client, counter }
 }
 
-/// The creation of a page. Fails where memory is refused.
+/// The creation of a page. Fails if memory runs out.
 pub fn new_page(alloc: Global, id: ObjId) -> Result<Change, Fail> {
     let pos = Pos::read(alloc, b"O")?;
     let parent = ObjId::ROOT;

@@ -63,7 +63,7 @@ pub fn take<T: Drop, A: Allocator>(blocks: &mut Vec<Vec<T, A>, A>, block: usize,
     item
 }
 
-/// Adds an item at the end; the others stay where they stand. Where memory is refused, all do.
+/// Adds an item at the end; the others stay where they stand. If memory runs out, all do.
 pub fn push_to<T: Drop, A: Allocator + Copy>(
     blocks: &mut Vec<Vec<T, A>, A>,
     item: T,
@@ -86,7 +86,7 @@ pub fn push_to<T: Drop, A: Allocator + Copy>(
     Ok(())
 }
 
-/// Puts an item in at an edge, before the one there. Where memory is refused, the items stay.
+/// Puts an item in at an edge, before the one there. If memory runs out, the items stay.
 pub fn insert_in<T: Drop, A: Allocator + Copy, P: Fn(&T) -> bool>(
     blocks: &mut Vec<Vec<T, A>, A>,
     before: &P,
@@ -105,8 +105,8 @@ pub fn insert_in<T: Drop, A: Allocator + Copy, P: Fn(&T) -> bool>(
     Ok(())
 }
 
-/// The block and the offset of the item at an edge, or none at the end, after a full block there was split in two. Where memory is
-/// refused, the items stay.
+/// The block and the offset of the item at an edge, or none at the end, after a full block there was split in two. If memory runs
+/// out, the items stay.
 pub fn room_for<T: Drop, A: Allocator + Copy, P: Fn(&T) -> bool>(
     blocks: &mut Vec<Vec<T, A>, A>,
     before: &P,
@@ -128,7 +128,7 @@ pub fn room_for<T: Drop, A: Allocator + Copy, P: Fn(&T) -> bool>(
     Ok(find(blocks, before))
 }
 
-// Splits a block of at least two items in two. Where memory is refused, the items stay.
+// Splits a block of at least two items in two. If memory runs out, the items stay.
 fn split<T: Drop, A: Allocator + Copy>(
     blocks: &mut Vec<Vec<T, A>, A>,
     block: usize,

@@ -25,7 +25,7 @@ use moves::{move_in, room_at};
 ///
 /// Items are found by a test, and no call asks for an index: how many items stand before a block is neither kept nor added up. An
 /// edge of the list, for a test, is an index where the test passes at the item before it, if there is one, and fails at the item
-/// there, if there is one. Where all items that pass stand first, it is where they end. Edges are found by bisection: the test is
+/// there, if there is one. If all items that pass stand first, it is where they end. Edges are found by bisection: the test is
 /// made at few items.
 #[derive(Debug, Drop)]
 pub struct BlockList<T, A: Allocator = Global> {
@@ -120,7 +120,7 @@ impl<T, A: Allocator> BlockList<T, A> {
 }
 
 impl<T: Drop, A: Allocator + Copy> BlockList<T, A> {
-    /// Adds an item at the end. Fails only where memory is refused, or where the list has `usize::MAX` items, which no memory
+    /// Adds an item at the end. Fails only if memory runs out, or if the list has `usize::MAX` items, which no memory
     /// holds; then nothing has changed.
     pub fn push(&mut self, item: T) -> Result<(), AllocError>
         ensures ok { OnOk result (self.new ≡ self.old ++ item ∷ []) }
@@ -170,7 +170,7 @@ impl<K: Drop, V: Drop, A: Allocator + Copy> BlockList<(K, V), A> {
 
 impl<T: Copy, A: Allocator + Copy> BlockList<T, A> {
     /// Takes the item at an edge for the test `from` out, and puts this one in where an edge for `to` was; where there is none for
-    /// `from`, nothing changes. It never fails: where memory is refused, the items between move by one, one after another.
+    /// `from`, nothing changes. It never fails: if memory runs out, the items between move by one, one after another.
     pub fn move_to_edge<P: Fn(&T) -> bool, Q: Fn(&T) -> bool>(&mut self, from: P, to: Q, item: T)
         requires from { P.IsAlwaysCallable from }
         requires to { Q.IsAlwaysCallable to }

@@ -26,7 +26,7 @@ pub fn room_at<T: Drop, A: Allocator + Copy, P: Fn(&T) -> bool>(
     }
 }
 
-/// Takes the item at `from` out, and puts this one in before the one at `to`, or at the end. Where memory is refused, the items
+/// Takes the item at `from` out, and puts this one in before the one at `to`, or at the end. If memory runs out, the items
 /// between move by one, one after another.
 pub fn move_in<T: Copy, A: Allocator + Copy>(
     blocks: &mut Vec<Vec<T, A>, A>,
@@ -49,7 +49,7 @@ pub fn move_in<T: Copy, A: Allocator + Copy>(
     }
 }
 
-// Takes the item at `from` out and puts this one in before the one at `to`. Where memory is refused, the items stay.
+// Takes the item at `from` out and puts this one in before the one at `to`. If memory runs out, the items stay.
 fn move_before<T: Copy, A: Allocator + Copy>(
     blocks: &mut Vec<Vec<T, A>, A>,
     from: (usize, usize),
@@ -73,7 +73,7 @@ fn move_before<T: Copy, A: Allocator + Copy>(
     Ok(())
 }
 
-// Takes the item at `from` out and puts this one in at the end. Where memory is refused, the items stay.
+// Takes the item at `from` out and puts this one in at the end. If memory runs out, the items stay.
 fn move_last<T: Copy, A: Allocator + Copy>(
     blocks: &mut Vec<Vec<T, A>, A>,
     from: (usize, usize),
@@ -233,7 +233,7 @@ fn last_from<T, A: Allocator>(
     Some((block, blocks[block].len() - 1))
 }
 
-// Whether a place is before another, or before the end.
+// Checks whether a place is before another, or before the end.
 fn is_before(at: (usize, usize), to: Option<(usize, usize)>) -> bool
     ensures { IsTrue result ↔ IsBefore at to }
 {

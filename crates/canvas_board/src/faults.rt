@@ -7,7 +7,7 @@ pub enum SeatError {
     /// The room has ended.
     #[error("the room has ended")]
     Closed,
-    /// Memory was refused.
+    /// Memory ran out.
     #[error("out of memory")]
     Memory,
 }

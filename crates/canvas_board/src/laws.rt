@@ -6,7 +6,7 @@ use canvas_judge::Entry;
 use std::alloc::Global;
 
 /// Learns a receipt, and reads the tail from the version before: it begins with the receipt's entry, or is none because a checkpoint
-/// has passed it. It waits for nobody.
+/// has passed it. Never blocks.
 pub fn read_back<N: RoomName>(
     reader: &mut Reader<N>,
     alloc: Global,

@@ -43,7 +43,7 @@ fn read<N: RoomName>(
 }
 
 /// Opens a board of 1 to 64 reading ends: its writing end, which has published nothing and owes nothing, and the reading ends, which have
-/// seen nothing. Fails only where memory is refused.
+/// seen nothing. Errors: out of memory.
 pub fn open_board<N: RoomName, W: Wait>(
     alloc: Global,
     blank: Blank,

@@ -50,7 +50,7 @@ fn show_all<N: RoomName, W: Wait>(
     writer.publish_as::<SeesAll, W>(rt)
 }
 
-/// Publishes what is pending. Where memory is refused, readers see what they saw, and the same is pending.
+/// Publishes what is pending. If memory runs out, readers see what they saw, and the same is pending.
 pub fn publish<N: RoomName, W: Wait>(writer: &mut BoardWriter<N>, rt: &W) -> Result<(), AllocError>
     requires { IsPrefix writer.old.desk.shown.value (last_of writer.old.desk.shown.value (drop writer.old.behind writer.old.log.items)) }
     ensures { MatchResult result (λ _. (writer.new.desk.shown.value ≡ last_of writer.old.desk.shown.value (drop writer.old.behind writer.old.log.items)) × (drop writer.new.behind writer.new.log.items ≡ [])) (λ _. (writer.new.desk.shown.value ≡ writer.old.desk.shown.value) × (drop writer.new.behind writer.new.log.items ≡ drop writer.old.behind writer.old.log.items)) }

@@ -42,7 +42,7 @@ impl<N: RoomName> Model for Snapshot<N> {
 }
 
 impl<N: RoomName> Snapshot<N> {
-    /// A copy of this board. Fails only where memory is refused.
+    /// A copy of this board. Errors: out of memory.
     pub(crate) fn of(alloc: Global, shown: &Board<N>) -> Result<Snapshot<N>, AllocError>
         ensures { IfOk result (λ s. s ≡ shown.now) }
     {

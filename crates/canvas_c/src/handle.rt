@@ -19,7 +19,7 @@ pub struct Handle {
 }
 
 impl Handle {
-    /// Whether it holds none.
+    /// Checks whether it holds none.
     pub fn is_empty(&self) -> bool
         ensures yes { IsTrue result → self.now.kept.session ≡ None }
         ensures no { IsFalse result → IsSome self.now.kept.session }

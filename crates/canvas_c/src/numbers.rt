@@ -18,7 +18,7 @@ pub(crate) const DONE: u32 = 0;
 // The object isn't in the tree.
 pub(crate) const NOT_SHOWN: u32 = 2;
 
-// Memory was refused.
+// Memory ran out.
 pub(crate) const MEMORY: u32 = 10;
 
 // The handle holds no client.

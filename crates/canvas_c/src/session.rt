@@ -25,7 +25,7 @@ pub struct Session {
 }
 
 impl Session {
-    /// A client without an id. Fails only where memory is refused.
+    /// A client without an id. Errors: out of memory.
     pub fn new(alloc: Global) -> Result<Session, AllocError>
         ensures { IfOk result IsNew }
     {

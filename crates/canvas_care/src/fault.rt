@@ -36,7 +36,7 @@ pub enum Fault {
     },
     /// The journal has no room for its checkpoint.
     TooLarge,
-    /// Memory was refused.
+    /// Memory ran out.
     Memory,
 }
 

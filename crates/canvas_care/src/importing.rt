@@ -61,14 +61,14 @@ fn row_part(line: &[u8]) -> Option<&[u8]>
     }
 }
 
-// Whether the line is empty, or a bracket alone.
+// Checks whether the line is empty, or a bracket alone.
 fn is_frame(line: &[u8]) -> bool
     ensures { result ≡ is_frame line.now }
 {
     line.len() < 2 && is_bracket_or_none(line.first().copied())
 }
 
-// Whether the byte is a bracket, or there is none.
+// Checks whether the byte is a bracket, or there is none.
 fn is_bracket_or_none(byte: Option<u8>) -> bool
     ensures { result ≡ is_bracket_or_none byte }
 {
@@ -89,7 +89,7 @@ fn without_comma(line: &[u8]) -> &[u8]
     }
 }
 
-// Whether a comma ends the line.
+// Checks whether a comma ends the line.
 fn ends_in_comma(line: &[u8]) -> bool
     ensures { result ≡ ends_in_comma line.now }
 {
@@ -116,7 +116,7 @@ fn add_row(alloc: Global, read: &mut Rows, number: u64, text: &[u8]) -> Result<(
     Ok(())
 }
 
-// Whether an id may come behind these rows: the root's first, and then each above the one before.
+// Checks whether an id may come behind these rows: the root's first, and then each above the one before.
 fn follows(rows: &[(ObjId, Object)], id: ObjId) -> bool {
     match rows.last() {
         Some(last) => last.0 < id,
@@ -181,7 +181,7 @@ fn misplaced(doc: &Doc, lines: &[u64]) -> Option<u64> {
     None
 }
 
-// Whether an object stands where it may, alone at its place, and not too deep.
+// Checks whether an object stands where it may, alone at its place, and not too deep.
 fn stands(doc: &Doc, id: ObjId, object: &Object) -> bool {
     let Some(place) = object.place() else {
         return true;
@@ -196,7 +196,7 @@ fn stands(doc: &Doc, id: ObjId, object: &Object) -> bool {
     }
 }
 
-// Whether the object's chain of parents leads to the root in no more steps than an object may be deep.
+// Checks whether the object's chain of parents leads to the root in no more steps than an object may be deep.
 fn is_near_root(doc: &Doc, id: ObjId) -> bool {
     let mut at = id;
     for _ in 0..DEPTH_LIMIT {

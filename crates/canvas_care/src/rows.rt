@@ -52,7 +52,7 @@ impl Layout {
 }
 
 /// The rows of a document as JSON, laid out so: the root's, and then the others by id. A row is `[id,kind,place,props]`, as in a
-/// checkpoint. Fails only where memory is refused.
+/// checkpoint. Errors: out of memory.
 pub fn rows_text(alloc: Global, doc: &Doc, layout: Layout) -> Result<Vec<u8>, AllocError>
     ensures { IfOk result (λ text. text.items ≡ rows_text layout (map.entries doc.now)) }
 {

@@ -27,7 +27,7 @@ fn add_line(line: &[u8], out: &mut Vec<u8>) -> Result<(), AllocError> {
     Ok(())
 }
 
-// Whether the line stands between cases.
+// Checks whether the line stands between cases.
 fn is_between(line: &[u8]) -> bool {
     line.is_empty() || line.starts_with(b"#")
 }

@@ -2,7 +2,7 @@
 use std::alloc::{AllocError, Global};
 use std::fmt::Display;
 
-/// A text that is added to. That memory was refused for a piece is noted, and told in the end.
+/// A text that is added to. That memory ran out for a piece is noted, and told in the end.
 pub struct Text {
     text: String,
     is_refused: bool,
@@ -40,18 +40,18 @@ impl Text {
         }
     }
 
-    /// Notes that memory was refused.
+    /// Notes that memory ran out.
     pub fn refuse(&mut self) {
         self.is_refused = true;
     }
 
-    /// Adds another text, and that memory was refused for a piece of that.
+    /// Adds another text, and that memory ran out for a piece of that.
     pub fn push_text(&mut self, other: &Text) {
         self.push_str(&other.text);
         self.is_refused |= other.is_refused;
     }
 
-    /// Whether the texts are the same. Where memory was refused for a piece of either, they aren't.
+    /// Checks whether the texts are the same. If memory runs out for a piece of either, they aren't.
     pub fn is_same(&self, other: &Text) -> bool {
         self.text == other.text && !self.is_refused && !other.is_refused
     }
@@ -67,7 +67,7 @@ impl Text {
         self.is_refused = false;
     }
 
-    /// Adds the text to `out`. Fails where memory was refused for a piece of it.
+    /// Adds the text to `out`. Fails if memory runs out for a piece of it.
     pub fn put(&self, out: &mut Vec<u8>) -> Result<(), AllocError> {
         if self.is_refused {
             return Err(AllocError);

@@ -140,7 +140,7 @@ impl<A: Allocator> Client<A> {
         })
     }
 
-    /// The i-th of the edits that wait, counted from 1, as the message to send. Fails only where memory is refused.
+    /// The i-th of the edits that wait, counted from 1, as the message to send. Errors: out of memory.
     pub fn message<B: Allocator + Copy>(&self, alloc: B, i: u64) -> Result<Message<B>, AllocError>
         requires least { 0 < i }
         requires most { i ≤ length self.now.waiting }
@@ -160,7 +160,7 @@ impl<A: Allocator> Client<A> {
         })
     }
 
-    // Whether the entry has the number and the change of the first edit that waits.
+    // Checks whether the entry has the number and the change of the first edit that waits.
     fn is_next<B: Allocator>(&self, entry: &Entry<B>) -> bool
         ensures { IsTrue result ↔ IsNextEdit self.now entry.now }
     {
@@ -173,7 +173,7 @@ impl<A: Allocator> Client<A> {
         }
     }
 
-    // Whether the entry of the next version may be taken; `own` says that it is of this client's id.
+    // Checks whether the entry of the next version may be taken; `own` says that it is of this client's id.
     fn may_take<B: Allocator>(&self, own: bool, entry: &Entry<B>) -> bool
         ensures yes { IsTrue result → own ≡ true → IsNextEdit self.now entry.now }
         ensures no { result ≡ false → (own ≡ true) × (IsNextEdit self.now entry.now → ⊥) }
@@ -181,7 +181,7 @@ impl<A: Allocator> Client<A> {
         !own || self.is_next(entry)
     }
 
-    // Whether so many of its edits may be judged: those that it knows to be, and some of those that wait.
+    // Checks whether so many of its edits may be judged: those that it knows to be, and some of those that wait.
     fn may_be_judged(&self, done: u64) -> bool
         ensures { IsTrue result ↔ (self.now.acknowledged ≤ done) × (done ≤ last_number self.now) }
     {
@@ -203,7 +203,7 @@ impl<A: Allocator> Client<A> {
 }
 
 impl<A: Allocator + Copy> Client<A> {
-    /// A client without an id, which shows the root alone. Fails only where memory is refused.
+    /// A client without an id, which shows the root alone. Errors: out of memory.
     pub fn new(alloc: A) -> Result<Self, AllocError>
         ensures { IfOk result (λ client. client ≡ new_client) }
     {
@@ -220,8 +220,8 @@ impl<A: Allocator + Copy> Client<A> {
     /// Receives a message, and answers what it did with it. `Took`: a welcome while it has no id; the entry of the next version, where
     /// one of its own is the first edit that waits; a copy of a later version, whose `done` counts the edits that it knows to be judged
     /// and some of those that wait. An entry that gives the root a place, or removes it, which no server tells, is taken like every
-    /// other, but the view then takes something of it or nothing. Any other answer than `Took` changes nothing. Fails only where
-    /// memory is refused, and then nothing has changed.
+    /// other, but the view then takes something of it or nothing. Any other answer than `Took` changes nothing. Fails only if
+    /// memory runs out, and then nothing has changed.
     pub fn receive<B: Allocator + Copy>(
         &mut self,
         message: &Message<B>,

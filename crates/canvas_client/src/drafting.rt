@@ -1,4 +1,4 @@
-// What speaks against a request in a view, and where what it asks for is to stand.
+// Checks whether a local edit is allowed in a view, and computes its position.
 ghost use Rattle.std.specs.Prelude.{◌≡◌, ◌↔◌, IsTrue, IfOk, IfErr, IfSome, IfNone, Some, length, IsSomeAnd};
 ghost use Rattle.std.specs.Option.{option_copied};
 ghost use Rattle.canvas_model.specs.Chain.{InTree};
@@ -16,7 +16,7 @@ use canvas_judge::is_above;
 use canvas_pos::{Pos, between};
 use std::alloc::{AllocError, Allocator};
 
-// Whether the request moves or deletes the root.
+// Checks whether the request moves or deletes the root.
 pub(crate) fn moves_root<C: Allocator>(request: &EditRequest<C>) -> bool
     ensures { IsTrue result ↔ MovesRoot request.now }
 {
@@ -27,7 +27,7 @@ pub(crate) fn moves_root<C: Allocator>(request: &EditRequest<C>) -> bool
     }
 }
 
-// Whether the named object isn't in the view's tree.
+// Checks whether the named object is missing from the view's tree.
 pub(crate) fn is_hidden<A: Allocator, C: Allocator>(view: &Doc<A>, request: &EditRequest<C>) -> bool
     ensures { IsTrue result ↔ IsHidden view.now request.now }
 {
@@ -37,7 +37,7 @@ pub(crate) fn is_hidden<A: Allocator, C: Allocator>(view: &Doc<A>, request: &Edi
     }
 }
 
-// Whether the child to come after is no other child of that parent.
+// Checks whether the sibling to insert after is missing among the parent's other children.
 pub(crate) fn comes_after_none<A: Allocator, C: Allocator>(
     view: &Doc<A>,
     request: &EditRequest<C>,
@@ -53,7 +53,7 @@ pub(crate) fn comes_after_none<A: Allocator, C: Allocator>(
     sibling_position(view, target.parent, request.left_out(), after).is_none()
 }
 
-// Whether the parent isn't in the view's tree.
+// Checks whether the parent is missing from the view's tree.
 pub(crate) fn has_hidden_parent<A: Allocator, C: Allocator>(
     view: &Doc<A>,
     request: &EditRequest<C>,
@@ -66,7 +66,7 @@ pub(crate) fn has_hidden_parent<A: Allocator, C: Allocator>(
     }
 }
 
-// Whether what is to stand there may not stand under that parent.
+// Checks whether the object's kind isn't allowed under that parent.
 pub(crate) fn has_bad_parent<A: Allocator, C: Allocator>(
     view: &Doc<A>,
     request: &EditRequest<C>,
@@ -80,7 +80,7 @@ pub(crate) fn has_bad_parent<A: Allocator, C: Allocator>(
     }
 }
 
-// The kind of what is to stand at the target that is asked for.
+// The kind of the object that is created or moved.
 fn kind_asked<A: Allocator, C: Allocator>(view: &Doc<A>, request: &EditRequest<C>) -> Option<Kind>
     ensures { result ≡ kind_asked view.now request.now }
 {
@@ -91,7 +91,7 @@ fn kind_asked<A: Allocator, C: Allocator>(view: &Doc<A>, request: &EditRequest<C
     }
 }
 
-// Whether there aren't two kinds, the first of which may stand under the second.
+// Checks whether a kind is missing, or the first isn't allowed under the second.
 fn may_not_stand(kind: Option<Kind>, parent: Option<Kind>) -> bool
     ensures { IsTrue result ↔ MayNotStand kind parent }
 {
@@ -101,7 +101,7 @@ fn may_not_stand(kind: Option<Kind>, parent: Option<Kind>) -> bool
     }
 }
 
-// Whether the new parent is the moved object or lies below it.
+// Checks whether the new parent is the moved object or one of its descendants.
 pub(crate) fn goes_below_itself<A: Allocator, C: Allocator>(
     view: &Doc<A>,
     request: &EditRequest<C>,
@@ -114,8 +114,8 @@ pub(crate) fn goes_below_itself<A: Allocator, C: Allocator>(
     }
 }
 
-// Whether the new object, or the moved one or something below it, would stand too deep in the view. A move alone takes memory for
-// it. Fails only where memory is refused.
+// Checks whether the new object, or the moved one or a descendant of it, would be too deep in the view. Only a move allocates. Errors:
+// out of memory.
 pub(crate) fn goes_too_deep<A: Allocator, B: Allocator + Copy, C: Allocator>(
     alloc: B,
     view: &Doc<A>,
@@ -130,7 +130,7 @@ pub(crate) fn goes_too_deep<A: Allocator, B: Allocator + Copy, C: Allocator>(
     }
 }
 
-// The position of `q`, where it is a child of `parent` other than `except`.
+// Returns the position of `q` if it is a child of `parent` other than `except`.
 pub(crate) fn sibling_position<A: Allocator>(
     view: &Doc<A>,
     parent: ObjId,
@@ -151,7 +151,7 @@ pub(crate) fn sibling_position<A: Allocator>(
     }
 }
 
-// The position of the child to come after, or none to come first.
+// Returns the position of the sibling to insert after, or none to insert first.
 fn position_before<A: Allocator>(view: &Doc<A>, except: ObjId, target: Target) -> Option<&Pos<A>>
     requires { HasAfter view.now except (seen_target target) }
     ensures { IsPosAfter view.now target.parent except target.after (option_copied result) }
@@ -162,7 +162,7 @@ fn position_before<A: Allocator>(view: &Doc<A>, except: ObjId, target: Target) -
     }
 }
 
-// The position at a target, half way between the child to come after and the next. `Crowded` comes where there is no room.
+// Returns the position at a target, half way between the sibling to insert after and the next one. Errors: `Crowded` if there is no room.
 pub(crate) fn position_at<A: Allocator, B: Allocator + Copy>(
     alloc: B,
     view: &Doc<A>,

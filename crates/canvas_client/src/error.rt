@@ -45,7 +45,7 @@ pub enum EditError {
     /// The number of the client's last edit is 2^62, which is the last one.
     #[error("the client can make no more edits")]
     Full = 9,
-    /// Memory was refused.
+    /// Memory ran out.
     #[error("out of memory")]
     Memory = 10,
 }
@@ -102,7 +102,7 @@ pub enum PlaceError {
     /// The number of the client's last edit is 2^62, which is the last one.
     #[error("the client can make no more edits")]
     Full = 9,
-    /// Memory was refused.
+    /// Memory ran out.
     #[error("out of memory")]
     Memory = 10,
 }

@@ -1,4 +1,4 @@
-// A view, brought up to an entry field by field. Where memory is refused, nothing has changed: each entry makes at most one call on the
+// A view, brought up to an entry field by field. If memory runs out, nothing has changed: each entry makes at most one call on the
 // view that takes memory, after all copies.
 ghost use Rattle.std.specs.Prelude.{◌≡◌, ◌≢◌, ◌+◌, true, false, IfOk, OnOk, OnErr, length};
 ghost use Rattle.std.specs.List.{Contains};

@@ -216,7 +216,7 @@ impl<A: Allocator> Client<A> {
         self.counter.checked_add(1)
     }
 
-    // Whether the last number of an edit is given.
+    // Checks whether the last number of an edit is given.
     pub(crate) fn is_full(&self) -> bool
         ensures { IsTrue result ↔ (last_number self.now ≡ 2 ^ 62) }
     {
@@ -225,7 +225,7 @@ impl<A: Allocator> Client<A> {
 }
 
 impl<A: Allocator + Copy> Client<A> {
-    /// Makes the edit that was drafted here: it waits, and the view shows it. Answers its number, from 1. Where memory is refused,
+    /// Makes the edit that was drafted here: it waits, and the view shows it. Answers its number, from 1. If memory runs out,
     /// nothing has changed.
     pub fn commit(&mut self, change: Change<A>) -> Result<u64, AllocError>
         requires { (request : Asked) × Makes self.old request change }

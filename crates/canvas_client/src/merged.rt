@@ -92,7 +92,7 @@ impl<A: Allocator + Copy> Merged<A> {
     }
 
     /// Brings the view up to an entry; `own` says that it is of the first edit that waits, which is then taken out. It makes at most
-    /// four changes more than the entry removes ids, and `last_changes` answers how many. Fails only where memory is refused, or
+    /// four changes more than the entry removes ids, and `last_changes` answers how many. Fails only if memory runs out, or
     /// where the entry removes `usize::MAX` ids, which no memory holds; then nothing has changed.
     pub fn take<B: Allocator>(&mut self, own: bool, entry: &Entry<B>) -> Result<(), AllocError>
         requires first { own ≡ true → IsEdit entry.now.what (nth self.old.waiting 1) }
@@ -140,7 +140,7 @@ impl<A: Allocator + Copy> Merged<A> {
         Ok(())
     }
 
-    // Adds an edit to those that wait, and lays it over the view. Where memory is refused, nothing has changed.
+    // Adds an edit to those that wait, and lays it over the view. If memory runs out, nothing has changed.
     pub(crate) fn add(&mut self, change: Change<A>) -> Result<(), AllocError>
         ensures waiting { OnOk result (self.new.waiting ≡ self.old.waiting ++ change ∷ []) }
         ensures view { OnOk result (self.new.shown.doc ≡ lay self.old.shown.doc change) }

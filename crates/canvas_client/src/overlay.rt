@@ -6,7 +6,7 @@ use canvas_doc::Doc;
 use canvas_pending::Pending;
 use std::alloc::{AllocError, Allocator};
 
-/// A copy of the document with the waiting edits from this index on laid over it in order. Fails only where memory is refused.
+/// A copy of the document with the waiting edits from this index on laid over it in order. Errors: out of memory.
 pub fn overlaid<A: Allocator + Copy, B: Allocator + Copy>(
     alloc: A,
     doc: &Doc<B>,

@@ -37,8 +37,8 @@ pub struct ClientParts<A: Allocator = Global> {
 
 impl<A: Allocator + Copy> Client<A> {
     /// The client of these parts. There is none where the edits that wait create an object that isn't the client's own, or whose
-    /// counter is above its last, or one twice, or the root; where some wait without an id; or where its last edit's number is above
-    /// 2^62. Fails only where memory is refused.
+    /// counter is above its last, or one twice, or the root; where some wait without an id; or if its last edit's number is above
+    /// 2^62. Errors: out of memory.
     pub fn from_parts(alloc: A, parts: ClientParts<A>) -> Result<Option<Self>, AllocError>
         ensures some { IfOk result (λ made. IfSome made (λ client. client ≡ seen_parts parts)) }
         ensures none { IfOk result (λ made. IfNone made (IsKept (seen_parts parts) → ⊥)) }
@@ -65,7 +65,7 @@ impl<A: Allocator + Copy> Client<A> {
     }
 }
 
-// Whether they are the parts of a client.
+// Checks whether they are the parts of a client.
 fn are_kept<A: Allocator + Copy>(alloc: A, parts: &ClientParts<A>) -> Result<bool, AllocError>
     ensures { IfOk result (λ kept. IsTrue kept ↔ IsKept (seen_parts parts.now)) }
 {
@@ -78,7 +78,7 @@ fn are_kept<A: Allocator + Copy>(alloc: A, parts: &ClientParts<A>) -> Result<boo
     }
 }
 
-// Whether the number of the last edit is one.
+// Checks whether the number of the last edit is one.
 fn are_few<A: Allocator>(parts: &ClientParts<A>) -> bool
     ensures { IsTrue result ↔ (last_number (seen_parts parts.now) ≤ last_version) }
 {
@@ -86,21 +86,21 @@ fn are_few<A: Allocator>(parts: &ClientParts<A>) -> bool
         && parts.waiting.len() as u64 <= LAST_VERSION - parts.acknowledged
 }
 
-// Whether nothing waits, or there is an id.
+// Checks whether nothing waits, or there is an id.
 fn is_idle<A: Allocator>(parts: &ClientParts<A>) -> bool
     ensures { IsTrue result ↔ (parts.now.id ≡ None → parts.now.waiting.items ≡ []) }
 {
     parts.id.is_some() || parts.waiting.is_empty()
 }
 
-// Whether one of the edits creates the root.
+// Checks whether one of the edits creates the root.
 fn creates_root<A: Allocator>(changes: &[Change<A>]) -> bool
     ensures { result ≡ list_any (creates_it root) changes.now }
 {
     changes.iter().any(|change| creates(change, ObjId::ROOT))
 }
 
-// Whether the change creates this object.
+// Checks whether the change creates this object.
 fn creates<A: Allocator>(change: &Change<A>, id: ObjId) -> bool
     ensures { result ≡ creates_it id change.now }
 {
@@ -110,7 +110,7 @@ fn creates<A: Allocator>(change: &Change<A>, id: ObjId) -> bool
     }
 }
 
-// Whether the edits create no object twice, each with the client's id and a counter up to this one.
+// Checks whether the edits create no object twice, each with the client's id and a counter up to this one.
 fn are_own<A: Allocator + Copy>(
     alloc: A,
     client: u32,
@@ -127,7 +127,7 @@ fn are_own<A: Allocator + Copy>(
     Ok(own)
 }
 
-// Notes what the change creates. Answers whether that is nothing, or an object with the client's id and a counter up to this one that
+// Notes what the change creates. Returns whether that is nothing, or an object with the client's id and a counter up to this one that
 // wasn't noted before.
 fn note<A: Allocator + Copy>(
     noted: &mut BTreeSet<ObjId, A>,

@@ -133,7 +133,7 @@ impl<A: Allocator> EditRequest<A> {
         &self.variant
     }
 
-    /// The same request under another allocator. Fails only where memory is refused.
+    /// The same request under another allocator. Errors: out of memory.
     pub fn copy_in<B: Allocator + Copy>(&self, alloc: B) -> Result<EditRequest<B>, AllocError>
         ensures { IfOk result (λ r. r ≡ self.now) }
     {
@@ -165,7 +165,7 @@ impl<A: Allocator> EditRequest<A> {
         }
     }
 
-    /// Whether two requests are the same.
+    /// Checks whether two requests are the same.
     pub fn same<B: Allocator>(&self, other: &EditRequest<B>) -> bool
         ensures { IsTrue result ↔ (self.now ≡ other.now) }
     {

@@ -23,7 +23,7 @@ impl<A: Allocator> Drop for Shown<A> {
 }
 
 impl<A: Allocator + Copy> Shown<A> {
-    // Adds an object without properties, whose id must not be live. Where memory is refused, nothing has changed.
+    // Adds an object without properties, whose id must not be live. If memory runs out, nothing has changed.
     pub(crate) fn put_object(
         &mut self,
         id: ObjId,
@@ -50,7 +50,7 @@ impl<A: Allocator + Copy> Shown<A> {
         self.changes = self.changes.raised();
     }
 
-    // Gives a property of an object this value, or takes the property away. Where memory is refused, nothing has changed.
+    // Gives a property of an object this value, or takes the property away. If memory runs out, nothing has changed.
     pub(crate) fn put_prop(
         &mut self,
         id: ObjId,
@@ -66,7 +66,7 @@ impl<A: Allocator + Copy> Shown<A> {
         Ok(())
     }
 
-    // Lays an edit over it. Where memory is refused, nothing has changed.
+    // Lays an edit over it. If memory runs out, nothing has changed.
     pub(crate) fn overlay(&mut self, change: &Change<A>) -> Result<(), AllocError>
         ensures ok { OnOk result (self.new.doc ≡ lay self.old.doc change.now) }
         ensures err { OnErr result (self.new ≡ self.old) }

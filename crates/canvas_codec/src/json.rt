@@ -48,7 +48,7 @@ pub fn from_json<A: Allocator + Copy>(alloc: A, json: &Json) -> Result<Value<A>,
     ensures range { IfOk result (λ v. fits v ≡ true) }
     ensures only { IfOk result (λ v. (w : PlainValue) → json_tree w ≡ view json.now → w ≡ v) }
 
-    // The JSON tree of a value whose numbers are in range is refused for want of memory alone.
+    // The JSON tree of a value whose numbers are in range fails only if memory runs out.
     ensures only_memory { (w : PlainValue) → StandsFor value_form (view json.now) w
         → IfErr result (λ e. e ≡ JsonFault.Memory) }
     ensures fault { IfErr result (IsJsonFault (view json.now)) }

@@ -14,7 +14,7 @@ pub enum JsonFault {
     /// one of 0 to 4294967295.
     #[error("a number is out of range")]
     OutOfRange,
-    /// Memory was refused.
+    /// Memory ran out.
     #[error("out of memory")]
     Memory,
 }

@@ -23,7 +23,7 @@ use std::random::RandomSource;
 /// and those that begin with `#` are passed over.
 ///
 /// The errors: `BadLine`, for the first line that can't be read, and then the answers to the lines before it were written, and no more;
-/// `Device`, where the socket, the input or the output failed, or the server answered a No; `Memory`, where memory was refused, and
+/// `Device`, where the socket, the input or the output failed, or the server answered a No; `Memory`, if memory runs out, and
 /// then the answers to some of the first lines were written, with the version at most behind those to all.
 pub fn edit<R, I, W>(rt: &R, port: u16, input: &mut I, output: &mut W) -> Result<(), Fault>
 where
@@ -105,7 +105,7 @@ fn next_line<I: BufRead>(alloc: Global, input: &mut I) -> Result<Option<Vec<u8>>
     Ok(Some(line))
 }
 
-// Whether a line feed ends the text.
+// Checks whether a line feed ends the text.
 fn ends_with_feed(text: &[u8]) -> bool
     ensures { IsTrue result ↔ (slice_get text.now (length text.now - 1) ≡ Some 10) }
 {
@@ -177,7 +177,7 @@ pub(crate) enum EditAnswer {
     Refused(EditError),
 }
 
-// Makes an edit, and answers its number, or why the client refuses it. Fails only where memory is refused.
+// Makes an edit, and answers its number, or why the client refuses it. Errors: out of memory.
 fn made<R>(node: &mut Node<R>, request: &EditRequest) -> Result<EditAnswer, AllocError>
 where
     R: RandomSource + AllocGlobal + Clone + Drop,

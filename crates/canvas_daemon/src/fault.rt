@@ -19,7 +19,7 @@ pub enum Fault {
     Usage,
     /// The first line of the input that can't be read, counted from 1.
     BadLine(u64),
-    /// Memory was refused.
+    /// Memory ran out.
     Memory,
     /// The device of the journal failed, or a socket, or a read or write of the program's streams.
     Device,

@@ -35,7 +35,7 @@ pub(crate) struct Node<R: Drop> {
     ghost joined: { IsSome client.id },
 }
 
-// The link over a stream to a server. Device, where the handshake failed; Memory, where memory was refused.
+// The link over a stream to a server. Device, where the handshake failed; Memory, if memory runs out.
 fn shake_hands<R: RandomSource + AllocGlobal + Clone + Drop>(
     rt: &R,
     stream: TcpStream,
@@ -66,7 +66,7 @@ fn shake_hands<R: RandomSource + AllocGlobal + Clone + Drop>(
 impl<R: RandomSource + AllocGlobal + Clone + Drop> Node<R> {
     /// A client that joins the server at the other end of a stream.
     ///
-    /// The errors: `Device`, where the handshake or the socket failed, or the server answered a No; `Memory`, where memory was refused.
+    /// The errors: `Device`, where the handshake or the socket failed, or the server answered a No; `Memory`, if memory runs out.
     pub fn joined(rt: &R, stream: TcpStream) -> Result<Node<R>, Fault>
         ensures joined { IfOk result (λ node. HasJoined node.client) }
         ensures faults { IfErr result IsMemoryOrDevice }
@@ -108,7 +108,7 @@ impl<R: RandomSource + AllocGlobal + Clone + Drop> Node<R> {
 
     /// Sends what waits, and asks for what is new.
     ///
-    /// The errors: `Device`, where the socket failed or the server answered a No; `Memory`, where memory was refused.
+    /// The errors: `Device`, where the socket failed or the server answered a No; `Memory`, if memory runs out.
     pub fn exchange(&mut self, alloc: Global) -> Result<(), Fault>
         ensures goes_on { GoesOn self.old.client self.new.client }
         ensures faults { IfErr result IsMemoryOrDevice }

@@ -26,8 +26,8 @@ use std::thread::{Threads, map_vec};
 ///
 /// The errors: `Device`, where the port, the folder or the output failed, and after the second line where the journal has failed
 /// meanwhile; `Damaged`, for the first record of the journal that isn't what it has to be; `TooLarge`, where the journal has no room
-/// for its checkpoint; `Memory`, where memory was refused; `Usage`, only for fewer connections than 1 or more than 64. With an error
-/// other than `Device` nothing was written, or the first line alone. Where the port can't be had, the folder is left alone. Where no
+/// for its checkpoint; `Memory`, if memory runs out; `Usage`, only for fewer connections than 1 or more than 64. With an error
+/// other than `Device` nothing was written, or the first line alone. If the port can't be had, the folder is left alone. If no
 /// thread can be made, connections are served one after the other.
 pub fn serve<R, W>(
     rt: &R,
@@ -110,7 +110,7 @@ pub(crate) struct Door<'a> {
 /// A room with its seats.
 pub type Opened<K, N, R> = (Room<K, N, R>, Vec<Seat<N, Lock<K, N, R>>>);
 
-/// The room with its seats, under a name. A room isn't opened only where memory is refused.
+/// The room with its seats, under a name. A room isn't opened only if memory runs out.
 pub fn opened<N, K, R>(rt: &R, room: BlankRoom<K>) -> Result<Opened<K, N, R>, Fault>
 where
     N: RoomName,
@@ -189,7 +189,7 @@ fn served_line(alloc: Global, count: usize, version: u64) -> Result<String, Allo
 
 /// Accepts a connection for each seat, and serves each in a thread of its own. Returns once all have ended.
 ///
-/// The errors: `Device`, where a connection wasn't accepted; `Memory`, where memory was refused.
+/// The errors: `Device`, where a connection wasn't accepted; `Memory`, if memory runs out.
 fn serve_seats<N, K, R>(
     rt: &R,
     door: Door<'_>,
@@ -210,7 +210,7 @@ where
 
 /// Accepts a connection, and serves it until it ends.
 ///
-/// The errors: `Device`, where no connection was accepted; `Memory`, where memory was refused.
+/// The errors: `Device`, where no connection was accepted; `Memory`, if memory runs out.
 pub(crate) fn serve_next<N, K, R>(
     rt: &R,
     door: Door<'_>,
@@ -227,7 +227,7 @@ where
 }
 
 /// Serves a connection until it ends, and closes beside it what the folder removes. How it ended isn't told. The errors: `Memory`, where
-/// memory was refused.
+/// memory ran out.
 pub(crate) fn serve_stream<N, K, R>(
     rt: &R,
     seat: Seat<N, Lock<K, N, R>>,

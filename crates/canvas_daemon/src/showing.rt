@@ -20,7 +20,7 @@ use std::rt::Files;
 /// shelf.
 ///
 /// The errors: `Device`, where the device failed; `Damaged`, for the first record that isn't what it has to be; `Memory`, where
-/// memory was refused.
+/// memory ran out.
 pub fn report<S: Shelf>(alloc: Global, shelf: &mut S) -> Result<Vec<u8>, Fault>
     ensures found { IsTrue (S.honest shelf.old) → IfOk result (λ text. IsReportOf (S.disk shelf.old) text.items) }
     ensures form { IfOk result (λ text. IsReport text.items) }

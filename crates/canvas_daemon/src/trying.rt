@@ -73,7 +73,7 @@ fn trial_line(alloc: Global, version: u64, equal: bool) -> Result<String, AllocE
     format!(in alloc; "trial version {version} equal {word}\n")
 }
 
-// Whether the clients agree, in a word.
+// Checks whether the clients agree, in a word.
 fn equal_word(equal: bool) -> &'static str
     ensures { result.now ≡ equal_word equal }
 {
@@ -120,7 +120,7 @@ fn connect_for_a_while<R: Net<Stream = TcpStream>>(rt: &R, port: u16) -> Result<
     Ok(stream)
 }
 
-// That a thread ends with no other fault than want of memory or a failed device.
+// That a thread ends with no other error than out of memory or a failed device.
 #[derive(Clone, Copy)]
 struct MemoryOrDevice;
 
@@ -133,7 +133,7 @@ type Server = PromisedHandle<Result<(), Fault>, MemoryOrDevice>;
 
 // Edits by two clients at once, while each seat serves one of them. Answers the first one's version, and whether they show the same.
 //
-// No client begins before each seat has its thread. Where a thread can't be made, the clients' streams are closed, by which the threads
+// No client begins before each seat has its thread. If a thread can't be made, the clients' streams are closed, by which the threads
 // that there are end.
 fn edit_both<S, F, R>(
     rt: &R,

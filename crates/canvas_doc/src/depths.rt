@@ -31,15 +31,15 @@ impl<A: Allocator> Doc<A> {
         None
     }
 
-    /// Whether the object is the parent that some live object's place names. Takes no memory.
+    /// Checks whether the object is the parent that some live object's place names. Takes no memory.
     pub fn has_children(&self, id: ObjId) -> bool
         ensures { IsTrue result ↔ (q : ObjId) × (parent_of self.now q ≡ Some id) }
     {
         is_any_under(&self.spots, id)
     }
 
-    /// Whether something lies this many steps below the object, level by level: it asks once for the children of each object that
-    /// lies fewer steps below. Exact for every document. Fails only where memory is refused.
+    /// Checks whether something lies this many steps below the object, level by level: it asks once for the children of each object that
+    /// lies fewer steps below. Exact for every document. Errors: out of memory.
     pub fn reaches<B: Allocator + Copy>(
         &self,
         alloc: B,
@@ -63,7 +63,7 @@ impl<A: Allocator> Doc<A> {
     }
 
     /// The most steps by which anything lies below the object, which must be in the tree. It asks once for the children of each
-    /// object below it. Fails only where memory is refused.
+    /// object below it. Errors: out of memory.
     pub fn height<B: Allocator + Copy>(&self, alloc: B, id: ObjId) -> Result<u64, AllocError>
         requires { InTree self.now id }
         ensures { IfOk result (IsHeight self.now id) }
@@ -81,7 +81,7 @@ impl<A: Allocator> Doc<A> {
         Ok(0)
     }
 
-    /// Whether a new object under this parent would stand deeper than an object may be put. Takes no memory.
+    /// Checks whether a new object under this parent would stand deeper than an object may be put. Takes no memory.
     pub fn is_too_deep_under(&self, parent: ObjId) -> bool
         ensures { IsTrue result ↔ IsTooDeepUnder self.now parent }
     {
@@ -92,8 +92,8 @@ impl<A: Allocator> Doc<A> {
         }
     }
 
-    /// Whether the object goes under another parent than it has, where it or something below it would stand deeper than an object
-    /// may be put. Fails only where memory is refused.
+    /// Checks whether the object goes under another parent than it has, where it or something below it would stand deeper than an object
+    /// may be put. Errors: out of memory.
     pub fn moves_too_deep<B: Allocator + Copy>(
         &self,
         alloc: B,
@@ -112,7 +112,7 @@ impl<A: Allocator> Doc<A> {
         }
     }
 
-    // Whether the object's place names this parent.
+    // Checks whether the object's place names this parent.
     fn stands_under(&self, id: ObjId, parent: ObjId) -> bool
         ensures { IsTrue result ↔ (parent_of self.now id ≡ Some parent) }
     {

@@ -81,7 +81,7 @@ impl<A: Allocator> Model for Doc<A> {
 }
 
 impl<A: Allocator + Copy> Doc<A> {
-    /// The document of the root alone. Fails only where memory is refused.
+    /// The document of the root alone. Errors: out of memory.
     pub fn new(alloc: A) -> Result<Self, AllocError>
         ensures { IfOk result (λ d. d ≡ blank) }
     {
@@ -93,7 +93,7 @@ impl<A: Allocator + Copy> Doc<A> {
         })
     }
 
-    /// Adds an object without properties, whose id must not be live. Where memory is refused, nothing has changed.
+    /// Adds an object without properties, whose id must not be live. If memory runs out, nothing has changed.
     pub fn put_object(&mut self, id: ObjId, kind: Kind, place: Place<A>) -> Result<(), AllocError>
         requires { live self.old id ≡ false }
         ensures ok { OnOk result (self.new ≡ revise self.old id (Some (new_object kind (Some place)))) }
@@ -109,7 +109,7 @@ impl<A: Allocator + Copy> Doc<A> {
     }
 
     /// The document of exactly these objects, where their ids rise strictly, the first is the root, a `Document` without a
-    /// place, and each of the others has a place; else none. Fails only where memory is refused.
+    /// place, and each of the others has a place; else none. Errors: out of memory.
     pub fn from_objects(objects: Vec<(ObjId, Object<A>), A>) -> Result<Option<Self>, AllocError>
         ensures some { IfOk result (λ made. IfSome made (λ d. d ≡ map.from_sorted objects.items)) }
         ensures entries { IfOk result (λ made. IfSome made (λ d. map.entries d ≡ objects.items)) }
@@ -123,7 +123,7 @@ impl<A: Allocator + Copy> Doc<A> {
         Ok(Some(Doc { rows, spots }))
     }
 
-    /// Moves an object, which must not be the root, to another place. Where it isn't live, nothing changes.
+    /// Moves an object, which must not be the root, to another place. If it isn't live, nothing changes.
     pub fn put_place(&mut self, id: ObjId, place: Place<A>)
         requires { id ≢ root }
         ensures { self.new ≡ revise self.old id (option_map (with_place place) (map.get self.old id)) }
@@ -138,8 +138,8 @@ impl<A: Allocator + Copy> Doc<A> {
         let _ = replace_row(&mut self.rows, id, object);
     }
 
-    /// Gives a property of an object this value, or takes the property away where there is none. Where the object isn't live,
-    /// nothing changes; nor where memory is refused.
+    /// Gives a property of an object this value, or takes the property away where there is none. If the object isn't live,
+    /// nothing changes; nor if memory runs out.
     pub fn put_prop(
         &mut self,
         id: ObjId,
@@ -177,7 +177,7 @@ impl<A: Allocator> Doc<A> {
         self.rows.len()
     }
 
-    /// Whether the object is live.
+    /// Checks whether the object is live.
     pub fn has(&self, id: ObjId) -> bool
         ensures { result ≡ live self.now id }
     {
@@ -218,7 +218,7 @@ impl<A: Allocator> Doc<A> {
     }
 
     /// The ids of the live objects whose place names this one, in the order of their positions, and of their ids where they
-    /// share one. The object itself may be gone. Fails only where memory is refused.
+    /// share one. The object itself may be gone. Errors: out of memory.
     pub fn children<B: Allocator + Copy>(
         &self,
         alloc: B,
@@ -229,7 +229,7 @@ impl<A: Allocator> Doc<A> {
         ids_under(alloc, &self.spots, id)
     }
 
-    /// The same document under another allocator. Fails only where memory is refused.
+    /// The same document under another allocator. Errors: out of memory.
     pub fn copy<B: Allocator + Copy>(&self, alloc: B) -> Result<Doc<B>, AllocError>
         ensures { IfOk result (λ d. d ≡ self.now) }
     {
@@ -238,7 +238,7 @@ impl<A: Allocator> Doc<A> {
         Ok(Doc { rows, spots })
     }
 
-    /// Whether a child of `parent` other than `except` stands at this position.
+    /// Checks whether a child of `parent` other than `except` stands at this position.
     pub fn taken<B: Allocator>(&self, parent: ObjId, pos: &Pos<B>, except: ObjId) -> bool
         ensures { IsTrue result ↔ IsTaken self.now parent except pos.now }
     {
@@ -267,7 +267,7 @@ impl<A: Allocator> Doc<A> {
         next_of(&self.rows, &self.spots, parent, after, except)
     }
 
-    /// Removes an object, which must not be the root; what lies below it stays. Where it isn't live, nothing changes.
+    /// Removes an object, which must not be the root; what lies below it stays. If it isn't live, nothing changes.
     pub fn remove(&mut self, id: ObjId)
         requires { id ≢ root }
         ensures { self.new ≡ map.remove self.old id }
@@ -291,7 +291,7 @@ impl<A: Allocator> Doc<A> {
         }
     }
 
-    /// Whether two documents are the same.
+    /// Checks whether two documents are the same.
     pub fn same<B: Allocator>(&self, other: &Doc<B>) -> bool
         ensures { IsTrue result ↔ (self.now ≡ other.now) }
     {
@@ -299,7 +299,7 @@ impl<A: Allocator> Doc<A> {
     }
 }
 
-// Whether the objects are a document.
+// Checks whether the objects are a document.
 fn is_document<A: Allocator>(objects: &[(ObjId, Object<A>)]) -> bool
     ensures { IsTrue result ↔ AreDocument objects.now }
 {
@@ -316,7 +316,7 @@ fn know_rows<A: Allocator>(objects: &[(ObjId, Object<A>)])
     }
 }
 
-// Whether the first one is the root, and each of the others has a place.
+// Checks whether the first one is the root, and each of the others has a place.
 fn is_rooted<A: Allocator>(objects: &[(ObjId, Object<A>)]) -> bool
     ensures { IsTrue result ↔ AreRooted objects.now }
 {
@@ -326,21 +326,21 @@ fn is_rooted<A: Allocator>(objects: &[(ObjId, Object<A>)]) -> bool
     }
 }
 
-// Whether it is the root, a `Document` without a place.
+// Checks whether it is the root, a `Document` without a place.
 fn is_root<A: Allocator>(pair: &(ObjId, Object<A>)) -> bool
     ensures { IsTrue result ↔ IsRoot pair.now }
 {
     pair.0 == ObjId::ROOT && pair.1.kind() == Kind::Document && pair.1.place().is_none()
 }
 
-// Whether each of them has a place.
+// Checks whether each of them has a place.
 fn are_placed<A: Allocator>(objects: &[(ObjId, Object<A>)]) -> bool
     ensures { result ≡ list_all is_placed objects.now }
 {
     objects.iter().all(|pair| is_placed(pair))
 }
 
-// Whether the object has a place.
+// Checks whether the object has a place.
 fn is_placed<A: Allocator>(pair: &(ObjId, Object<A>)) -> bool
     ensures { result ≡ is_placed pair.now }
 {

@@ -129,7 +129,7 @@ impl<A: Allocator> Object<A> {
         self.place = place;
     }
 
-    /// Gives a property this value, or takes the property away where there is none. Where memory is refused, nothing has
+    /// Gives a property this value, or takes the property away where there is none. If memory runs out, nothing has
     /// changed.
     pub fn put_prop(&mut self, name: Name<A>, value: Option<Value<A>>) -> Result<(), AllocError>
         ensures ok { OnOk result (self.new ≡ with_prop name value self.old) }
@@ -146,7 +146,7 @@ impl<A: Allocator> Object<A> {
         Ok(())
     }
 
-    /// The same object under another allocator. Fails only where memory is refused.
+    /// The same object under another allocator. Errors: out of memory.
     pub fn copy_in<B: Allocator + Copy>(&self, alloc: B) -> Result<Object<B>, AllocError>
         ensures { IfOk result (λ o. o ≡ self.now) }
     {
@@ -159,7 +159,7 @@ impl<A: Allocator> Object<A> {
         })
     }
 
-    /// Whether two objects are the same.
+    /// Checks whether two objects are the same.
     pub fn same<B: Allocator>(&self, other: &Object<B>) -> bool
         ensures { IsTrue result ↔ (self.now ≡ other.now) }
     {
@@ -167,7 +167,7 @@ impl<A: Allocator> Object<A> {
     }
 }
 
-// Whether the two are of one kind and stand at one place.
+// Checks whether the two are of one kind and stand at one place.
 fn stand_alike<A: Allocator, B: Allocator>(object: &Object<A>, other: &Object<B>) -> bool
     ensures { IsTrue result ↔ (object.now.place ≡ other.now.place) × (object.now.kind ≡ other.now.kind) }
 {
@@ -231,7 +231,7 @@ fn copy_place<A: Allocator, B: Allocator + Copy>(
     place.as_ref().map(|place| place.copy_in(alloc)).transpose()
 }
 
-// Whether the two are the same place, or both none.
+// Checks whether the two are the same place, or both none.
 fn same_place<A: Allocator, B: Allocator>(
     place: &Option<Place<A>>,
     other: &Option<Place<B>>,
@@ -245,7 +245,7 @@ fn same_place<A: Allocator, B: Allocator>(
     }
 }
 
-/// Whether two objects and their ids are the same.
+/// Checks whether two objects and their ids are the same.
 pub fn same_object<A: Allocator, B: Allocator>(
     pair: &(ObjId, Object<A>),
     other: &(ObjId, Object<B>),

@@ -9,7 +9,7 @@ use std::alloc::{AllocError, Allocator};
 impl<A: Allocator + Copy> Doc<A> {
     /// Lays a change over the document, with no verdict asked: an object that isn't live is created, a property is set or cleared,
     /// an object is moved, or is removed without what lies below it. What isn't live is neither set nor moved nor removed, what is
-    /// live isn't created, and of the root only properties change. Fails only where memory is refused, and then nothing has changed.
+    /// live isn't created, and of the root only properties change. Fails only if memory runs out, and then nothing has changed.
     pub fn overlay<B: Allocator>(&mut self, change: &Change<B>) -> Result<(), AllocError>
         ensures ok { OnOk result (self.new ≡ lay self.old change.now) }
         ensures err { OnErr result (self.new ≡ self.old) }

@@ -30,7 +30,7 @@ pub fn object_of<A: Allocator>(rows: &Rows<A>, id: ObjId) -> Option<&Object<A>>
     if row.0 == id { Some(&row.1) } else { None }
 }
 
-/// Adds the row of an object that isn't live. Where memory is refused, nothing has changed.
+/// Adds the row of an object that isn't live. If memory runs out, nothing has changed.
 pub fn put_row<A: Allocator + Copy>(
     rows: &mut Rows<A>,
     id: ObjId,
@@ -82,7 +82,7 @@ pub fn take_row<A: Allocator>(rows: &mut Rows<A>, id: ObjId)
     );
 }
 
-/// The rows of these objects, whose ids rise strictly, and their spots. Fails only where memory is refused.
+/// The rows of these objects, whose ids rise strictly, and their spots. Errors: out of memory.
 pub fn rows_and_spots<A: Allocator + Copy>(
     objects: Vec<(ObjId, Object<A>), A>,
 ) -> Result<(Rows<A>, Spots<A>), AllocError>
@@ -101,7 +101,7 @@ pub fn rows_and_spots<A: Allocator + Copy>(
 }
 
 // Adds an object whose id is greater than those of all others, and its spot where it stands somewhere. No document is made of
-// them where memory is refused.
+// them if memory runs out.
 fn append<A: Allocator + Copy>(
     rows: &mut Rows<A>,
     spots: &mut Spots<A>,
@@ -136,7 +136,7 @@ fn append_spot<A: Allocator + Copy>(
     }
 }
 
-/// The same rows under another allocator. Fails only where memory is refused.
+/// The same rows under another allocator. Errors: out of memory.
 pub fn copy_rows<A: Allocator, B: Allocator + Copy>(
     alloc: B,
     rows: &Rows<A>,
@@ -152,7 +152,7 @@ pub fn copy_rows<A: Allocator, B: Allocator + Copy>(
     Ok(copies)
 }
 
-/// Whether two lists of rows are the same.
+/// Checks whether two lists of rows are the same.
 pub fn same_rows<A: Allocator, B: Allocator>(rows: &Rows<A>, others: &Rows<B>) -> bool
     ensures { IsTrue result ↔ (rows.now ≡ others.now) }
 {

@@ -8,7 +8,7 @@ ghost use Rattle.canvas_doc.specs.Sorted.{is_other, IsPairAt, IsGapAt};
 use std::alloc::{AllocError, Allocator};
 use std::cmp::Ordering;
 
-/// Whether the keys rise strictly.
+/// Checks whether the keys rise strictly.
 pub fn is_sorted<K: Ord, X>(pairs: &[(K, X)]) -> bool
     ensures { IsTrue result ↔ T (map.is_sorted K.cmp pairs.now) }
 {
@@ -32,7 +32,7 @@ pub fn index_of<K: Ord, X>(pairs: &[(K, X)], key: &K) -> Result<usize, usize>
     )
 }
 
-/// Gives the key this value, in its pair or in a new one. Where memory is refused, nothing has changed.
+/// Gives the key this value, in its pair or in a new one. If memory runs out, nothing has changed.
 pub fn put<K: Ord + Drop, X: Drop, A: Allocator>(
     pairs: &mut Vec<(K, X), A>,
     key: K,

@@ -106,7 +106,7 @@ pub fn from_first<'a, A: Allocator, B: Allocator>(
     }
 }
 
-/// Adds the spot of an object that stands at this place. Where memory is refused, nothing has changed.
+/// Adds the spot of an object that stands at this place. If memory runs out, nothing has changed.
 pub fn add_spot<A: Allocator + Copy>(
     rows: &Rows<A>,
     spots: &mut Spots<A>,
@@ -132,7 +132,7 @@ pub fn add_spot<A: Allocator + Copy>(
     )
 }
 
-/// Adds the spot of a live object that has none yet, where it stands somewhere. Where memory is refused, nothing has changed.
+/// Adds the spot of a live object that has none yet, where it stands somewhere. If memory runs out, nothing has changed.
 pub fn put_spot<A: Allocator + Copy>(
     rows: &Rows<A>,
     spots: &mut Spots<A>,
@@ -214,8 +214,8 @@ fn place_in<A: Allocator>(rows: &Rows<A>, id: ObjId) -> Option<&Place<A>>
     object_of(rows, id)?.place()
 }
 
-// Whether an object's spot stands before the one of this parent, position and id; `digits` are the position's first ones. The
-// object's own position is looked up only where the digits are the same.
+// Checks whether an object's spot stands before the one of this parent, position and id; `digits` are the position's first ones. The
+// object's own position is looked up only if the digits are the same.
 fn stands_before<A: Allocator, B: Allocator>(
     rows: &Rows<A>,
     spot: &Spot,
@@ -237,7 +237,7 @@ fn stands_before<A: Allocator, B: Allocator>(
     }
 }
 
-// Whether a child at the first position stands before one at the second.
+// Checks whether a child at the first position stands before one at the second.
 fn stands_lower<A: Allocator, B: Allocator>(
     pos: Option<&Pos<A>>,
     id: ObjId,
@@ -256,7 +256,7 @@ fn stands_lower<A: Allocator, B: Allocator>(
     }
 }
 
-/// Whether the spot is under this parent at this position.
+/// Checks whether the spot is under this parent at this position.
 pub fn stands_there<A: Allocator, B: Allocator>(
     rows: &Rows<A>,
     spot: &Spot,
@@ -302,7 +302,7 @@ pub fn next_of<'a, A: Allocator, B: Allocator>(
     None
 }
 
-// Whether the position is greater than this one, if there is one.
+// Checks whether the position is greater than this one, if there is one.
 fn is_after<A: Allocator, B: Allocator>(pos: &Pos<A>, after: Option<&Pos<B>>) -> bool
     ensures { IsTrue result ↔ IsLowEnd (option_copied after.entry) pos.now }
 {
@@ -312,7 +312,7 @@ fn is_after<A: Allocator, B: Allocator>(pos: &Pos<A>, after: Option<&Pos<B>>) ->
     }
 }
 
-/// The ids of the spots under this parent. Fails only where memory is refused.
+/// The ids of the spots under this parent. Errors: out of memory.
 pub fn ids_under<A: Allocator, B: Allocator>(
     alloc: B,
     spots: &Spots<A>,
@@ -331,7 +331,7 @@ pub fn ids_under<A: Allocator, B: Allocator>(
     Ok(ids)
 }
 
-/// Whether a spot stands under this parent.
+/// Checks whether a spot stands under this parent.
 pub fn is_any_under<A: Allocator>(spots: &Spots<A>, parent: ObjId) -> bool
     ensures { (d : _) → AreSpots (place_of d) spots.now → IsTrue result ↔ (q : ObjId) × (parent_of d q ≡ Some parent) }
 {
@@ -342,7 +342,7 @@ pub fn is_any_under<A: Allocator>(spots: &Spots<A>, parent: ObjId) -> bool
     }
 }
 
-/// The same spots under another allocator. Fails only where memory is refused.
+/// The same spots under another allocator. Errors: out of memory.
 pub fn copy_spots<A: Allocator, B: Allocator + Copy>(
     alloc: B,
     spots: &Spots<A>,

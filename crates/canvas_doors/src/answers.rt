@@ -17,7 +17,7 @@ const MOST_FILE_BYTES: u64 = 16 << 20;
 
 /// The bytes of the answer: what was asked for, or a sentence that says why not.
 ///
-/// A file of the page that can't be read is answered as one that isn't there. Fails only where memory is refused.
+/// A file of the page that can't be read is answered as one that isn't there. Errors: out of memory.
 pub(crate) fn answer_to<R>(
     files: &R,
     shared: &Shared,
@@ -78,7 +78,7 @@ fn identity_line(alloc: Global, site: &Site) -> Result<String, AllocError>
     format!(in alloc; "{identity}\n")
 }
 
-/// The answer to a client for which no seat is free. Fails only where memory is refused.
+/// The answer to a client for which no seat is free. Errors: out of memory.
 pub(crate) fn turn_away(alloc: Global, shared: &Shared) -> Result<Vec<u8>, AllocError>
     ensures { IfOk result (λ answer. answer.items ≡ turned_away (seen_site shared.now.site)) }
 {
@@ -124,7 +124,7 @@ where
 
 /// What this file of a page holds, whose files are in the folder: at most its first 16 MiB.
 ///
-/// Fails where it isn't there or can't be read, or memory was refused.
+/// Fails where it isn't there or can't be read, or memory ran out.
 pub fn read_page<R>(files: &R, folder: &str, file: PageFile) -> io::Result<Vec<u8>>
 where
     R: Files<File = File> + AllocGlobal,

@@ -121,7 +121,7 @@ fn request_in(shared: &Shared, bytes: &[u8]) -> Option<Request>
     }
 }
 
-// Sends an answer, and ends the connection. Where it can't be sent the peer is gone.
+// Sends an answer, and ends the connection. If it can't be sent the peer is gone.
 fn send(stream: TcpStream, answer: &[u8]) {
     let mut stream = stream;
     let _ = stream.set_write_timeout(Some(Duration::from_secs(SILENCE_SECONDS)));

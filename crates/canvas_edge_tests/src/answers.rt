@@ -48,7 +48,7 @@ const FIGURES_BEGIN: &str =
 /// Whether the body of figures is wanted, and what the answer ends with.
 pub const FIGURES: &[(bool, &str)] = &[(false, "\r\n"), (true, "\r\na 1\n")];
 
-// Whether the bytes are these texts, one behind the other.
+// Checks whether the bytes are these texts, one behind the other.
 fn are(bytes: &[u8], texts: &[&str]) -> bool {
     let mut rest = bytes;
     for text in texts {
@@ -60,7 +60,7 @@ fn are(bytes: &[u8], texts: &[&str]) -> bool {
     rest.is_empty()
 }
 
-// Whether an answer was written, and begins and ends so.
+// Checks whether an answer was written, and begins and ends so.
 fn is_written(written: Result<Vec<u8>, AllocError>, begin: &str, end: &str) -> bool {
     match written {
         Ok(bytes) => are(&bytes, &["HTTP/1.1 ", begin, COMMON, end]),

@@ -14,7 +14,7 @@ const CHECKPOINT_END: usize = 57;
 
 const FIRST_END: usize = 86;
 
-// Whether such a segment, with such sums, is what a crash leaves.
+// Checks whether such a segment, with such sums, is what a crash leaves.
 fn is_left(alloc: Global, bytes: &[u8], sums: &[u8]) -> Result<bool, Fail> {
     let mut shelf = OneSegment { bytes };
     match find_loss(alloc, &mut shelf, &TheseSums { alloc, sums }) {

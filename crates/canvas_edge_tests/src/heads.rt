@@ -127,7 +127,7 @@ fn asked_for(alloc: Global, site: &Site, common: &str, request: &str) -> Option<
     }
 }
 
-// Whether a row holds: a request, ` -> `, and what it asks for.
+// Checks whether a row holds: a request, ` -> `, and what it asks for.
 fn holds(alloc: Global, site: &Site, common: &str, row: &str) -> bool {
     match row.split_once(" -> ") {
         Some((request, wanted)) => asked_for(alloc, site, common, request) == Some(wanted),
@@ -181,7 +181,7 @@ fn read_in_words(alloc: Global, site: &Site, bytes: &[u8]) -> Result<String, All
     }
 }
 
-// Whether this is read of these bytes.
+// Checks whether this is read of these bytes.
 fn is_read(alloc: Global, site: &Site, bytes: &[u8], wanted: &str) -> bool {
     match read_in_words(alloc, site, bytes) {
         Ok(read) => read.as_str() == wanted,
@@ -192,7 +192,7 @@ fn is_read(alloc: Global, site: &Site, bytes: &[u8], wanted: &str) -> bool {
 /// Bytes, and what is read of them.
 pub type Head = (&'static [u8], &'static str);
 
-/// A request of curl, alone and with bytes behind it, and bytes that no request begins with: those of TLS, of HTTP/2, of a later version, and
+/// A request of curl, alone and with bytes after it, and bytes that no request begins with: those of TLS, of HTTP/2, of a later version, and
 /// others.
 pub const HEADS: &[Head] = &[
     (CURL, "health without a body, 84 bytes"),
@@ -237,7 +237,7 @@ pub const COUNTS: &[Count] = &[
     (64, "too many fields"),
 ];
 
-// Whether this is read of a request with `Host` and so many other fields.
+// Checks whether this is read of a request with `Host` and so many other fields.
 fn is_count_read(alloc: Global, site: &Site, count: usize, wanted: &str) -> bool {
     match with_fields(alloc, count) {
         Ok(head) => is_read(alloc, site, head.as_bytes(), wanted),

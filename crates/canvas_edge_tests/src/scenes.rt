@@ -15,7 +15,7 @@ const ADDED: &[(&str, &str)] = &[
     ("world\njoin\n", "before\n"),
 ];
 
-// Whether a log adds its answers, and with them its report, to what there was.
+// Checks whether a log adds its answers, and with them its report, to what there was.
 fn is_added(alloc: Global, input: &str, wanted: &str) -> Result<bool, AllocError> {
     let mut out = Vec::from_slice(alloc, b"before\n")?;
     let is_whole = log_run(alloc, input.as_bytes(), &mut out).is_ok();
@@ -56,7 +56,7 @@ const REFUSED: End = End {
     left: 9,
 };
 
-// Whether the program, called with these words, ends so.
+// Checks whether the program, called with these words, ends so.
 fn ends(alloc: Global, words: &[String], end: End) -> bool {
     let mut input = b"log\njoin\n".as_slice();
     let mut output = Vec::new(alloc);
@@ -78,7 +78,7 @@ fn words(alloc: Global, line: &str) -> Result<Vec<String>, AllocError> {
     Ok(words)
 }
 
-// Whether the program is refused that is called with the words of a line.
+// Checks whether the program is refused that is called with the words of a line.
 fn is_refused(alloc: Global, line: &str) -> Result<bool, AllocError> {
     let words = words(alloc, line)?;
     Ok(ends(alloc, &words, REFUSED))
@@ -133,7 +133,7 @@ impl Write for Fills {
 
 const STREAM_FAILED: &[u8] = b"read or write failed\n";
 
-// Whether a read that fails in mid-stream is told, and nothing is written.
+// Checks whether a read that fails in mid-stream is told, and nothing is written.
 fn tells_of_read(alloc: Global) -> bool {
     let mut output = Vec::new(alloc);
     let mut faults = Vec::new(alloc);
@@ -141,7 +141,7 @@ fn tells_of_read(alloc: Global) -> bool {
     status == 4 && output.is_empty() && faults.as_slice() == STREAM_FAILED
 }
 
-// Whether a write that fails in mid-stream is told.
+// Checks whether a write that fails in mid-stream is told.
 fn tells_of_write(alloc: Global) -> bool {
     let mut input = b"log\njoin\n".as_slice();
     let mut faults = Vec::new(alloc);

@@ -7,21 +7,21 @@ ghost use Rattle.canvas_edit_lines.specs.Answers.{edit_line, error_word, number_
 use canvas_client::EditError;
 use std::alloc::{AllocError, Global};
 
-/// The line of an edit that was made, by its number. Fails only where memory is refused.
+/// The line of an edit that was made, by its number. Errors: out of memory.
 pub fn edit_line(alloc: Global, number: u64) -> Result<String, AllocError>
     ensures { IfOk result (λ line. string_bytes line ≡ edit_line number) }
 {
     number_line(alloc, "edit", number)
 }
 
-/// A line of a word, a blank and a number, its line feed at the end. Fails only where memory is refused.
+/// A line of a word, a blank and a number, its line feed at the end. Errors: out of memory.
 pub fn number_line(alloc: Global, word: &str, number: u64) -> Result<String, AllocError>
     ensures { IfOk result (λ line. string_bytes line ≡ number_line word.now number) }
 {
     format!(in alloc; "{word} {number}\n")
 }
 
-/// The line of an edit that was refused. Where it was for want of memory, nothing has happened. Fails only where memory is refused.
+/// The line of an edit that was refused. If it was for out of memory, nothing has happened. Errors: out of memory.
 pub fn refused_line(alloc: Global, error: EditError) -> Result<String, AllocError>
     ensures { IfOk result (λ line. string_bytes line ≡ refusal_line (refusal error)) }
 {
@@ -31,7 +31,7 @@ pub fn refused_line(alloc: Global, error: EditError) -> Result<String, AllocErro
     }
 }
 
-// The name of a refusal. Want of memory has none.
+// The name of a refusal. Out of memory has none.
 fn error_word(error: EditError) -> Option<&'static str>
     ensures { option_copied result ≡ option_map error_word (refusal error) }
 {

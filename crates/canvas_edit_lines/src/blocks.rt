@@ -8,7 +8,7 @@ use canvas_lines::block;
 use std::alloc::{AllocError, Global};
 
 /// Adds the block of a client of this name: the name, its id, version and number of edits that wait, and the tree of its view. Fails
-/// only where memory is refused, and then `out` is as it was.
+/// only if memory runs out, and then `out` is as it was.
 pub fn write_client(
     alloc: Global,
     name: &[u8],

@@ -12,7 +12,7 @@ use canvas_lines::words::{Verb, cut_word, read_name, read_value, read_verb};
 use std::alloc::Global;
 
 /// The edit that the text spells: a verb, a blank, and what that verb wants. The errors: `Unreadable`, where it spells none; `Memory`,
-/// where memory is refused.
+/// if memory runs out.
 pub fn read_edit(alloc: Global, text: &[u8]) -> Result<EditRequest, LineError>
     ensures ok { IfOk result (SpellsEdit text.now) }
     ensures err { IfErr result (IsLineError (SpellsEdit text.now)) }

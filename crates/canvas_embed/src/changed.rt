@@ -71,7 +71,7 @@ fn touched(alloc: Global, entry: &Entry) -> Result<Vec<ObjId>, AllocError>
     Ok(ids)
 }
 
-// Whether the entry, which touches these objects, isn't of the root, or sets a property alone.
+// Checks whether the entry, which touches these objects, isn't of the root, or sets a property alone.
 fn leaves_root(ids: &[ObjId], entry: &Entry) -> bool
     requires { ids.now ≡ touched entry.now.what entry.now.outcome }
     ensures { IsTrue result → LeavesRoot entry.now }
@@ -79,7 +79,7 @@ fn leaves_root(ids: &[ObjId], entry: &Entry) -> bool
     !ids.contains(&ObjId::ROOT) || sets(entry)
 }
 
-// Whether the entry is of a property that is set or cleared.
+// Checks whether the entry is of a property that is set or cleared.
 fn sets(entry: &Entry) -> bool
     ensures { IsTrue result → LeavesRoot entry.now }
 {

@@ -20,7 +20,7 @@ pub enum ValueError {
     /// All else fits, and lists nest more than 16 deep.
     #[error("a value has lists more than 16 deep")]
     TooDeep,
-    /// Memory was refused.
+    /// Memory ran out.
     #[error("out of memory")]
     Memory,
 }
@@ -117,7 +117,7 @@ pub enum LoadError {
     /// twice; or edits wait without an id; or the last edit's number is above 2^62.
     #[error("no client waits with these edits")]
     Inconsistent,
-    /// Memory was refused.
+    /// Memory ran out.
     #[error("out of memory")]
     Memory,
 }

@@ -66,7 +66,7 @@ pub fn receive_and_tell(
     }
 }
 
-/// The text of a Join. Fails only where memory is refused.
+/// The text of a Join. Errors: out of memory.
 pub fn join_text(alloc: Global) -> Result<Vec<u8>, AllocError>
     ensures { IfOk result (λ text. EncodesMessage text.items Join) }
 {
@@ -74,7 +74,7 @@ pub fn join_text(alloc: Global) -> Result<Vec<u8>, AllocError>
     encode(alloc, &message)
 }
 
-/// The text with which the client asks for what came after its version; none while it has no id. Fails only where memory is refused.
+/// The text with which the client asks for what came after its version; none while it has no id. Errors: out of memory.
 pub fn ask_text(alloc: Global, client: &Client) -> Result<Option<Vec<u8>>, AllocError>
     ensures some { IfOk result (λ made. IfSome made (λ text. IsAskText client.now text.items)) }
     ensures none { IfOk result (λ made. IfNone made (client.now.id ≡ None)) }
@@ -85,7 +85,7 @@ pub fn ask_text(alloc: Global, client: &Client) -> Result<Option<Vec<u8>>, Alloc
     }
 }
 
-/// The text of the i-th of the edits that wait, counted from 1; none where so many don't wait. Fails only where memory is refused.
+/// The text of the i-th of the edits that wait, counted from 1; none where so many don't wait. Errors: out of memory.
 pub fn edit_text(alloc: Global, client: &Client, i: u64) -> Result<Option<Vec<u8>>, AllocError>
     ensures some { IfOk result (λ made. IfSome made (λ text. IsEditText client.now i text.items)) }
     ensures none { IfOk result (λ made. IfNone made (0 < i → i ≤ length client.now.waiting → ⊥)) }

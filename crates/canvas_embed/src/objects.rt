@@ -12,7 +12,7 @@ use canvas_wire::encode_row;
 use std::alloc::{AllocError, Global};
 
 /// The text of the object and its id as a row: its kind, its place, and its properties; none where the client's view hasn't the
-/// object. Fails only where memory is refused.
+/// object. Errors: out of memory.
 pub fn object_text(alloc: Global, client: &Client, id: ObjId) -> Result<Option<Vec<u8>>, AllocError>
     ensures some { IfOk result (λ made. IfSome made (λ text. IsObjectText client.now id text.items)) }
     ensures none { IfOk result (λ made. IfNone made (live client.now.view id ≡ false)) }
@@ -26,7 +26,7 @@ pub fn object_text(alloc: Global, client: &Client, id: ObjId) -> Result<Option<V
 }
 
 /// The text of the ids of the objects in the view whose place names this one, in order: `[[1,2],..]`, each a client and a counter. The
-/// object itself needn't be in the view. Fails only where memory is refused.
+/// object itself needn't be in the view. Errors: out of memory.
 pub fn children_text(alloc: Global, client: &Client, id: ObjId) -> Result<Vec<u8>, AllocError>
     ensures { IfOk result (λ text. IsChildrenText client.now id text.items) }
 {
@@ -34,7 +34,7 @@ pub fn children_text(alloc: Global, client: &Client, id: ObjId) -> Result<Vec<u8
     ids_text(alloc, &ids)
 }
 
-/// Whether the client shows the object in its tree: a chain of parents leads from it to the root.
+/// Checks whether the client shows the object in its tree: a chain of parents leads from it to the root.
 pub fn is_in_tree(client: &Client, id: ObjId) -> bool
     ensures { IsTrue result ↔ InTree client.now.view id }
 {

@@ -10,7 +10,7 @@ use canvas_tree::{Tree, one_tree, stands_in_tree};
 use canvas_value::copy_props;
 use std::alloc::{AllocError, Global};
 
-/// The text of the tree that the client shows. However deep the tree is, no call goes deeper. Fails only where memory is refused.
+/// The text of the tree that the client shows. However deep the tree is, no call goes deeper. Errors: out of memory.
 pub fn tree_text(alloc: Global, client: &Client) -> Result<Vec<u8>, AllocError>
     ensures { IfOk result (λ text. IsTreeText client.now text.items) }
 {

@@ -26,7 +26,7 @@ pub enum Edit {
     Delete(ObjId, Result<u64, EditError>),
 }
 
-/// Whether the client answers this edit as it must.
+/// Checks whether the client answers this edit as it must.
 pub fn does_edit(alloc: Global, client: &mut Client, edit: &Edit) -> bool {
     match *edit {
         Edit::Create(kind, parent, after, wanted) => create(client, kind, parent, after) == wanted,

@@ -16,7 +16,7 @@ pub enum Hearing {
     Tells(&'static str, Result<&'static str, WireError>),
 }
 
-// Whether the bytes are the text that is wanted.
+// Checks whether the bytes are the text that is wanted.
 fn is_told(told: &[u8], wanted: Result<&str, WireError>) -> bool {
     match wanted {
         Ok(wanted) => told == wanted.as_bytes(),
@@ -24,7 +24,7 @@ fn is_told(told: &[u8], wanted: Result<&str, WireError>) -> bool {
     }
 }
 
-// Whether the client tells of this message that it may have changed these objects.
+// Checks whether the client tells of this message that it may have changed these objects.
 fn tells(
     alloc: Global,
     client: &mut Client,
@@ -37,7 +37,7 @@ fn tells(
     }
 }
 
-/// Whether the client hears this message as it must.
+/// Checks whether the client hears this message as it must.
 pub fn does_hear(alloc: Global, client: &mut Client, hearing: &Hearing) -> bool {
     match hearing {
         Hearing::As(message, wanted) => receive(alloc, client, message.as_bytes()) == *wanted,

@@ -29,7 +29,7 @@ pub enum Placed {
     MoveLast(ObjId, ObjId, Result<u64, EndError>),
 }
 
-/// Whether the client answers this edit as it must.
+/// Checks whether the client answers this edit as it must.
 pub fn does_place(alloc: Global, client: &mut Client, placed: &Placed) -> bool {
     match *placed {
         Placed::CreateAt(kind, parent, position, wanted) => {

@@ -48,7 +48,7 @@ pub enum Shown {
     Number(Number, Option<u64>),
 }
 
-// Whether the bytes are the text.
+// Checks whether the bytes are the text.
 fn is(made: Result<Vec<u8>, AllocError>, text: &str) -> bool {
     match made {
         Ok(made) => made.as_slice() == text.as_bytes(),
@@ -56,7 +56,7 @@ fn is(made: Result<Vec<u8>, AllocError>, text: &str) -> bool {
     }
 }
 
-// Whether the bytes are the text, or both are none.
+// Checks whether the bytes are the text, or both are none.
 fn are_same(made: &Option<Vec<u8>>, text: Option<&str>) -> bool {
     match (made, text) {
         (Some(made), Some(text)) => made.as_slice() == text.as_bytes(),
@@ -95,7 +95,7 @@ fn number_of(alloc: Global, client: &Client, number: Number) -> Option<u64> {
     }
 }
 
-/// Whether the client shows this as it must.
+/// Checks whether the client shows this as it must.
 pub fn does_show(alloc: Global, client: &Client, shown: &Shown) -> bool {
     match *shown {
         Shown::Tree(text) => is(tree_text(alloc, client), text),

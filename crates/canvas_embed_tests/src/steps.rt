@@ -66,7 +66,7 @@ fn reload(alloc: Global, client: &mut Client) -> bool {
     }
 }
 
-// Whether the client does this step as it must.
+// Checks whether the client does this step as it must.
 fn does(alloc: Global, client: &mut Client, step: &Step) -> bool {
     match step {
         Step::Draw => draw(client),

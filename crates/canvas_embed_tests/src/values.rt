@@ -34,7 +34,7 @@ fn add(all: &mut String, json: Json) -> Result<(), AllocError> {
     }
 }
 
-// Whether the text is no value for this reason, or is one where there is none.
+// Checks whether the text is no value for this reason, or is one where there is none.
 fn is_read(alloc: Global, json: Json, wanted: Option<ValueError>) -> bool {
     let mut text = String::new(alloc);
     match add(&mut text, json) {

@@ -14,7 +14,7 @@ pub enum EtcdError {
     /// A call of the store failed.
     #[error("device failed")]
     Device,
-    /// Memory was refused.
+    /// Memory ran out.
     #[error("out of memory")]
     Memory,
 }

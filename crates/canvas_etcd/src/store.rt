@@ -77,7 +77,7 @@ pub trait Store {
 
     /// The segments that stand, the highest number first.
     ///
-    /// Answers Device where the store didn't answer, or another has taken the document over; and Memory where memory was refused.
+    /// Answers Device where the store didn't answer, or another has taken the document over; and Memory if memory runs out.
     fn list(&mut self, alloc: Global) -> Result<Vec<Standing>, ShelfError>
         ensures listed { IfOk result (λ v. IsTrue (honest self.old) → v.items ≡ listed_in (value self.old).held) }
         ensures same { IsTrue (honest self.old) → (value self.new ≡ value self.old) × (past self.new ≡ past self.old) }
@@ -87,7 +87,7 @@ pub trait Store {
 
     /// All bytes of a segment that stands, where each transaction was answered.
     ///
-    /// Answers Device where the store didn't answer, or another has taken the document over; and Memory where memory was refused.
+    /// Answers Device where the store didn't answer, or another has taken the document over; and Memory if memory runs out.
     fn read<A: Allocator>(&mut self, alloc: A, number: u32) -> Result<Vec<u8, A>, ShelfError>
         requires answered { IsTrue (honest self.old) → (value self.old).unanswered ≡ None }
         requires stands { IsTrue (honest self.old) → size_at number (value self.old).held ≡ None → ⊥ }
@@ -97,10 +97,10 @@ pub trait Store {
         ensures owner { owner self.new ≡ owner self.old }
         ensures cause { CountsFailure (failure_count self.old) (failure_count self.new) (IsErrOf result ShelfError.Device) };
 
-    /// Puts a chunk behind the others of a segment, of which `at` bytes stand, by one transaction. Where none stands, the segment does
+    /// Puts a chunk behind the others of a segment, of which `at` bytes stand, by one transaction. If none stands, the segment does
     /// from here on.
     ///
-    /// Fails where another has taken the document over, or where it wasn't answered.
+    /// Fails where another has taken the document over, or if it wasn't answered.
     fn put(&mut self, number: u32, at: u64, bytes: &[u8]) -> Result<(), DeviceFailed>
         requires owner { IsTrue (honest self.old) → owner self.old ≡ true }
         requires answered { IsTrue (honest self.old) → (value self.old).unanswered ≡ None }
@@ -116,7 +116,7 @@ pub trait Store {
 
     /// Deletes a segment's chunks, by one transaction.
     ///
-    /// Fails where another has taken the document over, or where it wasn't answered.
+    /// Fails where another has taken the document over, or if it wasn't answered.
     fn remove(&mut self, number: u32) -> Result<(), DeviceFailed>
         requires owner { IsTrue (honest self.old) → owner self.old ≡ true }
         requires answered { IsTrue (honest self.old) → (value self.old).unanswered ≡ None }

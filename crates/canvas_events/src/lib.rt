@@ -88,7 +88,7 @@ impl<A: Allocator> Network<A> {
 }
 
 impl<A: Allocator + Copy> Network<A> {
-    /// The empty network. Fails only where memory is refused.
+    /// The empty network. Errors: out of memory.
     pub fn new(alloc: A) -> Result<Self, AllocError>
         ensures { IfOk result (λ w. w ≡ empty) }
     {
@@ -104,7 +104,7 @@ impl<A: Allocator + Copy> Network<A> {
         })
     }
 
-    /// Plays one event. Where memory is refused, nothing has changed.
+    /// Plays one event. If memory runs out, nothing has changed.
     pub fn happen(&mut self, event: &Event<A>) -> Result<Answer, AllocError>
         ensures step { IfOk result (λ answer. Step self.old event.now (seen_answer answer) self.new) }
         ensures err { OnErr result (self.new ≡ self.old) }

@@ -79,7 +79,7 @@ impl<A: Allocator> Model for Node<A> {
 }
 
 impl<A: Allocator + Copy> Node<A> {
-    /// A new client, which has made no edit. Fails only where memory is refused.
+    /// A new client, which has made no edit. Errors: out of memory.
     pub fn new(alloc: A) -> Result<Self, AllocError>
         ensures { IfOk result (λ n. n ≡ world.new_node) }
     {
@@ -90,7 +90,7 @@ impl<A: Allocator + Copy> Node<A> {
         })
     }
 
-    /// The client receives a message. Where memory is refused, nothing has changed.
+    /// The client receives a message. If memory runs out, nothing has changed.
     pub fn receive(&mut self, message: &Message<A>) -> Result<Received, AllocError>
         ensures receives { IfOk result (λ answer. CanFollow (seen_message message.now) → Receives self.old.client (seen_message message.now) (seen_received answer) self.new.client) }
         ensures edits { self.new.edits ≡ self.old.edits }
@@ -99,7 +99,7 @@ impl<A: Allocator + Copy> Node<A> {
         self.client.receive(message)
     }
 
-    /// The client makes an edit, or refuses it. Where memory is refused, nothing has changed.
+    /// The client makes an edit, or refuses it. If memory runs out, nothing has changed.
     pub fn edit(&mut self, alloc: A, request: &EditRequest<A>) -> Result<Answer, AllocError>
         ensures edits { IfOk result (λ answer. NodeEdits self.old request.now (seen_answer answer) self.new) }
         ensures err { OnErr result (self.new ≡ self.old) }
@@ -116,7 +116,7 @@ impl<A: Allocator + Copy> Node<A> {
     }
 }
 
-// The answer to a refused edit, where it wasn't for want of memory.
+// The answer to a refused edit, unless memory ran out.
 fn refused(error: EditError) -> Result<Answer, AllocError>
     ensures { IfOk result (λ answer. (e : local.EditError) × (refusal error ≡ Some e) × (seen_answer answer ≡ world.RefusedEdit e)) }
 {
@@ -159,7 +159,7 @@ pub fn joined_as<A: Allocator>(outcome: &Outcome<A>) -> Option<u32>
     }
 }
 
-/// The request that a message is, if it is one. Fails only where memory is refused.
+/// The request that a message is, if it is one. Errors: out of memory.
 pub fn request_in<A: Allocator + Copy>(
     alloc: A,
     message: &Message<A>,

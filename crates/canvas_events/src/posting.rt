@@ -108,7 +108,7 @@ impl<A: Allocator + Copy> Network<A> {
         }))
     }
 
-    // A node asks for an id. Where memory is refused, nothing has changed.
+    // A node asks for an id. If memory runs out, nothing has changed.
     pub(crate) fn ask_join(&mut self, k: u64) -> Result<Answer, AllocError>
         ensures step { IfOk result (λ answer. Step self.old (world.AskJoin k) (seen_answer answer) self.new) }
         ensures err { OnErr result (self.new ≡ self.old) }
@@ -117,7 +117,7 @@ impl<A: Allocator + Copy> Network<A> {
         self.post(letter)
     }
 
-    // A node sends an edit that waits. Where memory is refused, nothing has changed.
+    // A node sends an edit that waits. If memory runs out, nothing has changed.
     pub(crate) fn send(&mut self, k: u64, i: u64) -> Result<Answer, AllocError>
         ensures step { IfOk result (λ answer. Step self.old (world.Send k i) (seen_answer answer) self.new) }
         ensures err { OnErr result (self.new ≡ self.old) }
@@ -126,7 +126,7 @@ impl<A: Allocator + Copy> Network<A> {
         self.post(letter)
     }
 
-    // An id is sent to the node that asked. Where memory is refused, nothing has changed.
+    // An id is sent to the node that asked. If memory runs out, nothing has changed.
     pub(crate) fn welcome(&mut self, v: u64) -> Result<Answer, AllocError>
         ensures step { IfOk result (λ answer. Step self.old (world.SendWelcome v) (seen_answer answer) self.new) }
         ensures err { OnErr result (self.new ≡ self.old) }
@@ -135,7 +135,7 @@ impl<A: Allocator + Copy> Network<A> {
         self.post(letter)
     }
 
-    // An entry is told to a node. Where memory is refused, nothing has changed.
+    // An entry is told to a node. If memory runs out, nothing has changed.
     pub(crate) fn tell(&mut self, v: u64, k: u64) -> Result<Answer, AllocError>
         ensures step { IfOk result (λ answer. Step self.old (world.Tell v k) (seen_answer answer) self.new) }
         ensures err { OnErr result (self.new ≡ self.old) }
@@ -144,7 +144,7 @@ impl<A: Allocator + Copy> Network<A> {
         self.post(letter)
     }
 
-    // A copy of the document is sent to a node. Where memory is refused, nothing has changed.
+    // A copy of the document is sent to a node. If memory runs out, nothing has changed.
     pub(crate) fn copy(&mut self, k: u64) -> Result<Answer, AllocError>
         ensures step { IfOk result (λ answer. Step self.old (world.Copy k) (seen_answer answer) self.new) }
         ensures err { OnErr result (self.new ≡ self.old) }
@@ -153,7 +153,7 @@ impl<A: Allocator + Copy> Network<A> {
         self.post(letter)
     }
 
-    // Sends the message of an event, if it has one. Where memory is refused, nothing has changed.
+    // Sends the message of an event, if it has one. If memory runs out, nothing has changed.
     pub(crate) fn post(&mut self, letter: Option<Letter<A>>) -> Result<Answer, AllocError>
         requires { (event : Event) × IsPost self.old event letter }
         ensures step { IfOk result (λ answer. (event : Event) → IsPost self.old event letter → Step self.old event (seen_answer answer) self.new) }

@@ -78,7 +78,7 @@ pub struct Noes {
     pub device: u64,
     /// The device had failed before.
     pub failed: u64,
-    /// Memory was refused.
+    /// Memory ran out.
     pub memory: u64,
     /// The edit is too large.
     pub too_large: u64,
@@ -87,7 +87,7 @@ pub struct Noes {
 }
 
 impl Numbers {
-    /// One line for a person or a supervisor: what is published, and how many clients are connected. Fails only where memory is refused.
+    /// One line for a person or a supervisor: what is published, and how many clients are connected. Errors: out of memory.
     pub fn health(&self, alloc: Global) -> Result<String, AllocError>
         ensures { IfOk result (λ line. string_bytes line ≡ health_line self.now) }
     {
@@ -95,7 +95,7 @@ impl Numbers {
         format!(in alloc; "{line}")
     }
 
-    /// All numbers, in the text form of Prometheus ("Exposition formats"). Fails only where memory is refused.
+    /// All numbers, in the text form of Prometheus ("Exposition formats"). Errors: out of memory.
     pub fn metrics(&self, alloc: Global) -> Result<String, AllocError>
         ensures { IfOk result (λ text. string_bytes text ≡ metrics_text self.now) }
     {

@@ -13,7 +13,7 @@ pub enum FolderError {
     /// The device failed, or the folder can't be made or read.
     #[error("device failed")]
     Device,
-    /// Memory was refused.
+    /// Memory ran out.
     #[error("out of memory")]
     Memory,
 }

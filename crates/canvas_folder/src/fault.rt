@@ -6,7 +6,7 @@ use std::io::ErrorKind;
 // Why a call of the system failed, as far as anybody asks.
 #[derive(Clone, Copy, Drop)]
 pub(crate) enum Fault {
-    // Memory was refused.
+    // Memory ran out.
     Memory,
     // This process has no descriptor left, or no process has.
     NoDescriptor,

@@ -7,7 +7,7 @@ use std::fs::{File, OpenOptions};
 use std::rt::Files;
 use std::{fs, str};
 
-// The path of a folder of the system, and behind it the name of the file that was asked for last.
+// The path of a folder of the system, and after it the name of the file that was asked for last.
 #[derive(Drop)]
 pub(crate) struct FolderPath {
     bytes: Vec<u8>,

@@ -7,7 +7,7 @@ use std::sync::{Arc, Mutex};
 const MOST_FILES: usize = 8;
 
 /// Files of a folder that were removed, and are still open. The system gives the blocks of a file back once nobody has it open, which takes
-/// some file systems milliseconds: so the folder's calls leave it to whoever calls `close`, in a thread for which nobody waits. Where eight
+/// some file systems milliseconds: so the folder's calls leave it to whoever calls `close`, in a thread for which nobody waits. If eight
 /// are open and nobody has closed one, the next is closed as it is removed. Nothing is waited for.
 pub struct Removed {
     files: Arc<Mutex<Vec<File>>, Global>,
@@ -27,7 +27,7 @@ impl Removed {
         })
     }
 
-    /// The same files, for another thread. Fails only where memory is refused.
+    /// The same files, for another thread. Errors: out of memory.
     pub fn share(&self) -> Result<Removed, AllocError> {
         Ok(Removed {
             files: Arc::try_clone(&self.files)?,

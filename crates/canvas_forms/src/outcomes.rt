@@ -20,7 +20,7 @@ use canvas_judge::{Outcome, Reason};
 use serde_json::Value as Json;
 use std::alloc::{AllocError, Allocator, Global};
 
-/// The JSON of an outcome: an array that begins with the word of what became of the request. The error is that memory was refused.
+/// The JSON of an outcome: an array that begins with the word of what became of the request. The error is that memory ran out.
 pub fn write_outcome<A: Allocator>(alloc: Global, outcome: &Outcome<A>) -> Result<Json, AllocError>
     ensures { IfOk result (λ j. view j ≡ (outcome_form version_two).write (seen_outcome outcome.now)) }
 {

@@ -88,7 +88,7 @@ impl<K: Keeper + Drop, N: RoomName, R: Wait + Drop, W: Wait + Drop> SeatAnswerer
     Lock<K, N, R>,
     W,
 > {
-    // What its seat answers. Fails only where memory is refused for the answer.
+    // What its seat answers. Fails only if memory runs out for the answer.
     pub(crate) fn told(&mut self, message: &Message) -> Result<Vec<Message>, AllocError>
         ensures gives { IfOk result (λ answer. Gives N.opening self.old (seen_message message.now) (map seen_message answer.items) self.new) }
         ensures whole { IfOk result (λ answer. IsAnswer (map seen_message answer.items)) }
@@ -107,7 +107,7 @@ impl<K: Keeper + Drop, N: RoomName, R: Wait + Drop, W: Wait + Drop> SeatAnswerer
 impl<N: RoomName, D: Drop, W: Drop> SeatAnswerer<N, D, W> {
     /// The texts of what is answered an Ask, where a copy has to be sent out of a copy that many are sent. That is `held`, if it is of version
     /// `least` or a later one, the client asks from below its floor, had joined by then, and the seat hasn't seen more; else one that is
-    /// made now, and held from then on. It waits for nobody. Fails only where memory is refused.
+    /// made now, and held from then on. Never blocks. Errors: out of memory.
     pub fn ask_texts(
         &mut self,
         held: &mut Option<SharedCopy<N>>,
@@ -142,7 +142,7 @@ impl<N: RoomName, D: Drop, W: Drop> SeatAnswerer<N, D, W> {
         }
     }
 
-    // The texts of what is answered an Ask out of a copy that is made now, and held from then on. Where none is due, they are written anew.
+    // The texts of what is answered an Ask out of a copy that is made now, and held from then on. If none is due, they are written anew.
     fn texts_now(
         &mut self,
         held: &mut Option<SharedCopy<N>>,
@@ -183,7 +183,7 @@ impl<N: RoomName, D: Drop, W: Drop> SeatAnswerer<N, D, W> {
         Ok(Some(texts))
     }
 
-    // Whether what is published has a copy for a client that asks from this version, and no entries.
+    // Checks whether what is published has a copy for a client that asks from this version, and no entries.
     fn wants_copy(&mut self, client: u32, version: u64) -> Result<bool, AllocError>
         ensures { SeesOn N.opening self.old self.new }
     {

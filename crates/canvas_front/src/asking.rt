@@ -15,7 +15,7 @@ use std::alloc::{AllocError, Global};
 // How many entries an answer has at most.
 const MOST_ENTRIES: u64 = 64;
 
-/// The answer to an Ask of a client that has this version. It waits for nobody. Fails only where memory is refused.
+/// The answer to an Ask of a client that has this version. Never blocks. Errors: out of memory.
 pub fn answer_ask<N: RoomName, D: Drop>(
     alloc: Global,
     seat: &mut Seat<N, D>,
@@ -34,7 +34,7 @@ pub fn answer_ask<N: RoomName, D: Drop>(
     }
 }
 
-// The entries after this version, each with its own, and an Idle. Fails only where memory is refused.
+// The entries after this version, each with its own, and an Idle. Errors: out of memory.
 fn told(alloc: Global, from: u64, entries: Vec<Entry>) -> Result<Vec<Message>, AllocError>
     requires { from + length entries.items < 2 ^ 64 }
     ensures { IfOk result (λ told. map seen_message told.items ≡ tells from entries.items ++ Idle ∷ []) }
@@ -49,7 +49,7 @@ fn told(alloc: Global, from: u64, entries: Vec<Entry>) -> Result<Vec<Message>, A
     Ok(told)
 }
 
-// A copy, and an Idle. Fails only where memory is refused.
+// A copy, and an Idle. Errors: out of memory.
 fn copied(alloc: Global, copy: DocCopy) -> Result<Vec<Message>, AllocError>
     ensures { IfOk result (λ told. map seen_message told.items ≡ seen_copy copy ∷ Idle ∷ []) }
 {

@@ -24,7 +24,7 @@ pub const CHECKPOINT_AT: u64 = 256;
 /// checkpoint where so many entries stand after the last one as `checkpoint_at` says, and whether that failed isn't told. An Ask waits
 /// for nobody; it is answered by at most 64 entries, or by a copy where a checkpoint has passed some entry after the client's version.
 ///
-/// Fails only where memory is refused for the answer, and then nothing was submitted.
+/// Fails only if memory runs out for the answer, and then nothing was submitted.
 pub fn answer<K: Keeper + Drop, N: RoomName, R: Wait + Drop, W: Wait>(
     alloc: Global,
     rt: &W,
@@ -57,7 +57,7 @@ pub fn answer<K: Keeper + Drop, N: RoomName, R: Wait + Drop, W: Wait>(
     }
 }
 
-// An answer of one message. Fails only where memory is refused.
+// An answer of one message. Errors: out of memory.
 pub(crate) fn alone(alloc: Global, message: Message) -> Result<Vec<Message>, AllocError>
     ensures { IfOk result (λ answer. map seen_message answer.items ≡ seen_message message ∷ []) }
 {

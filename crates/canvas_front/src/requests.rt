@@ -17,7 +17,7 @@ use std::alloc::{AllocError, Global};
 use std::sync::Wait;
 
 /// The answer to a request: a Welcome where it was a Join, Idle where it was an edit that is judged, now or before, and otherwise a No
-/// with the number of the `SubmitError`. It may wait for the room's lock. Fails only where memory is refused, and then nothing was
+/// with the number of the `SubmitError`. It may wait for the room's lock. Fails only if memory runs out, and then nothing was
 /// asked of the room. Behind an answer a checkpoint is made where so many entries stand after the last one.
 pub fn answer_request<K: Keeper + Drop, N: RoomName, R: Wait + Drop, W: Wait>(
     alloc: Global,

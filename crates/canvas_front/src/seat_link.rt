@@ -63,7 +63,7 @@ impl<K: Keeper + Drop, N: RoomName, R: Wait + Drop, W: Wait + Drop> Link
 
     ghost fails = { RefusesRound N.opening };
 
-    /// The seat's answer. Refused where that is a No, and Memory where memory is refused for it.
+    /// The seat's answer. Refused where that is a No, and `Memory` if memory runs out for it.
     fn round(&mut self, message: &Message) -> Result<Vec<Message>, LinkError>
         ensures gives { IfOk result (λ answer. Grants N.opening self.old (seen_message message.now) (map seen_message answer.items) self.new) }
         ensures whole { IfOk result (λ answer. IsAnswer (map seen_message answer.items)) }

@@ -50,7 +50,7 @@ impl<N: RoomName> Model for SharedCopy<N> {
 }
 
 impl<N: RoomName> SharedCopy<N> {
-    /// The copy of this moment. Fails only where memory is refused.
+    /// The copy of this moment. Errors: out of memory.
     pub(crate) fn of(alloc: Global, snapshot: &Snapshot<N>) -> Result<SharedCopy<N>, AllocError>
         ensures { IfOk result (λ copy. copy ≡ snapshot.now) }
     {
@@ -92,7 +92,7 @@ impl<N: RoomName> SharedCopy<N> {
     }
 
     /// The texts of what a client is told that asks from a version below the last checkpoint of then. None where its version isn't below
-    /// that, and where it hadn't joined. Fails only where memory is refused.
+    /// that, and if it hadn't joined. Errors: out of memory.
     pub(crate) fn texts(
         &self,
         alloc: Global,

@@ -278,7 +278,7 @@ fn served<R: Wait + Copy + Drop>(rt: R, alloc: Global, talk: &Talk) -> Result<Ve
     served_in::<Brand, _, _>(rt, alloc, blank, talk)
 }
 
-// Whether a connection to a second room is sent what the first one's seat answered to the same.
+// Checks whether a connection to a second room is sent what the first one's seat answered to the same.
 fn is_answer<R: Wait + Copy + Drop>(rt: R, alloc: Global) -> Result<bool, Fail> {
     let talk = told_in_memory(rt, alloc, Bench::of(1), &Talking)?;
     let heard = served(rt, alloc, &talk)?;

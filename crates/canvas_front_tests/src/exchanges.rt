@@ -69,7 +69,7 @@ fn refused<K: Keeper + Drop, N: RoomName, Q: Wait + Drop, W: Wait + Drop>(
     }
 }
 
-// Whether after an exchange nothing waits, and the client is at version 3; and whether a stranger is refused.
+// Checks whether after an exchange nothing waits, and the client is at version 3; and whether a stranger is refused.
 fn exchanges_over<K: Keeper + Drop, N: RoomName, Q: Wait + Drop, W: Wait + Drop>(
     alloc: Global,
     link: &mut LinkOf<K, N, Q, W>,

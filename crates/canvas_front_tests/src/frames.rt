@@ -43,13 +43,13 @@ fn each_kind(alloc: Global) -> Result<Vec<u8>, Fail> {
     Ok(bytes)
 }
 
-// Whether a new server answers these so.
+// Checks whether a new server answers these so.
 fn are_answered(alloc: Global, answered: &str) -> Result<bool, Fail> {
     let bytes = each_kind(alloc)?;
     answers(alloc, &bytes, answered)
 }
 
-// Whether serving these bytes ends without an error.
+// Checks whether serving these bytes ends without an error.
 fn ends(alloc: Global, bytes: &[u8]) -> Result<bool, Fail> {
     let mut room = Room::new(alloc)?;
     let mut server = socket(alloc, bytes, Role::Server);

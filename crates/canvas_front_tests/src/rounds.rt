@@ -75,13 +75,13 @@ fn first_texts(alloc: Global, texts: &[&'static str], count: usize) -> Result<Ve
     Ok(all)
 }
 
-// Whether this is what is asked in the first so many rounds.
+// Checks whether this is what is asked in the first so many rounds.
 fn are_asked(alloc: Global, asked: &[u8], count: usize) -> Result<bool, Fail> {
     let wanted = first_texts(alloc, ASKED, count)?;
     Ok(asked == wanted.as_slice())
 }
 
-// Whether a client's exchange over a link that ends after so many answers asks what it has to, and ends so.
+// Checks whether a client's exchange over a link that ends after so many answers asks what it has to, and ends so.
 fn asks_over(alloc: Global, client: &mut Client, count: usize) -> Result<bool, Fail> {
     let mut link = link(alloc, count);
     let wanted = if count < ANSWERS.len() {
@@ -129,14 +129,14 @@ fn same(a: &Client, b: &Client) -> bool {
         && a.view().same(b.view())
 }
 
-// Whether this client is one that has received so many answers.
+// Checks whether this client is one that has received so many answers.
 fn has_heard(alloc: Global, client: &Client, count: usize) -> Result<bool, Fail> {
     let mut other = self::client(alloc)?;
     hear_all(alloc, &mut other, count)?;
     Ok(same(client, &other))
 }
 
-// Whether a client is that after an exchange over a link that ends after so many answers.
+// Checks whether a client is that after an exchange over a link that ends after so many answers.
 fn receives(alloc: Global, count: usize) -> Result<bool, Fail> {
     let mut client = client(alloc)?;
     exchange_over(alloc, &mut client, count);

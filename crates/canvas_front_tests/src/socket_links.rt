@@ -87,7 +87,7 @@ fn told(alloc: Global) -> Result<Vec<u8>, Fail> {
     Ok(told_over(alloc, &bytes)?)
 }
 
-// Whether a round sends its message as one binary message.
+// Checks whether a round sends its message as one binary message.
 fn sends(alloc: Global) -> Result<bool, Fail> {
     let told = told(alloc)?;
     Ok(told == sent(alloc, "[\"join\",2]", Role::Client)?)

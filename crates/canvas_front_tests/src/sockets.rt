@@ -14,7 +14,7 @@ fn served(alloc: Global, bytes: &[u8]) -> Result<Vec<u8>, Fail> {
     Ok(server.into_inner().writer)
 }
 
-/// Whether a new server answers a client that sends these bytes by these lines.
+/// Checks whether a new server answers a client that sends these bytes by these lines.
 pub fn answers(alloc: Global, bytes: &[u8], answered: &str) -> Result<bool, Fail> {
     let told = served(alloc, bytes)?;
     Ok(heard(alloc, &told)?.as_slice() == answered.as_bytes())

@@ -66,7 +66,7 @@ pub fn read_found(alloc: Global, body: &[u8]) -> Result<Found, GatewayError>
     found_in(alloc, &json)
 }
 
-/// Whether the changes were made, as this body of an answer says.
+/// Checks whether the changes were made, as this body of an answer says.
 ///
 /// `NotJson` where it isn't JSON, `NotAnAnswer` where its tree is no answer to a request for changes. `Memory` can be answered in place of
 /// each of these.
@@ -128,7 +128,7 @@ fn parse(alloc: Global, bytes: &[u8]) -> Result<Json, GatewayError>
     }
 }
 
-// Whether changes were made, by a tree.
+// Checks whether changes were made, by a tree.
 fn committed_in(json: &Json) -> Option<Committed>
     ensures { result ≡ committed_in (view json.now) }
 {
@@ -266,7 +266,7 @@ fn bytes_in(alloc: Global, json: &Json) -> Result<Vec<u8>, GatewayError>
     }
 }
 
-// Whether something is true under this name.
+// Checks whether something is true under this name.
 fn flag_at(json: &Json, name: &str) -> Option<bool>
     ensures { result ≡ flag_at name.now (view json.now) }
 {

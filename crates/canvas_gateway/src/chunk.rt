@@ -14,7 +14,7 @@ use httparse::{Error as ParseError, Status as Parsed, parse_chunk_size};
 pub(crate) enum Chunk<'a> {
     /// One with bytes, and how long it is as it was sent.
     Bytes(&'a [u8], usize),
-    /// The last one, which has no bytes, with the fields behind it: how long it is as it was sent.
+    /// The last one, which has no bytes, with the fields after it: how long it is as it was sent.
     Last(usize),
 }
 

@@ -17,7 +17,7 @@ pub enum GatewayError {
     /// The body's JSON tree has the shape of no answer to what was asked.
     #[error("the body isn't what was asked for")]
     NotAnAnswer,
-    /// Memory was refused.
+    /// Memory ran out.
     #[error("out of memory")]
     Memory,
 }

@@ -53,7 +53,7 @@ impl<'a> Fields<'a> {
     }
 }
 
-/// Whether two words are the same, without case.
+/// Checks whether two words are the same, without case.
 pub(crate) fn is_same_word(a: &[u8], b: &[u8]) -> bool
     ensures { result ≡ is_same_word a.now b.now }
 {

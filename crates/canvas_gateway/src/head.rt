@@ -36,7 +36,7 @@ pub(crate) struct AnswerHead {
 // What the head says with which these bytes begin. `None` where it isn't whole yet, `TooLarge` where
 // it isn't after 16384 bytes.
 pub(crate) fn read_head(bytes: &[u8]) -> Result<Option<AnswerHead>, GatewayError>
-    // A head is found exactly where the bytes begin with one of at most 64 fields that says how long the body is.
+    // A head is found exactly if the bytes begin with one of at most 64 fields that says how long the body is.
     ensures found { (head : ResponseHead) (said : AnswerHead) → Begins bytes.now head → head_of head ≡ Some said → result ≡ Ok (Some said) }
     ensures some { IfOk result (λ found. IfSome found (λ said. (head : ResponseHead) × Begins bytes.now head × (head_of head ≡ Some said))) }
     ensures none { IfOk result (λ found. IfNone found (HasNoResponse bytes.now)) }

@@ -14,7 +14,7 @@ pub struct Host {
 }
 
 impl Host {
-    /// The same host once more. Fails only where memory is refused.
+    /// The same host once more. Errors: out of memory.
     pub fn copy(&self, alloc: Global) -> Result<Host, AllocError>
         ensures { IfOk result (λ copy. string_bytes copy.text ≡ string_bytes self.now.text) }
     {
@@ -37,7 +37,7 @@ impl Host {
 
 /// The host of a URL as `http://127.0.0.1:2379`. `None` where it is none: with another scheme, a path, or a byte that may not stand in a host.
 ///
-/// Fails only where memory is refused.
+/// Errors: out of memory.
 pub fn host_of(alloc: Global, url: &str) -> Result<Option<Host>, AllocError>
     ensures { IfOk result (λ found. IfSome found (λ host. IsUrlOf (string_bytes host.text) url.now)) }
 {
@@ -50,7 +50,7 @@ pub fn host_of(alloc: Global, url: &str) -> Result<Option<Host>, AllocError>
     Ok(Host::new(String::from_str(alloc, text)?))
 }
 
-/// The same hosts once more. Fails only where memory is refused.
+/// The same hosts once more. Errors: out of memory.
 pub fn copy_hosts(alloc: Global, hosts: &[Host]) -> Result<Vec<Host>, AllocError>
     ensures { IfOk result (λ copies. map (λ h. string_bytes h.text) copies.items ≡ map (λ h. string_bytes h.text) hosts.now) }
 {
@@ -61,21 +61,21 @@ pub fn copy_hosts(alloc: Global, hosts: &[Host]) -> Result<Vec<Host>, AllocError
     Ok(copies)
 }
 
-// Whether these bytes name a host.
+// Checks whether these bytes name a host.
 fn is_host(text: &[u8]) -> bool
     ensures { result ≡ is_host text.now }
 {
     !text.is_empty() && text.len() <= 255 && are_host_bytes(text)
 }
 
-// Whether each byte may stand in a host.
+// Checks whether each byte may stand in a host.
 fn are_host_bytes(text: &[u8]) -> bool
     ensures { result ≡ list_all is_host_byte text.now }
 {
     text.iter().all(|b| is_host_byte(*b))
 }
 
-// Whether the byte may stand in a host.
+// Checks whether the byte may stand in a host.
 fn is_host_byte(b: u8) -> bool
     ensures { result ≡ is_host_byte b }
 {

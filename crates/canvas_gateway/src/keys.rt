@@ -17,7 +17,7 @@ const SEGMENT: &[u8] = b"/segment";
 pub struct Keys {
     /// The first key.
     pub from: Vec<u8>,
-    /// The first key behind them.
+    /// The first key after them.
     pub to: Vec<u8>,
 }
 
@@ -30,7 +30,7 @@ pub struct Place {
     pub chunk: u64,
 }
 
-/// Whether a document may have this name in the store: 1 to 64 bytes, each a letter or digit of ASCII, `-`, `.` or `_`. So no
+/// Checks whether a document may have this name in the store: 1 to 64 bytes, each a letter or digit of ASCII, `-`, `.` or `_`. So no
 /// document's keys lie among another's.
 pub fn is_name(name: &[u8]) -> bool
     ensures { result ≡ is_name name.now }
@@ -38,14 +38,14 @@ pub fn is_name(name: &[u8]) -> bool
     !name.is_empty() && name.len() <= 64 && are_name_bytes(name)
 }
 
-// Whether each byte may stand in a name.
+// Checks whether each byte may stand in a name.
 fn are_name_bytes(name: &[u8]) -> bool
     ensures { result ≡ list_all is_name_byte name.now }
 {
     name.iter().all(|b| is_name_byte(*b))
 }
 
-// Whether the byte may stand in a name.
+// Checks whether the byte may stand in a name.
 fn is_name_byte(b: u8) -> bool
     ensures { result ≡ is_name_byte b }
 {
@@ -54,7 +54,7 @@ fn is_name_byte(b: u8) -> bool
 
 /// The key of the owner of the document of this name.
 ///
-/// Fails only where memory is refused.
+/// Errors: out of memory.
 pub fn owner_key(alloc: Global, name: &[u8]) -> Result<Vec<u8>, AllocError>
     ensures { IfOk result (λ key. key.items ≡ owner_key name.now) }
 {
@@ -63,7 +63,7 @@ pub fn owner_key(alloc: Global, name: &[u8]) -> Result<Vec<u8>, AllocError>
 
 /// The key of the identity of the document of this name.
 ///
-/// Fails only where memory is refused.
+/// Errors: out of memory.
 pub fn identity_key(alloc: Global, name: &[u8]) -> Result<Vec<u8>, AllocError>
     ensures { IfOk result (λ key. key.items ≡ identity_key name.now) }
 {
@@ -73,7 +73,7 @@ pub fn identity_key(alloc: Global, name: &[u8]) -> Result<Vec<u8>, AllocError>
 /// The key of this chunk of the document of this name. Each number stands in ten decimal digits, so the order of the keys is that of
 /// the segments, and in a segment that of the chunks.
 ///
-/// Fails only where memory is refused.
+/// Errors: out of memory.
 pub fn chunk_key(alloc: Global, name: &[u8], place: Place) -> Result<Vec<u8>, AllocError>
     requires { place.chunk < 10 ^ 10 }
     ensures { IfOk result (λ key. key.items ≡ chunk_key name.now place.segment place.chunk) }
@@ -85,7 +85,7 @@ pub fn chunk_key(alloc: Global, name: &[u8], place: Place) -> Result<Vec<u8>, Al
 
 /// The keys of all chunks of the document of this name.
 ///
-/// Fails only where memory is refused.
+/// Errors: out of memory.
 pub fn all_chunks(alloc: Global, name: &[u8]) -> Result<Keys, AllocError>
     ensures from { IfOk result (λ keys. keys.from.items ≡ first_below (segments_key name.now)) }
     ensures to { IfOk result (λ keys. keys.to.items ≡ first_behind (segments_key name.now)) }
@@ -96,7 +96,7 @@ pub fn all_chunks(alloc: Global, name: &[u8]) -> Result<Keys, AllocError>
 
 /// The keys of all chunks of this segment of the document of this name.
 ///
-/// Fails only where memory is refused.
+/// Errors: out of memory.
 pub fn chunks_of(alloc: Global, name: &[u8], segment: u32) -> Result<Keys, AllocError>
     ensures from { IfOk result (λ keys. keys.from.items ≡ first_below (segment_key name.now segment)) }
     ensures to { IfOk result (λ keys. keys.to.items ≡ first_behind (segment_key name.now segment)) }
@@ -105,9 +105,9 @@ pub fn chunks_of(alloc: Global, name: &[u8], segment: u32) -> Result<Keys, Alloc
     below(alloc, key)
 }
 
-/// This key alone, of those of documents: the keys from it on up to the same bytes with a `0` behind them.
+/// This key alone, of those of documents: the keys from it on up to the same bytes with a `0` after them.
 ///
-/// Fails only where memory is refused.
+/// Errors: out of memory.
 pub fn one_key(alloc: Global, key: Vec<u8>) -> Result<Keys, AllocError>
     ensures from { IfOk result (λ keys. keys.from.items ≡ key.items) }
     ensures to { IfOk result (λ keys. keys.to.items ≡ first_behind key.items) }

@@ -34,14 +34,14 @@ pub(crate) fn whole_of(text: &[u8]) -> Option<u64>
     }
 }
 
-// Whether there are bytes, and each is a digit.
+// Checks whether there are bytes, and each is a digit.
 fn are_digits(text: &[u8]) -> bool
     ensures { result ≡ are_digits text.now }
 {
     !text.is_empty() && all_digits(text)
 }
 
-// Whether each byte is a digit.
+// Checks whether each byte is a digit.
 fn all_digits(text: &[u8]) -> bool
     ensures { result ≡ list_all is_ascii_digit text.now }
 {

@@ -53,11 +53,11 @@ impl AnswerReader {
     }
 
     /// Reads on, from the front of the bytes that follow what was read: the whole head, what there is of the body, or one whole chunk.
-    /// Answers how many bytes that took; 0 where the answer is whole, or where more have to come first. Call it again with the bytes
+    /// Answers how many bytes that took; 0 where the answer is whole, or if more have to come first. Call it again with the bytes
     /// behind those.
     ///
     /// `NotHttp` where the bytes are no answer, or its head doesn't say how long its body is; `TooLarge` where the body is longer than its
-    /// limit, the head longer than 16384 bytes, or there are more than 64 fields; `Memory` where memory was refused. After an error the
+    /// limit, the head longer than 16384 bytes, or there are more than 64 fields; `Memory` if memory runs out. After an error the
     /// reader is of no use.
     pub fn take(&mut self, bytes: &[u8]) -> Result<usize, GatewayError>
         // What was read so far and what was taken now are what is read from now on.
@@ -136,7 +136,7 @@ impl AnswerReader {
         }
     }
 
-    /// Whether the answer is whole.
+    /// Checks whether the answer is whole.
     pub fn is_whole(&self) -> bool
         ensures { IsTrue result ↔ IsWhole self.now }
     {

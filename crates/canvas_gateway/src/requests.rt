@@ -29,10 +29,10 @@ pub enum Change<'a> {
     Remove(&'a Keys),
 }
 
-/// A request for the keys that are there, in their order, with their values or without. Where `limit` isn't 0, for that many of them at
+/// A request for the keys that are there, in their order, with their values or without. If `limit` isn't 0, for that many of them at
 /// most.
 ///
-/// Fails only where memory is refused.
+/// Errors: out of memory.
 pub fn ask_range(
     alloc: Global,
     host: &Host,
@@ -50,7 +50,7 @@ pub fn ask_range(
 /// A request for changes that are made together, where `key` was written last at this revision (where it isn't there, if that is 0). No
 /// two of them may be of one key.
 ///
-/// Fails only where memory is refused.
+/// Errors: out of memory.
 pub fn ask_commit(
     alloc: Global,
     host: &Host,
@@ -66,7 +66,7 @@ pub fn ask_commit(
 
 /// A request for a lease that ends after so many seconds, unless it is kept alive.
 ///
-/// Fails only where memory is refused.
+/// Errors: out of memory.
 pub fn ask_grant(alloc: Global, host: &Host, seconds: u64) -> Result<Vec<u8>, AllocError>
     ensures { IfOk result (λ bytes. Asks bytes.items (string_bytes host.now.text) Call.Grant (grant_tree seconds)) }
 {
@@ -76,7 +76,7 @@ pub fn ask_grant(alloc: Global, host: &Host, seconds: u64) -> Result<Vec<u8>, Al
 
 /// A request that a lease ends as many seconds from now on as it was granted for.
 ///
-/// Fails only where memory is refused.
+/// Errors: out of memory.
 pub fn ask_keep_alive(alloc: Global, host: &Host, lease: u64) -> Result<Vec<u8>, AllocError>
     ensures { IfOk result (λ bytes. Asks bytes.items (string_bytes host.now.text) Call.KeepAlive (lease_tree lease)) }
 {
@@ -86,7 +86,7 @@ pub fn ask_keep_alive(alloc: Global, host: &Host, lease: u64) -> Result<Vec<u8>,
 
 /// A request that a lease ends now, and its keys with it.
 ///
-/// Fails only where memory is refused.
+/// Errors: out of memory.
 pub fn ask_revoke(alloc: Global, host: &Host, lease: u64) -> Result<Vec<u8>, AllocError>
     ensures { IfOk result (λ bytes. Asks bytes.items (string_bytes host.now.text) Call.Revoke (lease_tree lease)) }
 {

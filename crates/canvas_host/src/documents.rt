@@ -109,7 +109,7 @@ where
     Ok(EtcdStore::new(rt.clone()?, hosts, name, LEASE_SECONDS)?)
 }
 
-// The identity of a document that was taken over. Where it has none it is made, and stands in the etcd before it is told.
+// The identity of a document that was taken over. If it has none it is made, and stands in the etcd before it is told.
 fn identity_of<R>(files: HostRuntime, lease: &mut Lease<R>) -> Result<String, Fault>
 where
     R: Net<Stream = TcpStream> + AllocGlobal + Clone + Drop,

@@ -501,7 +501,7 @@ fn failed(shared: &Shared) -> Fault
     }
 }
 
-// Notes how the document stands. Answers whether the journal has failed.
+// Notes how the document stands. Returns whether the journal has failed.
 fn glance<K, N, R>(rt: &R, room: &Room<K, N, R>, shared: &Shared) -> bool
 where
     N: RoomName,

@@ -14,7 +14,7 @@ const REST_SECONDS: u64 = 3;
 
 const RETRY_MILLIS: u64 = 500;
 
-/// Keeps a lease alive until it has ended, and says so then. It has ended where the etcd says so, and also where the etcd hasn't answered
+/// Keeps a lease alive until it has ended, and says so then. It has ended where the etcd says so, and even if the etcd hasn't answered
 /// for as long as it lasts.
 pub(crate) fn keep<R>(rt: &R, lease: &mut Lease<R>, shared: &Shared)
 where
@@ -40,7 +40,7 @@ where
     unreachable!()
 }
 
-// Whether a lease that was renewed then may go on. Without a clock it may not.
+// Checks whether a lease that was renewed then may go on. Without a clock it may not.
 fn is_fresh<R: Clock>(rt: &R, renewed: Option<Instant>) -> bool {
     match (renewed, Instant::now(rt).ok()) {
         (Some(then), Some(now)) => { now.duration_since(then) < Duration::from_secs(LEASE_SECONDS) }

@@ -48,7 +48,7 @@ pub(crate) struct OpenRoom<S: Shelf> {
 }
 
 /// Opens the room of a folder's document, with so many seats, and answers it with the files that the folder removes. The folder is made
-/// where it is missing, and locked. Where opening it would lose something, nothing is opened, unless that is accepted.
+/// where it is missing, and locked. If opening it would lose something, nothing is opened, unless that is accepted.
 pub(crate) fn open_room(
     files: HostRuntime,
     dir: &str,

@@ -61,7 +61,7 @@ impl<'a, N: RoomName, D: Drop, W: Drop> Model for Seated<'a, N, D, W> {
 }
 
 impl<'a, N: RoomName, D: Drop, W: Wait + Clock + Clone + Drop> Seated<'a, N, D, W> {
-    /// This seat, which waits by `rt`. Fails only where memory is refused.
+    /// This seat, which waits by `rt`. Errors: out of memory.
     pub(crate) fn new(
         alloc: Global,
         rt: W,
@@ -93,12 +93,12 @@ impl<'a, N: RoomName, D: Drop, W: Wait + Clock + Clone + Drop> Seated<'a, N, D, 
         }
     }
 
-    // Whether this version is below the last checkpoint, by what was published a tenth of a second ago.
+    // Checks whether this version is below the last checkpoint, by what was published a tenth of a second ago.
     fn is_below(&self, version: u64) -> bool {
         version < self.shared.figures.floor()
     }
 
-    // The texts of what is answered an Ask that wants a copy. Fails where none may be sent for long, or memory is refused.
+    // The texts of what is answered an Ask that wants a copy. Fails where none may be sent for long, or memory runs out.
     fn copied(&mut self, client: u32, version: u64) -> Result<Vec<Vec<u8>>, AllocError>
         ensures { IfOk result (λ ts. GivesTexts (SeatGives N.opening) self.old (messages.Ask client version) (map (λ t. t.items) ts.items) self.new) }
     {
@@ -141,7 +141,7 @@ where
     R: Wait + Drop,
     W: Wait + Clock + Clone + Drop,
 {
-    // The texts of what is answered a message, each written anew. Fails only where memory is refused.
+    // The texts of what is answered a message, each written anew. Errors: out of memory.
     fn texts_anew(&mut self, alloc: Global, message: &Message) -> Result<Vec<Vec<u8>>, AllocError>
         ensures { IfOk result (λ ts. GivesTexts (SeatGives N.opening) self.old (seen_message message.now) (map (λ t. t.items) ts.items) self.new) }
     {
@@ -149,7 +149,7 @@ where
         texts_of(alloc, &answer)
     }
 
-    // What is answered a message. Fails only where memory is refused.
+    // What is answered a message. Errors: out of memory.
     fn answered(&mut self, message: &Message) -> Result<Vec<Message>, AllocError>
         ensures gives { IfOk result (λ answer. SeatGives N.opening self.old (seen_message message.now) (map seen_message answer.items) self.new) }
         ensures whole { IfOk result (λ answer. IsAnswer (map seen_message answer.items)) }

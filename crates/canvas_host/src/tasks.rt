@@ -66,7 +66,7 @@ where
     L: Wait + Drop,
     R: Wait + Clock + Eprint + AllocGlobal + Clone + Drop,
 {
-    // Serves one connection after the other. Where memory is refused at its beginning, the seat stays empty.
+    // Serves one connection after the other. If memory runs out at its beginning, the seat stays empty.
     fn run(self) {
         let SeatTask {
             rt,

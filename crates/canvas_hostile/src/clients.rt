@@ -60,7 +60,7 @@ fn make<A: Allocator + Copy>(
     Ok(Told::Made(number))
 }
 
-// What is told of an edit. The error is that memory was refused.
+// What is told of an edit. The error is that memory ran out.
 fn edited(answer: Result<Told, EditError>) -> Result<Told, AllocError> {
     match answer {
         Ok(told) => Ok(told),
@@ -219,7 +219,7 @@ fn write_seen(
     Ok(())
 }
 
-/// Adds what a client that has taken these steps answers a line. Where the line is a step, it is added to the steps.
+/// Adds what a client that has taken these steps answers a line. If the line is a step, it is added to the steps.
 pub fn answer_line(
     global: Global,
     heap: &Refusing<Global>,

@@ -1,11 +1,11 @@
 //! Hostile use, as data: a program that is run on a file of cases. A case is one of these:
 //!
-//! - the script of a world, or lines to one client: each growth of memory is refused in turn, of each event, of each step, and of calls
+//! - the script of a world, or lines to one client: each growth of memory runs out in turn, of each event, of each step, and of calls
 //!   that only read.
 //! - a talk, which begins with the line `talk`: messages that a client sends to a room over a journal in memory, hostile ones among them.
 //!
 //! **Growths.** A call is made again and again: from the same beginning, with its first growth refused, then with its second, until none
-//! is left to refuse. Where one is refused, all must be as it was before the call; and the same call once more, with what comes after it,
+//! is left to refuse. If one is refused, all must be as it was before the call; and the same call once more, with what comes after it,
 //! must go as it goes where nothing is refused. What is written of a call is its answer and how many of its growths were refused so.
 //!
 //! **Talks.** Each line is a message that the room's one seat is asked, but for these:

@@ -51,19 +51,19 @@ enum Reading<'a> {
     TellEntries(&'a Server, &'a [Entry]),
 }
 
-// Whether a new client is empty.
+// Checks whether a new client is empty.
 fn makes_client<A: Allocator + Copy>(global: Global, alloc: A) -> Result<bool, AllocError> {
     let client = Client::new(alloc)?;
     same_client(global, &client, &Client::new(global)?)
 }
 
-// Whether a new world is empty.
+// Checks whether a new world is empty.
 fn makes_world<A: Allocator + Copy>(global: Global, alloc: A) -> Result<bool, AllocError> {
     let world = World::new(alloc)?;
     same_world(global, &world, &World::new(global)?, 1)
 }
 
-// Whether the root's children are listed as in ample memory.
+// Checks whether the root's children are listed as in ample memory.
 fn lists_children<A: Allocator + Copy>(
     global: Global,
     alloc: A,
@@ -86,14 +86,14 @@ fn write_tree<A: Allocator>(
     }
 }
 
-// Whether this is what a tree is written as behind what stands there.
+// Checks whether this is what a tree is written as behind what stands there.
 fn is_written(global: Global, tree: &Tree, form: Form, text: &[u8]) -> Result<bool, AllocError> {
     let mut wanted = Vec::from_slice(global, HEAD)?;
     write_tree(global, tree, form, &mut wanted)?;
     Ok(wanted.as_slice() == text)
 }
 
-// Whether a tree is written as in ample memory behind what stands there.
+// Checks whether a tree is written as in ample memory behind what stands there.
 fn writes_tree<A: Allocator + Copy>(
     global: Global,
     alloc: A,
@@ -109,7 +109,7 @@ fn writes_tree<A: Allocator + Copy>(
     }
 }
 
-// Whether this is the path to an object.
+// Checks whether this is the path to an object.
 fn finds_path<A: Allocator + Copy>(
     alloc: A,
     tree: &Tree,
@@ -123,7 +123,7 @@ fn finds_path<A: Allocator + Copy>(
     })
 }
 
-// Whether these are the same entries in the same order.
+// Checks whether these are the same entries in the same order.
 fn are_same<A: Allocator>(one: &[Entry<A>], two: &[Entry]) -> bool {
     for (entry, other) in one.iter().zip(two.iter()) {
         if !entry.same(other) {
@@ -133,7 +133,7 @@ fn are_same<A: Allocator>(one: &[Entry<A>], two: &[Entry]) -> bool {
     one.len() == two.len()
 }
 
-// Whether a server tells these entries.
+// Checks whether a server tells these entries.
 fn tells_entries<A: Allocator + Copy>(
     alloc: A,
     server: &Server,

@@ -4,7 +4,7 @@ use canvas_server::Server;
 use canvas_world::World;
 use std::alloc::{AllocError, Allocator, Global};
 
-// Whether the edits that wait of two clients are the same.
+// Checks whether the edits that wait of two clients are the same.
 fn same_waiting<A: Allocator + Copy>(
     alloc: Global,
     one: &Client<A>,
@@ -22,7 +22,7 @@ fn same_waiting<A: Allocator + Copy>(
     Ok(true)
 }
 
-/// Whether two clients are the same.
+/// Checks whether two clients are the same.
 pub fn same_client<A: Allocator + Copy>(
     alloc: Global,
     one: &Client<A>,
@@ -38,7 +38,7 @@ pub fn same_client<A: Allocator + Copy>(
     )
 }
 
-// Whether two servers are the same.
+// Checks whether two servers are the same.
 fn same_server<A: Allocator>(one: &Server<A>, two: &Server) -> bool {
     one.version() == two.version()
         && one.published() == two.published()
@@ -46,7 +46,7 @@ fn same_server<A: Allocator>(one: &Server<A>, two: &Server) -> bool {
         && one.state().same(two.state())
 }
 
-/// Whether two worlds of at most so many nodes are the same. The messages under way and the log are seen by what comes of them.
+/// Checks whether two worlds of at most that many nodes are the same. The messages under way and the log are seen by what comes of them.
 pub fn same_world<A: Allocator + Copy>(
     alloc: Global,
     one: &World<A>,

@@ -15,7 +15,7 @@ pub trait Trial<A: Allocator + Copy> {
     /// The beginning.
     fn begin(&self, global: Global, alloc: A) -> Result<Self::Subject, AllocError>;
 
-    /// Makes the call, and tells whether it answers what it must. The error is that memory was refused.
+    /// Makes the call, and tells whether it answers what it must. The error is that memory ran out.
     fn call(
         &self,
         global: Global,
@@ -23,8 +23,8 @@ pub trait Trial<A: Allocator + Copy> {
         subject: &mut Self::Subject,
     ) -> Result<bool, AllocError>;
 
-    /// Whether all is as it must be: after the call where it was made, and what comes then goes as it must; and as before the call where it
-    /// was refused memory.
+    /// Checks whether all is as it must be: after the call where it was made, and what comes then goes as it must; and as before the call
+    /// where it was refused memory.
     fn is_as_wanted(
         &self,
         global: Global,

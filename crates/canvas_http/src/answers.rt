@@ -11,7 +11,7 @@ use std::alloc::{AllocError, Global};
 
 /// The head of an answer of this status, whose body is of this type and length in bytes. The connection ends with the answer.
 ///
-/// Fails only where memory is refused.
+/// Errors: out of memory.
 pub fn write_head(
     alloc: Global,
     site: &Site,
@@ -58,7 +58,7 @@ fn head_text(
 
 /// An answer of this status: its head and, where it is wanted, this body.
 ///
-/// Fails only where memory is refused.
+/// Errors: out of memory.
 pub fn write_answer(
     alloc: Global,
     site: &Site,
@@ -78,7 +78,7 @@ pub fn write_answer(
 
 /// An answer of this status: its head and, where it is wanted, the status in a sentence.
 ///
-/// Fails only where memory is refused.
+/// Errors: out of memory.
 pub fn write_sentence(
     alloc: Global,
     site: &Site,

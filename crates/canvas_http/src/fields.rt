@@ -52,7 +52,7 @@ impl<'a> Fields<'a> {
         found
     }
 
-    /// Whether a field asks for WebSocket.
+    /// Checks whether a field asks for WebSocket.
     pub fn is_handshake(&self) -> bool
         requires { All (IsHeaderWithin (length self.now.bytes.now)) self.now.spans.now }
         ensures { result ≡ is_handshake (seen_fields self.now) }
@@ -65,7 +65,7 @@ impl<'a> Fields<'a> {
         false
     }
 
-    // Whether the field that stands there asks for WebSocket.
+    // Checks whether the field that stands there asks for WebSocket.
     fn asks_upgrade(&self, span: &HeaderSpan) -> bool
         requires { IsHeaderWithin (length self.now.bytes.now) span.now }
         ensures { result ≡ asks_upgrade (header_bytes self.now.bytes.now span.now) }
@@ -76,7 +76,7 @@ impl<'a> Fields<'a> {
     }
 }
 
-/// Whether two words are the same, without case.
+/// Checks whether two words are the same, without case.
 pub(crate) fn is_same_word(a: &[u8], b: &[u8]) -> bool
     ensures { result ≡ is_same_word a.now b.now }
 {

@@ -57,7 +57,7 @@ fn request_at(site: &Site, bytes: &[u8], head: &RequestSpans, spans: &[HeaderSpa
 
 /// What the request is whose head these bytes begin with. `None` where the head isn't whole yet.
 pub fn read_head(site: &Site, bytes: &[u8]) -> Result<Option<Request>, HeadError>
-    // A request is found exactly where the bytes begin with a head of at most 64 fields, and it is what the table says of that head.
+    // A request is found exactly if the bytes begin with a head of at most 64 fields, and it is what the table says of that head.
     ensures found { (head : RequestHead) → Begins bytes.now head → result ≡ Ok (Some (request_of (seen_site site.now) head)) }
     ensures some { IfOk result (λ found. IfSome found (λ request. (head : RequestHead) × Begins bytes.now head × (request ≡ request_of (seen_site site.now) head))) }
 

@@ -3,15 +3,15 @@ ghost use Rattle.std.specs.Prelude.{◌≡◌, ◌↔◌, ◌&&◌, IsTrue, code
 ghost use Rattle.std.specs.List.{list_all, position, starts_with};
 ghost use Rattle.canvas_http.specs.Origins.{IsOrigin, IsSchemeAndHost, is_host_byte, is_scheme_byte, is_small};
 
-/// Whether this text is an origin as browsers send it (RFC 6454, "The Web Origin Concept", section 6.2): `null`, or a scheme, `://` and a
-/// host, which its port may follow behind a colon. Its letters are small, and nothing stands behind it, not even a slash.
+/// Checks whether this text is an origin as browsers send it (RFC 6454, "The Web Origin Concept", section 6.2): `null`, or a scheme, `://`
+/// and a host, which its port may follow behind a colon. Its letters are small, and nothing stands after it, not even a slash.
 pub fn is_origin(text: &[u8]) -> bool
     ensures { IsTrue result ↔ IsOrigin text.now }
 {
     text == b"null".as_slice() || is_scheme_and_host(text)
 }
 
-// Whether this is a scheme, `://` and a host.
+// Checks whether this is a scheme, `://` and a host.
 fn is_scheme_and_host(text: &[u8]) -> bool
     ensures { IsTrue result ↔ IsSchemeAndHost text.now }
 {
@@ -28,35 +28,35 @@ fn scheme_end(text: &[u8]) -> Option<usize>
     text.iter().position(|b| !is_scheme_byte(*b))
 }
 
-// Whether this is `://` and a host.
+// Checks whether this is `://` and a host.
 fn is_host_behind(text: &[u8]) -> bool
     ensures { result ≡ (starts_with nat_eq text.now (codes "://") && list_all is_host_byte (drop 3 text.now)) }
 {
     text.starts_with(b"://") && are_host_bytes(&text[3..])
 }
 
-// Whether each byte may stand in a host and its port.
+// Checks whether each byte may stand in a host and its port.
 fn are_host_bytes(text: &[u8]) -> bool
     ensures { result ≡ list_all is_host_byte text.now }
 {
     text.iter().all(|b| is_host_byte(*b))
 }
 
-// Whether the byte may stand in a scheme.
+// Checks whether the byte may stand in a scheme.
 fn is_scheme_byte(b: u8) -> bool
     ensures { result ≡ is_scheme_byte b }
 {
     is_small(b) || matches!(b, b'+' | b'-' | b'.')
 }
 
-// Whether the byte may stand in a host and its port.
+// Checks whether the byte may stand in a host and its port.
 fn is_host_byte(b: u8) -> bool
     ensures { result ≡ is_host_byte b }
 {
     is_small(b) || matches!(b, b'-' | b'.' | b':' | b'[' | b']' | b'_')
 }
 
-// Whether the byte is a small letter or a digit.
+// Checks whether the byte is a small letter or a digit.
 fn is_small(b: u8) -> bool
     ensures { result ≡ is_small b }
 {

@@ -16,21 +16,21 @@ pub struct Site {
     pub ghost identified: { IsIdentity (string_bytes identity) },
 }
 
-/// Whether this text may be a document's identity: 32 hex digits in lower case.
+/// Checks whether this text may be a document's identity: 32 hex digits in lower case.
 pub fn is_identity(text: &[u8]) -> bool
     ensures { IsTrue result ↔ IsIdentity text.now }
 {
     text.len() == 32 && are_hex_digits(text)
 }
 
-// Whether each byte is a hex digit in lower case.
+// Checks whether each byte is a hex digit in lower case.
 fn are_hex_digits(text: &[u8]) -> bool
     ensures { result ≡ list_all is_hex_digit text.now }
 {
     text.iter().all(|b| is_hex_digit(*b))
 }
 
-// Whether the byte is a hex digit in lower case.
+// Checks whether the byte is a hex digit in lower case.
 fn is_hex_digit(b: u8) -> bool
     ensures { result ≡ is_hex_digit b }
 {

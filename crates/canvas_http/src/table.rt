@@ -36,14 +36,14 @@ pub(crate) fn asked(site: &Site, method: &[u8], target: &[u8], fields: &Fields<'
     }
 }
 
-/// Whether two runs of bytes are the same.
+/// Checks whether two runs of bytes are the same.
 pub(crate) fn is_equal(a: &[u8], b: &[u8]) -> bool
     ensures { result ≡ bytes_eq a.now b.now }
 {
     a == b
 }
 
-// Whether the target begins with a slash.
+// Checks whether the target begins with a slash.
 fn has_path(target: &[u8]) -> bool
     ensures { result ≡ has_path target.now }
 {
@@ -89,7 +89,7 @@ fn asked_by_handshake(
     Asked::Connection
 }
 
-// Whether the site's document is at this path.
+// Checks whether the site's document is at this path.
 fn is_document_path(site: &Site, path: &[u8]) -> bool
     ensures { result ≡ is_document_path (seen_site site.now) path.now }
 {
@@ -102,7 +102,7 @@ fn is_document_path(site: &Site, path: &[u8]) -> bool
     }
 }
 
-// Whether a page of this origin may connect, or what is no page.
+// Checks whether a page of this origin may connect, or what is no page.
 #[tactic(auto, using(crate::proofs::Paths::list_any_map))]
 fn may_connect(site: &Site, host: &[u8], origin: Option<&[u8]>) -> bool
     ensures { result ≡ list_all (is_welcome (seen_site site.now) (host.now ∷ [])) (option_to_list (option_copied origin.entry)) }
@@ -113,14 +113,14 @@ fn may_connect(site: &Site, host: &[u8], origin: Option<&[u8]>) -> bool
     }
 }
 
-// Whether the origin is that of the host.
+// Checks whether the origin is that of the host.
 fn is_origin_of(host: &[u8], origin: &[u8]) -> bool
     ensures { result ≡ is_origin_of host.now origin.now }
 {
     is_joined(origin, b"http://", host) || is_joined(origin, b"https://", host)
 }
 
-// Whether the word is the front and then the back, without case.
+// Checks whether the word is the front and then the back, without case.
 fn is_joined(word: &[u8], front: &[u8], back: &[u8]) -> bool
     ensures { result ≡ is_same_word word.now (front.now ++ back.now) }
 {
@@ -131,7 +131,7 @@ fn is_joined(word: &[u8], front: &[u8], back: &[u8]) -> bool
     is_same_word(begin, front) && is_same_word(end, back)
 }
 
-// Whether the origin is one of these.
+// Checks whether the origin is one of these.
 fn is_named(origins: &[String], origin: &[u8]) -> bool
     ensures { result ≡ list_any (λ named. bytes_eq (string_bytes named) origin.now) origins.now }
 {
@@ -152,7 +152,7 @@ fn asked_by_page(site: &Site, method: &[u8], path: &[u8]) -> Asked
     }
 }
 
-// Whether the method reads.
+// Checks whether the method reads.
 fn is_reading(method: &[u8]) -> bool
     ensures { result ≡ is_reading method.now }
 {

@@ -30,7 +30,7 @@ pub enum AddressError {
     /// The name isn't 1 to 64 letters, digits, `-`, `.` and `_`.
     #[error("no name of a document")]
     NotAName,
-    /// Memory was refused.
+    /// Memory ran out.
     #[error("out of memory")]
     Memory,
 }
@@ -58,7 +58,7 @@ impl<T: Drop> From<AllocFailed<T>> for AddressError {
 impl Address {
     /// The address of the document of this name, by these URLs.
     ///
-    /// The errors: `NotAUrl`, for a URL that isn't as `http://127.0.0.1:2379`, or for none; `NotAName`, exactly where a document may not have
+    /// The errors: `NotAUrl`, for a URL that isn't as `http://127.0.0.1:2379`, or for none; `NotAName`, exactly if a document may not have
     /// this name; `Memory`.
     pub fn new(alloc: Global, urls: &[String], name: &str) -> Result<Address, AddressError>
         ensures named { IfOk result (λ address. is_name (string_bytes address.name) ≡ true) }

@@ -14,7 +14,7 @@ pub enum IdentityError {
     /// The file can't be read or written, or the system gives no random bits.
     #[error("the folder can't be read and written")]
     Device,
-    /// Memory was refused.
+    /// Memory ran out.
     #[error("out of memory")]
     Memory,
 }

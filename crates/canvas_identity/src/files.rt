@@ -18,9 +18,9 @@ const DRAFT: &str = "identity.new";
 // How many bytes of it are read. An identity has 32 digits and a line feed.
 const MOST_BYTES: u64 = 64;
 
-/// The identity of a folder's document. Where the folder has none it is made, and synced before it is told.
+/// The identity of a folder's document. If the folder has none it is made, and synced before it is told.
 ///
-/// The errors: `NotOne`, where the file holds something else; `Device`, where it can't be read or written, or where the system gives no
+/// The errors: `NotOne`, where the file holds something else; `Device`, where it can't be read or written, or if the system gives no
 /// random bits; `Memory`.
 pub fn identity<R>(files: &R, dir: &str) -> Result<String, IdentityError>
 where

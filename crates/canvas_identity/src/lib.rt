@@ -1,4 +1,4 @@
-//! Which document it is. A folder's is told by 128 random bits as 32 hex digits, in the file `identity` beside the segments, and where
+//! Which document it is. A folder's is told by 128 random bits as 32 hex digits, in the file `identity` beside the segments, and if
 //! one in an etcd is, by the hosts and its name.
 #![tactic(auto)]
 

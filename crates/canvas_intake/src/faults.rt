@@ -37,7 +37,7 @@ pub enum SubmitError {
     /// Device the entry may be found all the same. At a checkpoint Memory stands too where it is written and its floor is owed.
     #[error(transparent)]
     NotKept(KeepError),
-    /// Memory was refused for publishing an entry that is synced: it is owed, and the next call publishes it first.
+    /// Memory ran out for publishing an entry that is synced: it is owed, and the next call publishes it first.
     #[error("entry {version} is owed: out of memory")]
     Owed {
         /// The version of the last entry that is owed.

@@ -70,14 +70,14 @@ pub fn write(rt: &HostRuntime, folder: &str, name: &str, bytes: &[u8]) -> Result
     Ok(())
 }
 
-/// Whether a file of a folder holds these bytes.
+/// Checks whether a file of a folder holds these bytes.
 pub fn is_file(rt: &HostRuntime, folder: &str, name: &str, bytes: &[u8]) -> Result<bool, Fail> {
     let path = format!(in rt.alloc(); "{folder}/{name}")?;
     let read = fs::read(rt, path.as_str())?;
     Ok(read.as_slice() == bytes)
 }
 
-// Whether a shelf lists these segments, the first one highest, and reads these bytes of them.
+// Checks whether a shelf lists these segments, the first one highest, and reads these bytes of them.
 fn holds<S: Shelf>(
     alloc: Global,
     shelf: &mut S,
@@ -97,7 +97,7 @@ fn holds<S: Shelf>(
     Ok(wanted.next().is_none())
 }
 
-// Whether a shelf lists these segments, the first one highest.
+// Checks whether a shelf lists these segments, the first one highest.
 fn lists<S: Shelf>(alloc: Global, shelf: &mut S, numbers: &[u32]) -> Result<bool, ShelfError>
     requires { S.honest shelf.old ≡ false }
     ensures { S.honest shelf.new ≡ S.honest shelf.old }
@@ -106,7 +106,7 @@ fn lists<S: Shelf>(alloc: Global, shelf: &mut S, numbers: &[u32]) -> Result<bool
     Ok(listed.as_slice() == numbers)
 }
 
-// Whether a shelf reads these bytes of a segment.
+// Checks whether a shelf reads these bytes of a segment.
 fn reads<S: Shelf>(
     alloc: Global,
     shelf: &mut S,
@@ -120,7 +120,7 @@ fn reads<S: Shelf>(
     Ok(read.as_slice() == bytes)
 }
 
-// Whether a shelf does what it is called for.
+// Checks whether a shelf does what it is called for.
 fn does<S: Shelf>(alloc: Global, shelf: &mut S, call: Call) -> bool
     requires { S.honest shelf.old ≡ false }
     ensures { S.honest shelf.new ≡ S.honest shelf.old }
@@ -179,7 +179,7 @@ pub fn played(
     played_for(rt, folder, Access::Writing, calls)
 }
 
-/// Whether a folder's segments are these, the highest first, as a shelf opened anew reads them.
+/// Checks whether a folder's segments are these, the highest first, as a shelf opened anew reads them.
 pub fn is_there(rt: &HostRuntime, folder: &str, segments: &[(u32, &[u8])]) -> Result<bool, Fail> {
     Ok(played(rt, folder, &[(Call::Holds(segments), true)])? == (None, 0))
 }

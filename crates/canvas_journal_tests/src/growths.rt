@@ -12,7 +12,7 @@ fn refusals(alloc: Global, number: u64) -> ([bool; 4], u64) {
     (refused, heap.left())
 }
 
-// Whether each of three growths is refused where the second one from the first on is to be.
+// Checks whether each of three growths is refused where the second one from the first on is to be.
 fn refused_later(alloc: Global) -> [bool; 3] {
     let heap = Refusing::new(alloc, 0);
     let mut refused = [false; 3];

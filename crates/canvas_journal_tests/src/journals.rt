@@ -127,7 +127,7 @@ fn opened(rt: &HostRuntime, folder: &str) -> Result<Result<u64, OpenError>, Fail
     Ok(found.map(|told| told.version))
 }
 
-// Whether the journal in a folder answers these steps so, and then so many calls have failed.
+// Checks whether the journal in a folder answers these steps so, and then so many calls have failed.
 fn keeps(rt: &HostRuntime, folder: &str, steps: &[Answered], failures: u64) -> Result<bool, Fail> {
     match kept(rt, folder, steps)? {
         Ok(told) => Ok(told.other.is_none() && told.failures == failures),
@@ -135,7 +135,7 @@ fn keeps(rt: &HostRuntime, folder: &str, steps: &[Answered], failures: u64) -> R
     }
 }
 
-// Whether a folder is opened at version 1, and then holds the checkpoint after the first Join in this segment alone.
+// Checks whether a folder is opened at version 1, and then holds the checkpoint after the first Join in this segment alone.
 fn reopens(rt: &HostRuntime, folder: &str, number: u32, name: &str) -> Result<bool, Fail> {
     let found = opened(rt, folder)?;
     let is_alone = is_there(rt, folder, &[(number, AFTER_JOIN)])?;
@@ -165,7 +165,7 @@ fn opened_again(rt: HostRuntime) -> Result<(), Fail> {
     Ok(())
 }
 
-// Whether a folder whose first segment is these bytes, cut to so many, is opened at that version, and then holds this segment alone.
+// Checks whether a folder whose first segment is these bytes, cut to so many, is opened at that version, and then holds this segment alone.
 fn opens_cut(
     rt: &HostRuntime,
     folder: &str,

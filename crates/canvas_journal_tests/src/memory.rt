@@ -18,7 +18,7 @@ fn write<S: Shelf>(shelf: &mut S) -> Result<(), Fail>
     Ok(())
 }
 
-// Whether a shelf has one segment, of these bytes.
+// Checks whether a shelf has one segment, of these bytes.
 fn holds<S: Shelf>(alloc: Global, shelf: &mut S, bytes: &[u8]) -> Result<bool, ShelfError> {
     let listed = shelf.list(alloc)?;
     let mut found = 0u64;
@@ -31,7 +31,7 @@ fn holds<S: Shelf>(alloc: Global, shelf: &mut S, bytes: &[u8]) -> Result<bool, S
     Ok(found == 1 && listed.len() == 1)
 }
 
-// Whether so many of the bytes that weren't synced are there after a crash that kept so many, behind those that were.
+// Checks whether so many of the bytes that weren't synced are there after a crash that kept so many, behind those that were.
 fn outlasts(alloc: Global, more: u64, left: &[u8]) -> Result<bool, Fail> {
     let mut shelf = DirShelf::open(alloc, MemFolder::new(alloc))?;
     write(&mut shelf)?;
@@ -40,7 +40,7 @@ fn outlasts(alloc: Global, more: u64, left: &[u8]) -> Result<bool, Fail> {
     Ok(holds(alloc, &mut again, left)?)
 }
 
-// Whether what was synced outlasts a crash that keeps nothing else.
+// Checks whether what was synced outlasts a crash that keeps nothing else.
 fn outlasts_all(alloc: Global) -> Result<bool, Fail> {
     let mut shelf = DirShelf::open(alloc, MemFolder::new(alloc))?;
     write(&mut shelf)?;
@@ -48,7 +48,7 @@ fn outlasts_all(alloc: Global) -> Result<bool, Fail> {
     Ok(holds(alloc, &mut again, b"abc")?)
 }
 
-// Whether a folder of which that call fails makes no shelf.
+// Checks whether a folder of which that call fails makes no shelf.
 fn refuses(alloc: Global, call: u64) -> bool {
     let mut folder = MemFolder::new(alloc);
     folder.fail_one(call);

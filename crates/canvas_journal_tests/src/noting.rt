@@ -4,7 +4,7 @@ use crate::documents::Access;
 use canvas_watch::ShelfCall;
 use std::test::Fail;
 
-// Whether these calls of the watched shelf of a folder, for reading, all fail, this is noted as the first, and no bytes are counted.
+// Checks whether these calls of the watched shelf of a folder, for reading, all fail, this is noted as the first, and no bytes are counted.
 fn notes(rt: &HostRuntime, folder: &str, calls: &[Step], first: ShelfCall) -> Result<bool, Fail> {
     renew(rt, folder, Standing::Nothing)?;
     let told = watched(rt, folder, Access::Reading, calls)?;

@@ -21,8 +21,8 @@ fn in_memory(alloc: Global) -> Result<MemShelf, Fail>
     Ok(shelf)
 }
 
-// Whether a shelf that is asked for its numbers, with the first growth refused, tells so and counts no failure, and answers when it is
-// asked again.
+// Checks whether a shelf that is asked for its numbers, with the first growth refused, tells so and counts no failure, and answers when it
+// is asked again.
 fn refuses_list<S: Shelf>(alloc: Global, shelf: &mut S) -> bool
     ensures disk { IsTrue (S.honest shelf.old) → S.disk shelf.new ≡ S.disk shelf.old }
     ensures honest { S.honest shelf.new ≡ S.honest shelf.old }
@@ -45,7 +45,7 @@ fn refuses_read<S: Shelf>(alloc: Global, shelf: &mut S) -> bool
     refused && heap.left() == 0 && shelf.failures() == failures && again
 }
 
-// Whether a shelf does both.
+// Checks whether a shelf does both.
 fn refuses<S: Shelf>(alloc: Global, shelf: &mut S) -> bool
     requires { IsTrue (S.honest shelf.old) → is_listed 1 (S.disk shelf.old) ≡ true }
 {

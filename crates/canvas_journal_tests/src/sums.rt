@@ -36,7 +36,7 @@ fn written(
     }
 }
 
-// Whether these are the sums of a segment, or none can be read.
+// Checks whether these are the sums of a segment, or none can be read.
 fn are_sums(rt: &HostRuntime, folder: &str, number: u32, sums: Option<&[u8]>) -> bool {
     match read_sums(rt, folder, number) {
         Ok(read) => sums == Some(read.as_slice()),
@@ -44,7 +44,7 @@ fn are_sums(rt: &HostRuntime, folder: &str, number: u32, sums: Option<&[u8]>) ->
     }
 }
 
-// Whether a file holds these bytes.
+// Checks whether a file holds these bytes.
 fn is_file(rt: &HostRuntime, path: &str, bytes: &[u8]) -> Result<bool, Fail> {
     let read = fs::read(rt, path)?;
     Ok(read.as_slice() == bytes)

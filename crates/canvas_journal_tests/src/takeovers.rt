@@ -9,7 +9,7 @@ use memory_store::MemStore;
 use std::alloc::Global;
 use std::test::Fail;
 
-// Whether a shelf that was just opened has no segment.
+// Checks whether a shelf that was just opened has no segment.
 fn is_empty<S: Shelf>(alloc: Global, shelf: &mut S) -> Result<bool, ShelfError>
     requires { IsTrue (S.honest shelf.old) → (held : Content) × (S.disk shelf.old ≡ synced_disk held) }
     ensures honest { S.honest shelf.new ≡ S.honest shelf.old }
@@ -53,7 +53,7 @@ fn fails_for_good<S: Shelf>(
     Ok(silent && shelf.append(1, b"g").is_err())
 }
 
-// Whether a shelf has one segment, of these bytes.
+// Checks whether a shelf has one segment, of these bytes.
 fn holds<S: Shelf>(alloc: Global, shelf: &mut S, bytes: &[u8]) -> Result<bool, ShelfError> {
     let listed = shelf.list(alloc)?;
     let mut found = 0u64;
@@ -66,7 +66,7 @@ fn holds<S: Shelf>(alloc: Global, shelf: &mut S, bytes: &[u8]) -> Result<bool, S
     Ok(found == 1 && listed.len() == 1)
 }
 
-// Whether another finds what was synced, and nothing else.
+// Checks whether another finds what was synced, and nothing else.
 fn outlasts(alloc: Global) -> Result<bool, Fail> {
     let mut store = MemStore::new(alloc);
     store.fuse(9);
@@ -80,7 +80,7 @@ fn outlasts(alloc: Global) -> Result<bool, Fail> {
     Ok(holds(alloc, &mut next, b"abc")? && holds(alloc, &mut reader, b"abc")?)
 }
 
-// Whether another finds either of these, where that call of the store fails.
+// Checks whether another finds either of these, where that call of the store fails.
 fn finds(
     alloc: Global,
     call: u64,
@@ -100,7 +100,7 @@ fn finds(
     Ok(failed && holds(alloc, &mut one, not_done)? && holds(alloc, &mut other, done)?)
 }
 
-// Whether a store of which that call fails makes no shelf.
+// Checks whether a store of which that call fails makes no shelf.
 fn refuses(alloc: Global, call: u64) -> bool {
     let mut store = MemStore::new(alloc);
     store.fail_one(call);

@@ -9,7 +9,7 @@ use canvas_codec::parts::{split_word, whole};
 use serde_json::Value as Json;
 use std::alloc::{AllocError, Global};
 
-/// The array of these members. The error is that memory was refused.
+/// The array of these members. The error is that memory ran out.
 pub fn array<const N: usize>(alloc: Global, items: [Json; N]) -> Result<Json, AllocError>
     ensures { IfOk result (λ j. view j ≡ array (items_view items.entry)) }
 {

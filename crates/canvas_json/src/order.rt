@@ -23,7 +23,7 @@ pub struct RowHead {
     pub is_placed: bool,
 }
 
-/// Whether the first row is the root's, and each other has a place and a greater id than the one before it.
+/// Checks whether the first row is the root's, and each other has a place and a greater id than the one before it.
 pub fn are_rows(rows: &[Json]) -> bool
     ensures { result ≡ are_rows (items_view rows.now) }
 {
@@ -33,7 +33,7 @@ pub fn are_rows(rows: &[Json]) -> bool
     }
 }
 
-/// Whether a row is the root's, a document without a place, or another's that has a place.
+/// Checks whether a row is the root's, a document without a place, or another's that has a place.
 pub fn is_row(row: &Json) -> bool
     ensures { result ≡ is_row (head_in (view row.now)) }
 {
@@ -47,7 +47,7 @@ pub fn is_row(row: &Json) -> bool
     }
 }
 
-// Whether each row but the first has a place and a greater id than the one before it.
+// Checks whether each row but the first has a place and a greater id than the one before it.
 fn are_after(rows: &[Json]) -> bool
     ensures { result ≡ are_each_after (items_view rows.now) }
 {
@@ -58,7 +58,7 @@ fn are_after(rows: &[Json]) -> bool
     )
 }
 
-// Whether a row says that it is the root, a document without a place.
+// Checks whether a row says that it is the root, a document without a place.
 fn is_root(row: Option<RowHead>) -> bool
     ensures { result ≡ is_root row }
 {
@@ -68,7 +68,7 @@ fn is_root(row: Option<RowHead>) -> bool
     }
 }
 
-// Whether a row is of the root's id.
+// Checks whether a row is of the root's id.
 fn has_root_id(row: RowHead) -> bool
     ensures { result ≡ is_eq (wide_cmp row.id wide_root) }
 {
@@ -79,7 +79,7 @@ fn has_root_id(row: RowHead) -> bool
     compare(row.id, root).is_eq()
 }
 
-// Whether the next row has a place and a greater id.
+// Checks whether the next row has a place and a greater id.
 fn is_after(row: Option<RowHead>, next: Option<RowHead>) -> bool
     ensures { result ≡ is_after row next }
 {
@@ -133,7 +133,7 @@ fn integer(json: &Json) -> Option<i128>
     }
 }
 
-// Whether a JSON tree is the word of a document.
+// Checks whether a JSON tree is the word of a document.
 fn is_document(json: &Json) -> bool
     ensures { result ≡ is_document (view json.now) }
 {

@@ -12,7 +12,7 @@ use canvas_doc::{Change, ChangeVariant, Doc, ObjId};
 use canvas_model::DEPTH_LIMIT;
 use std::alloc::{AllocError, Allocator};
 
-// Whether the bound tells that nothing would stand too deep where the object goes under this parent. It climbs twice to the root.
+// Checks whether the bound tells that nothing would stand too deep where the object goes under this parent. It climbs twice to the root.
 pub(crate) fn is_surely_within<A: Allocator>(
     doc: &Doc<A>,
     bound: Option<u64>,
@@ -39,8 +39,8 @@ pub(crate) fn is_surely_within<A: Allocator>(
     bound.saturating_sub(old) < DEPTH_LIMIT - new
 }
 
-// A bound after an entry of this change and outcome; none where none is known. It walks what lies below a moved object only where the
-// bound alone doesn't tell. Fails only where memory is refused.
+// A bound after an entry of this change and outcome; none where none is known. It walks what lies below a moved object only if the
+// bound alone doesn't tell. Errors: out of memory.
 pub(crate) fn bound_after<A: Allocator + Copy, B: Allocator>(
     alloc: A,
     doc: &Doc<A>,

@@ -109,7 +109,7 @@ pub enum NoReason {
     Device = 5,
     /// The device failed before.
     Failed = 6,
-    /// Memory was refused.
+    /// Memory ran out.
     Memory = 7,
     /// The entry's record is too large.
     TooLarge = 8,
@@ -156,7 +156,7 @@ impl TryFrom<u8> for NoReason {
 }
 
 impl<A: Allocator> DocCopy<A> {
-    /// The same under another allocator. Fails only where memory is refused.
+    /// The same under another allocator. Errors: out of memory.
     pub fn copy_in<B: Allocator + Copy>(&self, alloc: B) -> Result<DocCopy<B>, AllocError>
         ensures { IfOk result (λ copy. seen_copy copy ≡ seen_copy self.now) }
     {
@@ -168,7 +168,7 @@ impl<A: Allocator> DocCopy<A> {
         })
     }
 
-    /// Whether both are the same.
+    /// Checks whether both are the same.
     pub fn same<B: Allocator>(&self, other: &DocCopy<B>) -> bool
         ensures { IsTrue result ↔ (seen_copy self.now ≡ seen_copy other.now) }
     {
@@ -177,7 +177,7 @@ impl<A: Allocator> DocCopy<A> {
 }
 
 impl<A: Allocator> Message<A> {
-    /// The same under another allocator. Fails only where memory is refused.
+    /// The same under another allocator. Errors: out of memory.
     pub fn copy_in<B: Allocator + Copy>(&self, alloc: B) -> Result<Message<B>, AllocError>
         ensures { IfOk result (λ copy. seen_message copy ≡ seen_message self.now) }
     {
@@ -228,7 +228,7 @@ impl<A: Allocator> Message<A> {
         }
     }
 
-    /// Whether both say the same.
+    /// Checks whether both say the same.
     pub fn same<B: Allocator>(&self, other: &Message<B>) -> bool
         ensures { IsTrue result ↔ (seen_message self.now ≡ seen_message other.now) }
     {

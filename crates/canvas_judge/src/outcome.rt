@@ -45,7 +45,7 @@ impl<A: Allocator> Drop for Outcome<A> {
 }
 
 impl<A: Allocator> Outcome<A> {
-    /// The same under another allocator. Fails only where memory is refused.
+    /// The same under another allocator. Errors: out of memory.
     pub fn copy_in<B: Allocator + Copy>(&self, alloc: B) -> Result<Outcome<B>, AllocError>
         ensures { IfOk result (λ copy. seen_outcome copy ≡ seen_outcome self.now) }
     {
@@ -72,7 +72,7 @@ impl<A: Allocator> Outcome<A> {
         }
     }
 
-    /// Whether both say the same.
+    /// Checks whether both say the same.
     pub fn same<B: Allocator>(&self, other: &Outcome<B>) -> bool
         ensures { IsTrue result ↔ (seen_outcome self.now ≡ seen_outcome other.now) }
     {
@@ -95,7 +95,7 @@ impl<A: Allocator> Outcome<A> {
     }
 }
 
-// Whether the two are the same place, or both none.
+// Checks whether the two are the same place, or both none.
 fn stand_alike<A: Allocator, B: Allocator>(
     place: &Option<Place<A>>,
     other: &Option<Place<B>>,

@@ -18,8 +18,8 @@ use canvas_doc::{Doc, Kind, ObjId, Object, Place};
 use canvas_model::Counts;
 use std::alloc::{AllocError, Allocator};
 
-/// Whether the document and the counts of clients 1, 2, .. make a sound state. Looks at each object once, and sorts the ids of
-/// those below the root. Fails only where memory is refused.
+/// Checks whether the document and the counts of clients 1, 2, .. make a sound state. Looks at each object once, and sorts the ids of
+/// those below the root. Errors: out of memory.
 pub(crate) fn is_sound<A: Allocator + Copy, B: Allocator + Copy>(
     alloc: B,
     doc: &Doc<A>,
@@ -34,7 +34,7 @@ pub(crate) fn is_sound<A: Allocator + Copy, B: Allocator + Copy>(
     Ok(rooted && each_is_sound(doc, clients))
 }
 
-// Whether each live object is in the tree.
+// Checks whether each live object is in the tree.
 fn all_in_tree<A: Allocator + Copy, B: Allocator + Copy>(
     alloc: B,
     doc: &Doc<A>,
@@ -45,7 +45,7 @@ fn all_in_tree<A: Allocator + Copy, B: Allocator + Copy>(
     Ok(ids.len() == doc.len())
 }
 
-// Whether each live object stands as it may, alone at its place, with a counter that its client has used.
+// Checks whether each live object stands as it may, alone at its place, with a counter that its client has used.
 fn each_is_sound<A: Allocator>(doc: &Doc<A>, clients: &[Counts]) -> bool
     ensures document { IsDocument doc.now }
     ensures each { IsTrue result ↔ All (IsSoundAt (record { doc = doc.now; clients = clients.now })) (map.entries doc.now) }
@@ -58,7 +58,7 @@ fn each_is_sound<A: Allocator>(doc: &Doc<A>, clients: &[Counts]) -> bool
     true
 }
 
-// Whether this object does.
+// Checks whether this object does.
 fn is_sound_at<A: Allocator>(
     doc: &Doc<A>,
     clients: &[Counts],
@@ -78,7 +78,7 @@ fn is_sound_at<A: Allocator>(
     }
 }
 
-// Whether an object of this kind may stand at the place, as far as its parent is live.
+// Checks whether an object of this kind may stand at the place, as far as its parent is live.
 fn may_stand_at<A: Allocator>(doc: &Doc<A>, kind: Kind, place: &Place<A>) -> bool
     ensures { IsTrue result ↔ MayStandAt doc.now kind place.now }
 {
@@ -88,7 +88,7 @@ fn may_stand_at<A: Allocator>(doc: &Doc<A>, kind: Kind, place: &Place<A>) -> boo
     }
 }
 
-// Whether the id is the root's, or its counter is one that its client has used.
+// Checks whether the id is the root's, or its counter is one that its client has used.
 fn has_used(clients: &[Counts], id: ObjId) -> bool
     ensures { IsTrue result ↔ (id ≢ root → id.counter ≤ unwrap_or (option_map (λ k. k.used) (nth clients.now id.client)) 0) }
 {

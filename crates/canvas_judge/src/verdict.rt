@@ -19,10 +19,10 @@ use std::alloc::{AllocError, Allocator};
 
 impl<A: Allocator + Copy> State<A> {
     /// The verdict on a change by a client that has joined: a refusal for the first reason against it, in the order of `Reason`, or
-    /// what it grants. Where the asked position is another child's, the object gets the one half way between it and the next greater
+    /// what it grants. If the asked position is another child's, the object gets the one half way between it and the next greater
     /// one of another child, or the end where there is none. A refused Move carries where its object stands. A deletion grants the
     /// object and all that lies below it. That the server refuses a move that would make a cycle is in "How Figma's multiplayer
-    /// technology works" (2019). Fails only where memory is refused.
+    /// technology works" (2019). Errors: out of memory.
     pub fn judge<B: Allocator + Copy, C: Allocator>(
         &self,
         alloc: B,
@@ -197,7 +197,7 @@ impl<A: Allocator> State<A> {
         None
     }
 
-    // Whether the rule forbids a new object under this parent for its depth.
+    // Checks whether the rule forbids a new object under this parent for its depth.
     fn creates_too_deep(&self, rule: Rule, parent: ObjId) -> bool
         ensures { IsTrue result ↔ LimitsDepth rule × IsTooDeepUnder self.now.doc parent }
     {
@@ -207,8 +207,8 @@ impl<A: Allocator> State<A> {
         }
     }
 
-    // Whether the rule forbids that the object goes under this parent, for the depth of what would stand there. Fails only where
-    // memory is refused.
+    // Checks whether the rule forbids that the object goes under this parent, for the depth of what would stand there. Fails only if
+    // memory runs out.
     fn moves_too_deep<B: Allocator + Copy>(
         &self,
         alloc: B,
@@ -252,7 +252,7 @@ impl<A: Allocator> State<A> {
         None
     }
 
-    // The first reason against a move, apart from want of room. Fails only where memory is refused.
+    // The first reason against a move, apart from want of room. Errors: out of memory.
     #[tactic(auto, using(crate::proofs::Against::none_deeper))]
     fn reason_against_move<B: Allocator + Copy, C: Allocator>(
         &self,
@@ -274,7 +274,7 @@ impl<A: Allocator> State<A> {
     }
 }
 
-// The position that an object gets which asks for this place: the asked one, or where that is taken, the one half way to the next
+// The position that an object gets which asks for this place: the asked one, or if that is taken, the one half way to the next
 // sibling's. None where no position is left in between.
 fn position_for<A: Allocator, B: Allocator + Copy, C: Allocator>(
     alloc: B,

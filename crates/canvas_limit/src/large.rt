@@ -11,8 +11,8 @@ use canvas_value::ValueVariant;
 use canvas_wire::encode;
 use std::alloc::{AllocError, Global};
 
-/// Whether a message is an edit whose text, as it is written here, has more than so many bytes. The text is written for that only where it
-/// sets a list, or may be long. Fails only where memory is refused.
+/// Checks whether a message is an edit whose text, as it is written here, has more than so many bytes. The text is written for that only if
+/// it sets a list, or may be long. Errors: out of memory.
 pub fn is_too_large(alloc: Global, message: &Message, limit: usize) -> Result<bool, AllocError>
     ensures { IfOk result (λ answer. IsTrue answer ↔ IsTooLarge limit (seen_message message.now)) }
 {
@@ -32,8 +32,8 @@ pub fn is_too_large(alloc: Global, message: &Message, limit: usize) -> Result<bo
     }
 }
 
-// Whether the text of an edit is seen to have at most so many bytes: each byte of a text that it sets becomes at most six, and all else
-// has at most 1,028.
+// Checks whether the text of an edit is seen to have at most that many bytes: each byte of a text that it sets becomes at most six, and all
+// else has at most 1,028.
 fn is_short(client: u32, seq: u64, change: &Change, limit: usize) -> bool
     ensures { IsTrue result → length (message_text (messages.Edit client seq change.now)) ≤ limit }
 {

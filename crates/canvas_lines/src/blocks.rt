@@ -8,7 +8,7 @@ use canvas_tree::grow;
 use std::alloc::{AllocError, Global};
 
 /// Adds a block to `out`: the head, a line feed, and the text of the document's tree at level 1. The
-/// tree is grown in an arena, which ends after it. Fails only where memory is refused, and then `out`
+/// tree is grown in an arena, which ends after it. Fails only if memory runs out, and then `out`
 /// is as it was.
 pub fn block(alloc: Global, head: &[u8], doc: &Doc, out: &mut Vec<u8>) -> Result<(), AllocError>
     ensures ok { OnOk result (IsBlock head.now doc.now out.old.items out.new.items) }

@@ -13,7 +13,7 @@ pub enum LineError {
     /// Nothing is spelled so.
     #[error("cannot read")]
     Unreadable,
-    /// Memory was refused.
+    /// Memory ran out.
     #[error("out of memory")]
     Memory,
 }

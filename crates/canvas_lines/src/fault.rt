@@ -14,7 +14,7 @@ use std::io::{self, Write};
 pub enum Fault {
     /// The first line that can't be read, counted from 1.
     BadLine(u64),
-    /// Memory was refused.
+    /// Memory ran out.
     Memory,
     /// A read or a write failed, or the input is too long.
     Stream,

@@ -20,7 +20,7 @@ pub fn split_line(rest: &[u8]) -> Option<(&[u8], &[u8])>
     Some((rest, &rest[rest.len()..]))
 }
 
-/// Whether a line is passed over: an empty one, or one that begins with `#`.
+/// Checks whether a line is passed over: an empty one, or one that begins with `#`.
 pub fn is_passed(line: &[u8]) -> bool
     ensures { result ≡ lines.is_passed line.now }
 {

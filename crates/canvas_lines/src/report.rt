@@ -8,7 +8,7 @@ use canvas_tree::grow;
 use std::alloc::{AllocError, Global};
 
 /// The text of a document at a version: `version V` and a line feed, and the text of the document's tree at level 0. The tree is grown
-/// in an arena, which ends with it. Fails only where memory is refused.
+/// in an arena, which ends with it. Errors: out of memory.
 pub fn report_text(alloc: Global, version: u64, doc: &Doc) -> Result<Vec<u8>, AllocError>
     ensures { IfOk result (λ text. IsReportText version doc.now text.items) }
 {

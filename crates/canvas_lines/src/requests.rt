@@ -63,7 +63,7 @@ pub struct Reading {
 }
 
 /// Reads an input: its requests, or those of the lines before the first that can't be read. Fails
-/// only where memory is refused.
+/// only if memory runs out.
 pub fn read_requests(alloc: Global, input: &[u8]) -> Result<Reading, AllocError>
     ensures whole { IfOk result (λ r. IfNone r.bad_line
         (InputSpells input.now (map seen r.requests.items))) }

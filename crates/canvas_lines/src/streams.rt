@@ -17,8 +17,8 @@ const MAX_READS: u32 = 1 << 31;
 const CHUNK: usize = 1 << 13;
 
 /// All bytes of the input. A read that was interrupted is tried again. The errors: `Stream`, where a
-/// read fails, and for an input of more than 2^30 bytes or 2^31 reads; `Memory`, where memory is
-/// refused.
+/// read fails, and for an input of more than 2^30 bytes or 2^31 reads; `Memory`, if memory runs
+/// out.
 pub fn read_input<R: Read>(alloc: Global, input: &mut R) -> Result<Vec<u8>, Fault>
     ensures size { IfOk result (λ text. vec_len text ≤ 2 ^ 30) }
     ensures bytes { IfOk result

@@ -13,7 +13,7 @@ pub enum Loss {
         /// What is wrong with them.
         fault: SumFault,
     },
-    /// Recovery passes over the segment for a checkpoint that was cut short, and it is none: it isn't a beginning of the checkpoint of what
+    /// Recovery passes over the segment for a checkpoint that was cut short, and it is none: it isn't a prefix of the checkpoint of what
     /// recovery finds below it.
     #[error("segment {segment} is no checkpoint that was cut short: at offset {offset} it differs")]
     NoCheckpoint {

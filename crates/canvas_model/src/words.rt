@@ -54,7 +54,7 @@ pub fn read_number(bytes: &[u8]) -> Option<u32>
     }
 }
 
-// Whether a zero stands before other digits.
+// Checks whether a zero stands before other digits.
 fn has_leading_zero(bytes: &[u8]) -> bool
     requires { 0 < length bytes.now }
     ensures { IsTrue result ↔ ((slice_index bytes.now 0 ≡ 48) × (1 < length bytes.now)) }

@@ -22,14 +22,14 @@ pub trait Answerer {
 
     /// The messages that answer a Join, an edit or an Ask, in order. The last is a Welcome, an Idle or a No, and no other.
     ///
-    /// Fails only where memory is refused.
+    /// Errors: out of memory.
     fn answer(&mut self, message: &Message) -> Result<Vec<Message>, AllocError>
         ensures gives { IfOk result (λ answer. gives self.old (seen_message message.now) (map seen_message answer.items) self.new) }
         ensures whole { IfOk result (λ answer. IsAnswer (map seen_message answer.items)) };
 
     /// The texts of such messages, in order. As a rule each is written anew; an answerer may have some ready that many are sent.
     ///
-    /// Fails only where memory is refused.
+    /// Errors: out of memory.
     fn texts(&mut self, alloc: Global, message: &Message) -> Result<Vec<Vec<u8>>, AllocError>
         ensures { IfOk result (λ ts. GivesTexts gives self.old (seen_message message.now) (map (λ t. t.items) ts.items) self.new) }
     {
@@ -44,7 +44,7 @@ pub trait Answerer {
 }
 
 /// The texts of what is answered to the bytes of a message: of what the answerer gives; or the reason of a No, NotRead where they are a
-/// text of no message that a client sends, and Memory where memory is refused meanwhile.
+/// text of no message that a client sends, and `Memory` if memory runs out meanwhile.
 pub fn answered<A: Answerer>(
     alloc: Global,
     answerer: &mut A,
@@ -63,7 +63,7 @@ pub fn answered<A: Answerer>(
     }
 }
 
-/// The text of each of these messages. Fails only where memory is refused.
+/// The text of each of these messages. Errors: out of memory.
 pub fn texts_of(alloc: Global, messages: &[Message]) -> Result<Vec<Vec<u8>>, AllocError>
     ensures { IfOk result (λ texts. AreTexts (map (λ text. text.items) texts.items) (map seen_message messages.now)) }
 {

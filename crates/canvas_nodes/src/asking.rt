@@ -9,7 +9,7 @@ use std::alloc::Global;
 
 /// The message that these bytes are a text of, where a client sends such messages: a Join, an edit or an Ask.
 ///
-/// Answers NotRead where they are a text of no such message, and Memory where memory was refused.
+/// Answers NotRead where they are a text of no such message, and Memory if memory runs out.
 pub fn asked(alloc: Global, bytes: &[u8]) -> Result<Message, NoReason>
     ensures ok { IfOk result (λ m. SpellsAsked bytes.now (seen_message m)) }
     ensures err { IfErr result (IsUnasked bytes.now) }
@@ -34,7 +34,7 @@ fn reason_of(error: WireError) -> NoReason
     }
 }
 
-// Whether a client sends such messages.
+// Checks whether a client sends such messages.
 fn is_asked(message: &Message) -> bool
     ensures { IsTrue result ↔ IsAsked (seen_message message.now) }
 {

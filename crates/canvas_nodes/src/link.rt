@@ -18,7 +18,7 @@ pub enum LinkError {
     /// What came isn't an answer.
     #[error("the answer can't be read")]
     NotRead,
-    /// Memory was refused.
+    /// Memory ran out.
     #[error("out of memory")]
     Memory,
 }
@@ -60,7 +60,7 @@ pub trait Link {
     /// Sends a message, and gives the messages of its answer, in order.
     ///
     /// Answers Ended where the connection has ended or failed, Refused where the answer ends with a No, NotRead where what came isn't
-    /// an answer, and Memory where memory was refused.
+    /// an answer, and Memory if memory runs out.
     fn round(&mut self, message: &Message) -> Result<Vec<Message>, LinkError>
         ensures gives { IfOk result (λ answer. gives self.old (seen_message message.now) (map seen_message answer.items) self.new) }
         ensures fails { IfErr result (λ e. fails self.old (seen_message message.now) e self.new) };

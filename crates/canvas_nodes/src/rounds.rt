@@ -11,7 +11,7 @@ use std::alloc::Global;
 
 /// Asks for an id, for a client that has none, and gives the client the answer.
 ///
-/// Answers NotRead where the answer gave no id, Memory where memory was refused, and otherwise what the link answered. The client
+/// Answers NotRead where the answer gave no id, Memory if memory runs out, and otherwise what the link answered. The client
 /// has then received the messages that came before.
 pub fn join<L: Link>(client: &mut Client, link: &mut L) -> Result<(), LinkError>
     requires { IsNone client.old.id }
@@ -30,7 +30,7 @@ pub fn join<L: Link>(client: &mut Client, link: &mut L) -> Result<(), LinkError>
 /// Sends all edits that wait, in their order, and then asks for what came after the client's version, until an answer has nothing that
 /// the client takes. The client receives each message of each answer.
 ///
-/// The first error ends it: Memory where memory was refused, and otherwise what the link answered. The client has then received the
+/// The first error ends it: Memory if memory runs out, and otherwise what the link answered. The client has then received the
 /// messages that came before. What was sent and not acknowledged waits still, so that the next call sends it again.
 pub fn exchange<L: Link>(alloc: Global, client: &mut Client, link: &mut L) -> Result<(), LinkError>
     requires { IsSome client.old.id }

@@ -33,7 +33,7 @@ impl Frames {
         }
     }
 
-    /// Whether the bytes so far are whole messages, as far as they are frames at all.
+    /// Checks whether the bytes so far are whole messages, as far as they are frames at all.
     pub(crate) fn are_whole(&self) -> bool
         ensures { IsTrue result ↔ AreWhole self.now }
     {

@@ -23,7 +23,7 @@ pub const MUCH: usize = 256 * 1024;
 /// Where a message, its answer or both had `MUCH` bytes, the next read between two messages fails once, with `WouldBlock`, and nothing is
 /// read: the stream has paused. It goes on where it is asked to.
 ///
-/// Whoever reads it reads on only where the bytes so far hold no frame that it hasn't taken. So at a pause all that was read is taken:
+/// Whoever reads it reads on only if the bytes so far hold no frame that it hasn't taken. So at a pause all that was read is taken:
 /// the bytes that it gave are whole messages then.
 #[derive(Drop)]
 pub struct Pausing<S> {
@@ -54,7 +54,7 @@ impl<S> Pausing<S> {
         }
     }
 
-    /// Whether it has paused. Then the bytes that it gave are whole messages, all of them.
+    /// Checks whether it has paused. Then the bytes that it gave are whole messages, all of them.
     pub fn has_paused(&self) -> bool
         ensures value { result ≡ self.now.has_paused }
         ensures messages { IsTrue result → (bytes : List ℕ) → Follows self.now.frames bytes → AreMessages bytes }
@@ -71,7 +71,7 @@ impl<S> Pausing<S> {
         self.passed = 0;
     }
 
-    // Whether it is time to pause. Notes where a message begins, and whether it has paused.
+    // Checks whether it is time to pause. Notes where a message begins, and whether it has paused.
     fn pauses(&mut self) -> bool
         ensures stream { self.new.stream ≡ self.old.stream }
         ensures frames { self.new.frames ≡ self.old.frames }

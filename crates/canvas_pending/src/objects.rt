@@ -18,7 +18,7 @@ pub fn count<A: Allocator>(objects: &Objects<A>, id: ObjId) -> u64
     objects.get(&id).copied().unwrap_or(0)
 }
 
-/// Counts the object once more, unless it is the root, which is never counted. Where memory is refused, nothing has changed.
+/// Counts the object once more, unless it is the root, which is never counted. If memory runs out, nothing has changed.
 pub fn raise<A: Allocator + Copy>(objects: &mut Objects<A>, id: ObjId) -> Result<(), AllocError>
     requires { HasNoZero (of_objects objects.old) }
     ensures ok { OnOk result (IsOneMore (is_it id) (of_objects objects.old) (of_objects objects.new)) }

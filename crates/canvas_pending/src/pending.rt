@@ -61,7 +61,7 @@ impl<A: Allocator> Pending<A> {
         self.changes.get(index)
     }
 
-    /// Whether an edit moves the object, which isn't the root; with `own`, whether one after the first does.
+    /// Checks whether an edit moves the object, which isn't the root; with `own`, whether one after the first does.
     pub fn some_moves(&self, own: bool, id: ObjId) -> bool
         ensures { result ≡ list_any (moves_it id) (staying own self.now) }
     {
@@ -69,7 +69,7 @@ impl<A: Allocator> Pending<A> {
         is_more(objects::count(&self.tallies.moves, id), first)
     }
 
-    /// Whether an edit deletes the object, which isn't the root; with `own`, whether one after the first does.
+    /// Checks whether an edit deletes the object, which isn't the root; with `own`, whether one after the first does.
     pub fn some_deletes(&self, own: bool, id: ObjId) -> bool
         ensures { result ≡ list_any (deletes_it id) (staying own self.now) }
     {
@@ -77,7 +77,7 @@ impl<A: Allocator> Pending<A> {
         is_more(objects::count(&self.tallies.deletes, id), first)
     }
 
-    /// Whether an edit sets or clears this property of the object; with `own`, whether one after the first does.
+    /// Checks whether an edit sets or clears this property of the object; with `own`, whether one after the first does.
     pub fn some_sets<B: Allocator>(&self, own: bool, id: ObjId, name: &Name<B>) -> bool
         ensures { result ≡ list_any (sets_it id name.now) (staying own self.now) }
     {
@@ -85,7 +85,7 @@ impl<A: Allocator> Pending<A> {
         is_more(props::count(&self.tallies.sets, id, name), first)
     }
 
-    // Whether the first edit moves the object, which isn't the root.
+    // Checks whether the first edit moves the object, which isn't the root.
     fn first_moves(&self, id: ObjId) -> bool
         ensures { result ≡ list_any (moves_it id) (take 1 self.now) }
     {
@@ -95,7 +95,7 @@ impl<A: Allocator> Pending<A> {
         }
     }
 
-    // Whether the first edit deletes the object, which isn't the root.
+    // Checks whether the first edit deletes the object, which isn't the root.
     fn first_deletes(&self, id: ObjId) -> bool
         ensures { result ≡ list_any (deletes_it id) (take 1 self.now) }
     {
@@ -105,7 +105,7 @@ impl<A: Allocator> Pending<A> {
         }
     }
 
-    // Whether the first edit sets or clears this property of the object.
+    // Checks whether the first edit sets or clears this property of the object.
     fn first_sets<B: Allocator>(&self, id: ObjId, name: &Name<B>) -> bool
         ensures { result ≡ list_any (sets_it id name.now) (take 1 self.now) }
     {
@@ -132,7 +132,7 @@ impl<A: Allocator + Copy> Pending<A> {
         *self.changes.allocator()
     }
 
-    /// Adds an edit at the end. Where memory is refused, nothing has changed.
+    /// Adds an edit at the end. If memory runs out, nothing has changed.
     pub fn push(&mut self, change: Change<A>) -> Result<(), AllocError>
         ensures ok { OnOk result (self.new ≡ self.old ++ change ∷ []) }
         ensures err { OnErr result (self.new ≡ self.old) }
@@ -172,7 +172,7 @@ impl<A: Allocator + Copy> Pending<A> {
     }
 }
 
-// Whether a field was counted, not counting the first edit where that writes it.
+// Checks whether a field was counted, not counting the first edit where that writes it.
 fn is_more(count: u64, first: bool) -> bool
     ensures { result ≡ cond first (nat_lt 1 count) (nat_lt 0 count) }
 {

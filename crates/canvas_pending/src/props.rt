@@ -51,7 +51,7 @@ pub fn count<A: Allocator, B: Allocator>(props: &Props<A>, id: ObjId, name: &Nam
     }
 }
 
-/// Counts the property once more. Where memory is refused, nothing has changed.
+/// Counts the property once more. If memory runs out, nothing has changed.
 pub fn raise<A: Allocator + Copy>(
     props: &mut Props<A>,
     id: ObjId,

@@ -30,7 +30,7 @@ pub fn new<A: Allocator + Copy>(alloc: A) -> Tallies<A>
     }
 }
 
-/// Counts one change more. Where memory is refused, nothing has changed.
+/// Counts one change more. If memory runs out, nothing has changed.
 pub fn raise<A: Allocator + Copy>(
     tallies: &mut Tallies<A>,
     change: &Change<A>,

@@ -5,7 +5,7 @@ ghost use Rattle.canvas_model.specs.View.{deletes_it, moves_it, sets_it};
 use canvas_doc::{Change, ChangeVariant, Name, ObjId};
 use std::alloc::Allocator;
 
-/// Whether the change moves the object, which isn't the root.
+/// Checks whether the change moves the object, which isn't the root.
 pub fn moves<A: Allocator>(change: &Change<A>, id: ObjId) -> bool
     ensures { result ≡ moves_it id change.now }
 {
@@ -15,7 +15,7 @@ pub fn moves<A: Allocator>(change: &Change<A>, id: ObjId) -> bool
     }
 }
 
-/// Whether the change deletes the object, which isn't the root.
+/// Checks whether the change deletes the object, which isn't the root.
 pub fn deletes<A: Allocator>(change: &Change<A>, id: ObjId) -> bool
     ensures { result ≡ deletes_it id change.now }
 {
@@ -25,7 +25,7 @@ pub fn deletes<A: Allocator>(change: &Change<A>, id: ObjId) -> bool
     }
 }
 
-/// Whether the change sets or clears this property of the object.
+/// Checks whether the change sets or clears this property of the object.
 pub fn sets<A: Allocator, B: Allocator>(change: &Change<A>, id: ObjId, name: &Name<B>) -> bool
     ensures { result ≡ sets_it id name.now change.now }
 {

@@ -67,7 +67,7 @@ pub enum Fault {
     },
     /// The lease of the document in the etcd has ended.
     LeaseEnded,
-    /// Memory was refused.
+    /// Memory ran out.
     Memory,
 }
 

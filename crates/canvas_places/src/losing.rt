@@ -10,7 +10,7 @@ use canvas_shelf::Shelf;
 use std::fs::{self, OpenOptions};
 use std::io::{self, ErrorKind, Write};
 
-/// Looks whether opening a folder would lose something. Where that is accepted, the segments are copied to its folder `lost` first; nothing
+/// Looks whether opening a folder would lose something. If that is accepted, the segments are copied to its folder `lost` first; nothing
 /// else is changed.
 ///
 /// The errors: `Lost`, where it isn't accepted; `NotKept`, where the copies can't be made, or stand there already; `NoFolder`, where the folder

@@ -27,7 +27,7 @@ impl Drop for FolderShelf {
 impl FolderShelf {
     /// The same shelf, put on the heap.
     ///
-    /// Fails where memory is refused.
+    /// Fails if memory runs out.
     pub fn new(alloc: Global, shelf: WatchedFolder) -> Result<Self, AllocError>
         ensures { IfOk result (λ s. ⟦<FolderShelf as Shelf>⟧.honest s ≡ false) }
     {
@@ -111,7 +111,7 @@ impl<R: Net<Stream = TcpStream> + AllocGlobal + Clone + Drop> Drop for DocumentS
 impl<R: Net<Stream = TcpStream> + AllocGlobal + Clone + Drop> DocumentShelf<R> {
     /// The same shelf, put on the heap.
     ///
-    /// Fails where memory is refused.
+    /// Fails if memory runs out.
     pub fn new(alloc: Global, shelf: WatchedDocument<R>) -> Result<Self, AllocError>
         ensures { IfOk result (λ s. ⟦<DocumentShelf<R> as Shelf>⟧.honest s ≡ false) }
     {

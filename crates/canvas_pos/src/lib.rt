@@ -94,13 +94,13 @@ impl<A: Allocator> Pos<A> {
     ///
     /// It accepts exactly the positions: 1 to 128 bytes from space to `~`, the last of which isn't
     /// a space. Of anything else it gives the first of `Empty`, `TooLong`, `BadByte` and
-    /// `TrailingZero` that holds. `Memory` comes only where the bytes are a position and memory was
+    /// `TrailingZero` that holds. `Memory` comes only if the bytes are a position and memory was
     /// refused.
     pub fn read(alloc: A, bytes: &[u8]) -> Result<Pos<A>, PosError>
         ensures ok { IfOk result (λ p. p ≡ bytes.now) }
         ensures position { IfOk result IsPosition }
 
-        // A position is refused for want of memory alone.
+        // A position fails only if memory runs out.
         ensures only_memory { IsPosition bytes.now → IfErr result (λ e. e ≡ PosError.Memory) }
         ensures fault { IfErr result (IsFault bytes.now) }
     {
@@ -142,7 +142,7 @@ impl<A: Allocator> Pos<A> {
         }
     }
 
-    /// The same position under another allocator. The error is that memory was refused.
+    /// The same position under another allocator. The error is that memory ran out.
     pub fn copy<B: Allocator>(&self, alloc: B) -> Result<Pos<B>, AllocError>
         ensures { IfOk result (λ p. p ≡ self.now) }
     {
@@ -150,7 +150,7 @@ impl<A: Allocator> Pos<A> {
         Ok(Pos { bytes })
     }
 
-    /// Whether two positions are the same, whichever allocators hold them. It takes no memory.
+    /// Checks whether two positions are the same, whichever allocators hold them. It takes no memory.
     pub fn same<B: Allocator>(&self, other: &Pos<B>) -> bool
         ensures { IsTrue result ↔ (self.now ≡ other.now) }
     {
@@ -264,7 +264,7 @@ pub fn digit_order()
 {}
 
 /// The laws of the middle between two ends: it is a position strictly between them, the only
-/// middle, and at most one byte longer than the longer end; and where there is none, no position is
+/// middle, and at most one byte longer than the longer end; and if there is none, no position is
 /// strictly between them. It does nothing when it runs: call it where a proof needs the laws.
 pub fn every_middle()
     ensures position { EachMiddleIsPosition }
@@ -280,7 +280,7 @@ pub fn every_middle()
 ///
 /// Of the fractions between the ends that have the fewest digits, it is half way between the least
 /// and the greatest, rounded down. So it is at most one byte longer than the longer end. It is
-/// `None` only where no position lies between the ends, since a position has at most 128 bytes.
+/// `None` only if no position lies between the ends, since a position has at most 128 bytes.
 ///
 /// The time is linear in the longer end. Memory is asked for once, for the answer, and not at all
 /// where that is `None`; the error is that it was refused.

@@ -20,7 +20,7 @@ const DIGITS: usize = 4;
 // How many such steps there are from 0 to 1.
 const STEPS: u64 = 81_450_625;
 
-/// The laws of the small steps: a step behind a position is the only one and lies behind it, and
+/// The laws of the small steps: a step behind a position is the only one and lies after it, and
 /// from a position on steps go on one after the other, with four bytes each, as long as the number
 /// of its first four digits leaves room; behind `O` that are 41 million. The same holds before a
 /// position. It does nothing when it runs: call it where a proof needs the laws.
@@ -41,7 +41,7 @@ pub fn every_step_beside()
 /// than `last`, or of as few more digits as such a fraction needs.
 ///
 /// Who puts one object behind the other takes this in place of the middle of `last` and the end: a
-/// parent takes 41 million so, and 896 by middles. It is `None` only where no position lies behind
+/// parent takes 41 million so, and 896 by middles. It is `None` only if no position lies behind
 /// `last`.
 ///
 /// The time is linear in `last`. Memory is asked for once, for the answer, and not at all where
@@ -72,7 +72,7 @@ pub fn step_after<A: Allocator, B: Allocator>(
 /// `first`, or of as few more digits as such a fraction needs.
 ///
 /// Who puts one object before the other takes this in place of the middle of the beginning and
-/// `first`. It is `None` only where no position lies before `first`.
+/// `first`. It is `None` only if no position lies before `first`.
 ///
 /// The time is linear in `first`. Memory is asked for once, for the answer, and not at all where
 /// that is `None`; the error is that it was refused.
@@ -135,7 +135,7 @@ fn short_position<A: Allocator>(alloc: A, steps: u64) -> Result<Pos<A>, AllocErr
 }
 
 // The gap of the step behind a position whose first four digits are the greatest, or `None` where
-// nothing of at most 128 digits lies behind it.
+// nothing of at most 128 digits lies after it.
 fn gap_after(last: &[u8]) -> Option<Gap>
     requires position { IsPosition last.now }
     requires narrow { IsNarrow (Some last.now) None 4 }

@@ -54,7 +54,7 @@ impl From<StoreError> for MoveFault {
 /// ever served again. The folder is checked first, as `check` of `canvas_care` does.
 ///
 /// The faults of the folder: `NoSegment`, `InUse`, `Damaged`, `Device`, `Memory`, and `Stream` where the output failed; of the document:
-/// `InUse`, `Taken`, `Device`, `TooLarge`, `Memory`. Where the etcd has failed, the document may be in both places, and its identity in one or
+/// `InUse`, `Taken`, `Device`, `TooLarge`, `Memory`. If the etcd has failed, the document may be in both places, and its identity in one or
 /// in none: then clients begin anew.
 pub fn move_in<R, D, W>(
     net: &R,
@@ -130,7 +130,7 @@ fn fault_of_in(fault: Fault) -> MoveFault {
 /// the segments stay in the etcd, where the document gets another identity if it is ever served again.
 ///
 /// The faults of the folder: `Taken`, where it holds a segment or an identity, `InUse`, `Device`, `TooLarge`, `Memory`, and `Stream` where the
-/// output failed; of the document: `NoSegment`, `InUse`, `Damaged`, `Device`, `Memory`. Where a fault came late, the document may be in both
+/// output failed; of the document: `NoSegment`, `InUse`, `Damaged`, `Device`, `Memory`. If a fault came late, the document may be in both
 /// places, and its identity in one or in none: then clients begin anew.
 pub fn move_out<R, D, W>(
     net: &R,

@@ -16,8 +16,8 @@ pub(crate) type Remote<R> = EtcdShelf<EtcdStore<R>>;
 // After how many seconds the lease of a command ends, which nobody keeps alive: it has to be done by then.
 const COMMAND_LEASE_SECONDS: u64 = 600;
 
-// The store of a document, with a lease of so many seconds once it takes the document over. Nothing is asked yet. `Memory` where memory is
-// refused.
+// The store of a document, with a lease of so many seconds once it takes the document over. Nothing is asked yet. `Memory` if memory runs
+// out.
 fn store_of<R: Net<Stream = TcpStream> + AllocGlobal + Clone + Drop>(
     net: &R,
     address: &Address,

@@ -23,7 +23,7 @@ pub struct Told<N: RoomName> {
     pub learns: Front<N>,
 }
 
-/// Whether an answer says that the server's rule refuses the request, or that its entry is too large.
+/// Checks whether an answer says that the server's rule refuses the request, or that its entry is too large.
 pub fn is_refusal<N: RoomName>(answer: &Result<Receipt<N>, SubmitError>) -> bool
     ensures { result ≡ seats.is_refusal answer.now }
 {
@@ -33,7 +33,7 @@ pub fn is_refusal<N: RoomName>(answer: &Result<Receipt<N>, SubmitError>) -> bool
     )
 }
 
-// Whether an error says that what keeps the entries has failed.
+// Checks whether an error says that what keeps the entries has failed.
 fn is_failure(error: SubmitError) -> bool
     ensures { result ≡ seats.is_failure error }
 {
@@ -74,7 +74,7 @@ pub fn learned<N: RoomName>(
     }
 }
 
-// What is told where memory was refused: nothing is learned.
+// What is told if memory runs out: nothing is learned.
 fn unjudged<N: RoomName>(error: SubmitError, seen: &Front<N>) -> Told<N>
     requires { is_memory error ≡ true }
     ensures { (q : Asked) → IsAnswerTo N.opening seen.now q result.answer result.learns }
@@ -85,7 +85,7 @@ fn unjudged<N: RoomName>(error: SubmitError, seen: &Front<N>) -> Told<N>
     }
 }
 
-// What a seat is to learn that has seen this, where a beginning of the history tells of a failure: that beginning, if it is longer.
+// What a seat is to learn that has seen this, where a prefix of the history tells of a failure: that beginning, if it is longer.
 fn learned_of<N: RoomName>(seen: &Front<N>, told: Front<N>) -> Front<N>
     requires told { TellsFailure told }
     requires legal { IsLegal N.opening told }

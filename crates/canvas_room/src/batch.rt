@@ -13,7 +13,7 @@ use canvas_server::Request;
 use std::alloc::{AllocError, Global};
 use std::sync::Wait;
 
-/// A room has at most so many seats.
+/// A room has at most the given number seats.
 pub const MOST_SEATS: usize = 64;
 
 /// The seat of a request, and what it has seen.
@@ -30,7 +30,7 @@ pub struct Batch<N: RoomName> {
     senders: Vec<Sender<N>>,
 }
 
-// Takes the tickets that wait, except those of seats that have seen more than this. Fails only where memory is refused, and then takes none.
+// Takes the tickets that wait, except those of seats that have seen more than this. Fails only if memory runs out, and then takes none.
 fn gather<N: RoomName, W: Wait>(
     alloc: Global,
     rt: &W,
@@ -112,7 +112,7 @@ fn leave_each<N: RoomName, W: Wait>(
     }
 }
 
-// Takes the tickets that wait, where one of another seat is among them. None too where memory is refused.
+// Takes the tickets that wait, where one of another seat is among them. None too if memory runs out.
 fn waiting<N: RoomName, W: Wait>(
     alloc: Global,
     rt: &W,
@@ -130,7 +130,7 @@ fn waiting<N: RoomName, W: Wait>(
 }
 
 /// Where requests of other seats than this one wait, has all that wait committed as one batch, and leaves the answers in their slots.
-/// A request is left unanswered, and isn't kept, where memory was refused for the batch, or where it was refused and not all that is due
+/// A request is left unanswered, and isn't kept, if memory runs out for the batch, or if it was refused and not all that is due
 /// is published. Fails where the batch as a whole was refused, and then nothing of it is due.
 #[tactic(auto, using(crate::proofs::Saying::answers_said, crate::proofs::Saying::batch_unanswered))]
 pub fn commit<K: Keeper, N: RoomName, R: Wait + Drop, W: Wait>(

@@ -8,10 +8,10 @@ pub enum RoomError {
     /// A room has 1 to 64 seats.
     #[error("a room has 1 to 64 seats")]
     SeatCount = 1,
-    /// No reader is left for a seat. It can't be told from want of memory, which is answered instead.
+    /// No reader is left for a seat. It can't be told from out of memory, so that is returned instead.
     #[error("no reader for a seat")]
     NoPlace = 2,
-    /// Memory was refused.
+    /// Memory ran out.
     #[error("out of memory")]
     Memory = 3,
 }

@@ -1,4 +1,4 @@
-// The mailbox of a room, where seats leave their requests for the one that leads.
+// A room's mailbox: seats queue their requests here for the seat that leads.
 ghost use Rattle.std.specs.Prelude.{◌≡◌, IfOk, IfSome, IsTrue};
 ghost use mathlib.Core.List.{IsPrefix};
 ghost use Rattle.canvas_server.specs.Asked.{seen_request};
@@ -14,16 +14,16 @@ use std::mem::replace;
 use std::sync::atomic::{AtomicBool, Ordering};
 use std::sync::{Condvar, Mutex, Wait};
 
-/// A request, with what its seat has seen.
+/// A queued request, and what its seat had seen.
 #[derive(Drop)]
 pub struct Ticket<N: RoomName> {
     /// The request.
     pub request: Request,
-    /// What its seat has seen.
+    /// The history that its seat had seen.
     pub seen: Front<N>,
 }
 
-/// What was told of a request, beside it. Contracts see it as what the seat had seen.
+/// The answer to a queued request, together with the request. Contracts see it as the history that the seat had seen.
 pub struct Reply<N: RoomName> {
     ticket: Ticket<N>,
     told: Told<N>,
@@ -52,22 +52,21 @@ impl<N: RoomName> Model for Reply<N> {
     ghost invariant = { λ r. IsAnswerTo N.opening r.ticket.seen (seen_request r.ticket.request) r.told.answer r.told.learns };
 }
 
-/// What is in a slot of the mailbox.
+/// The content of a mailbox slot.
 #[derive(Drop)]
 pub enum Content<N: RoomName> {
     /// Nothing.
     Empty,
-    /// A request that waits.
+    /// A request that no leader has taken yet.
     Waiting(Ticket<N>),
-    /// A request that comes alone: it was left in no batch, or was left out of the answers to one.
+    /// A request that its seat must submit itself: no batch included it, or its batch has no answer for it.
     Alone,
-    /// A request that was answered.
+    /// The answer to the request.
     Answered(Reply<N>),
 }
 
 impl<N: RoomName> Content<N> {
-    // Takes the ticket that waits, unless its seat has seen more than this. Until its answer is put there, the request is one that comes
-    // alone.
+    // Takes the queued ticket, unless its seat has seen more than `shown`. Leaves `Alone` in the slot until an answer is put there.
     fn take_ticket(&mut self, shown: &Front<N>) -> Option<Ticket<N>>
         ensures { IfSome result (λ ticket. IsPrefix ticket.seen shown.now) }
     {
@@ -95,8 +94,8 @@ impl<N: RoomName> Content<N> {
     }
 }
 
-/// A seat's slot in the mailbox of its room: what is in it, and the call that the seat waits for. Each has a lock of its own, so that a seat
-/// waits for none but the one that leads.
+/// A seat's slot: its content, and the condition variable on which the seat waits. Each slot has its own lock, so a seat waits only for
+/// the leader.
 pub struct Slot<N: RoomName> {
     content: Mutex<Content<N>>,
     call: Condvar,
@@ -111,7 +110,7 @@ impl<N: RoomName> Drop for Slot<N> {
     }
 }
 
-/// A slot for each seat of a room; whether a seat leads: it is to have what waits committed; and whether one is about a checkpoint.
+/// One slot per seat; whether a seat leads, that is, commits what is queued; and whether a seat is making a checkpoint.
 pub struct Mailbox<N: RoomName> {
     slots: Vec<Slot<N>>,
     is_led: AtomicBool,
@@ -128,13 +127,13 @@ impl<N: RoomName> Drop for Mailbox<N> {
     }
 }
 
-// Whom a seat that leads no more calls: one whose request waits, and each whose request was answered, or comes alone.
+// The seats to wake when the leader steps down: one with a queued request, and all with an answer or with `Alone`.
 struct Calls {
     next: Option<usize>,
     done: [bool; MOST_SEATS],
 }
 
-// A request once more. Fails only where memory is refused.
+// Copies a request. Errors: out of memory.
 fn copy(alloc: Global, request: &Request) -> Result<Request, AllocError>
     ensures { IfOk result (λ copy. seen_request copy ≡ seen_request request.now) }
 {
@@ -152,7 +151,7 @@ fn copy(alloc: Global, request: &Request) -> Result<Request, AllocError>
     }
 }
 
-// Whether two requests are the same.
+// Checks whether two requests are equal.
 fn same(request: &Request, other: &Request) -> bool
     ensures { IsTrue result → seen_request request.now ≡ seen_request other.now }
 {
@@ -175,7 +174,7 @@ fn same(request: &Request, other: &Request) -> bool
 }
 
 impl<N: RoomName> Ticket<N> {
-    /// A copy of a request, with what its seat has seen. Fails only where memory is refused.
+    /// Copies a request, with what its seat has seen. Errors: out of memory.
     pub fn new(alloc: Global, request: &Request, seen: &Front<N>) -> Result<Ticket<N>, AllocError>
         ensures { IfOk result (λ ticket. (seen_request ticket.request ≡ seen_request request.now) × (ticket.seen ≡ seen.now)) }
     {
@@ -188,7 +187,7 @@ impl<N: RoomName> Ticket<N> {
 }
 
 impl<N: RoomName> Reply<N> {
-    /// What was told of the request of a ticket.
+    /// Pairs a ticket with its answer.
     pub fn new(ticket: Ticket<N>, told: Told<N>) -> Reply<N>
         requires { IsAnswerTo N.opening ticket.seen (seen_request ticket.request) told.answer told.learns }
         ensures { result ≡ ticket.seen }
@@ -196,7 +195,7 @@ impl<N: RoomName> Reply<N> {
         Reply { ticket, told }
     }
 
-    /// What was told, if it was told of this request, to a seat that had seen just this.
+    /// Returns the answer if it belongs to this request and to a seat that had seen exactly `seen`.
     #[tactic(auto, using(crate::proofs::Saying::answer_as))]
     pub fn told_of(self, request: &Request, seen: &Front<N>) -> Option<Told<N>>
         ensures { IfSome result (λ told. IsAnswerTo N.opening seen.now (seen_request request.now) told.answer told.learns) }
@@ -210,7 +209,7 @@ impl<N: RoomName> Reply<N> {
 }
 
 impl<N: RoomName> Mailbox<N> {
-    /// A mailbox of so many slots, all empty, that nobody leads. Fails only where memory is refused.
+    /// Creates a mailbox with `seats` empty slots and no leader. Errors: out of memory.
     pub fn new(alloc: Global, seats: usize) -> Result<Mailbox<N>, AllocError> {
         let mut slots = Vec::with_capacity(alloc, seats)?;
         for _ in 0..seats {
@@ -226,14 +225,14 @@ impl<N: RoomName> Mailbox<N> {
         })
     }
 
-    /// Puts this into the slot of a seat, in place of what is there.
+    /// Replaces the content of a seat's slot.
     pub fn put<W: Wait>(&self, rt: &W, seat: usize, content: Content<N>) {
         if let Some(slot) = self.slots.get(seat) {
             *slot.content.lock(rt) = content;
         }
     }
 
-    /// Takes what is in the slot of a seat, and leaves it empty.
+    /// Takes the content of a seat's slot, and leaves the slot empty.
     pub fn take<W: Wait>(&self, rt: &W, seat: usize) -> Content<N> {
         match self.slots.get(seat) {
             Some(slot) => replace(&mut *slot.content.lock(rt), Content::Empty),
@@ -241,15 +240,14 @@ impl<N: RoomName> Mailbox<N> {
         }
     }
 
-    /// Takes the ticket that waits in the slot of a seat, unless that has seen more than this. Until its answer is put there, the
-    /// request is one that comes alone.
+    /// Takes the ticket queued in a seat's slot, unless the seat has seen more than `shown`. Leaves `Alone` there until an answer is put.
     pub fn take_ticket<W: Wait>(&self, rt: &W, seat: usize, shown: &Front<N>) -> Option<Ticket<N>>
         ensures { IfSome result (λ ticket. IsPrefix ticket.seen shown.now) }
     {
         self.slots.get(seat)?.content.lock(rt).take_ticket(shown)
     }
 
-    // Waits so long as another seat leads and the slot of this one has no reply. Takes the reply, if there is one.
+    // Blocks while another seat leads and this slot has no reply. Takes the reply, if there is one.
     fn wait<W: Wait>(&self, rt: &W, seat: usize) -> Option<Reply<N>> {
         let Slot { content, call } = self.slots.get(seat)?;
         let content = content.lock(rt);
@@ -257,18 +255,17 @@ impl<N: RoomName> Mailbox<N> {
         content.take_reply()
     }
 
-    // Whether the seat with this in its slot is to go on waiting: another leads, and there is no reply.
+    // Checks whether a seat with this content must keep waiting: another seat leads, and there is no reply.
     fn is_pending(&self, content: &Content<N>) -> bool {
         self.is_led.load(Ordering::SeqCst) && !matches!(content, Content::Answered(_))
     }
 
-    /// Says that a seat leads from now on. False where one did already.
+    /// Marks that a seat leads. Returns false if one already did.
     pub fn lead(&self) -> bool {
         !self.is_led.swap(true, Ordering::SeqCst)
     }
 
-    /// Waits so long as another seat leads and the slot of this one has no reply. Takes the reply, if there is one; else this seat leads
-    /// from now on.
+    /// Blocks while another seat leads and this slot has no reply. Returns the reply, or `None` if this seat leads from now on.
     pub fn follow<W: Wait>(&self, rt: &W, seat: usize) -> Option<Reply<N>> {
         for _turn in rt.forever() {
             if let Some(reply) = self.wait(rt, seat) {
@@ -281,7 +278,7 @@ impl<N: RoomName> Mailbox<N> {
         unreachable!()
     }
 
-    /// Whether a ticket waits in the slot of another seat.
+    /// Checks whether another seat has a queued ticket.
     pub fn has_others<W: Wait>(&self, rt: &W, seat: usize) -> bool {
         for (other, slot) in self.slots.iter().enumerate() {
             if other != seat && matches!(*slot.content.lock(rt), Content::Waiting(_)) {
@@ -291,7 +288,7 @@ impl<N: RoomName> Mailbox<N> {
         false
     }
 
-    // Whom a seat that leads no more calls.
+    // Collects the seats to wake when the leader steps down.
     fn calls<W: Wait>(&self, rt: &W) -> Calls {
         let mut next = None;
         let mut done = [false; MOST_SEATS];
@@ -305,18 +302,17 @@ impl<N: RoomName> Mailbox<N> {
         Calls { next, done }
     }
 
-    /// Says that a seat is about a checkpoint from now on. False where one was already.
+    /// Marks that a seat is making a checkpoint. Returns false if one already was.
     pub fn begin_tidying(&self) -> bool {
         !self.is_tidied.swap(true, Ordering::SeqCst)
     }
 
-    /// Says that no seat is about a checkpoint.
+    /// Marks that no seat is making a checkpoint.
     pub fn end_tidying(&self) {
         self.is_tidied.store(false, Ordering::SeqCst);
     }
 
-    /// Says that no seat leads. Calls first one whose request waits, so that it leads, and then those whose request was answered, or
-    /// comes alone.
+    /// Marks that no seat leads. Wakes first one seat with a queued request, to lead next, and then all with an answer or with `Alone`.
     pub fn step_down<W: Wait>(&self, rt: &W) {
         self.is_led.store(false, Ordering::SeqCst);
         let Calls { next, done } = self.calls(rt);

@@ -103,7 +103,7 @@ pub fn blank_room<K: Keeper>(
 type Opened<K, N, R> = (Room<K, N, R>, Vec<Seat<N, Lock<K, N, R>>>);
 
 impl<K: Keeper + Drop> BlankRoom<K> {
-    /// The room under a name, with its seats, which have seen nothing. Memory where memory is refused.
+    /// The room under a name, with its seats, which have seen nothing. `Memory` if memory runs out.
     pub fn open<N: RoomName, R: Wait + Drop>(self, rt: R) -> Result<Opened<K, N, R>, RoomError>
         requires book { self.book ≡ N.book }
         requires opening { self.opening ≡ N.opening }

@@ -41,7 +41,7 @@ impl<N: RoomName> SeatSlot<N> {
         }
     }
 
-    /// Leaves a copy of a request in the slot, with what the seat has seen; where memory is refused for that, the request comes alone.
+    /// Leaves a copy of a request in the slot, with what the seat has seen; if memory runs out for that, the request comes alone.
     /// It may wait for the slot's lock.
     pub fn post<W: Wait>(&self, rt: &W, request: &Request, seen: &Front<N>) {
         let content = match Ticket::new(self.alloc, request, seen) {

@@ -196,7 +196,7 @@ fn in_memory(rt: HostRuntime) -> Result<(), Fail> {
 // Where this test keeps its room.
 const FOLDER: &str = "out/room-of-two";
 
-// Whether a room of two over a new journal on this shelf shows one what the other does.
+// Checks whether a room of two over a new journal on this shelf shows one what the other does.
 fn tells_on<S: Shelf + Drop, W: Wait + Copy + Drop>(
     rt: W,
     alloc: Global,

@@ -27,7 +27,7 @@ pub enum Ask {
 /// What is asked in turn, each of the seat of that place.
 pub type Asks = &'static [(usize, Ask)];
 
-// Whether a seat answers so.
+// Checks whether a seat answers so.
 fn is_answered<K: Keeper + Drop, N: RoomName, Q: Wait + Drop, W: Wait>(
     rt: &W,
     alloc: Global,
@@ -43,7 +43,7 @@ fn is_answered<K: Keeper + Drop, N: RoomName, Q: Wait + Drop, W: Wait>(
     })
 }
 
-/// Whether the seats of a room answer so.
+/// Checks whether the seats of a room answer so.
 pub fn are_answered<K: Keeper + Drop, N: RoomName, Q: Wait + Drop, W: Wait>(
     rt: &W,
     alloc: Global,

@@ -18,7 +18,7 @@ pub struct Batch {
     pub left: Option<(Calls, u64)>,
 }
 
-// Whether these requests are answered so in one batch.
+// Checks whether these requests are answered so in one batch.
 fn are_answered<N: RoomName, W: Wait>(
     rt: &W,
     desk: &mut MemDesk<'_, N, W>,
@@ -35,7 +35,7 @@ fn are_answered<N: RoomName, W: Wait>(
     }
 }
 
-// Whether a batch is answered so, and leaves what it has to.
+// Checks whether a batch is answered so, and leaves what it has to.
 fn is_answered<N: RoomName, W: Wait>(
     rt: &W,
     alloc: Global,
@@ -52,7 +52,7 @@ fn is_answered<N: RoomName, W: Wait>(
     Ok(is_right && is_left)
 }
 
-/// Whether batches in turn are answered so, once client 1 has joined.
+/// Checks whether batches in turn are answered so, once client 1 has joined.
 pub fn all_answered<N: RoomName, W: Wait>(
     rt: &W,
     alloc: Global,

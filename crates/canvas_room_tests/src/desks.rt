@@ -87,7 +87,7 @@ fn answers_under<N: RoomName, W: Wait>(
     is_answered(rt, alloc, &mut shared.lock(rt), asked)
 }
 
-/// Whether a new desk, of whose shelf that call fails, if one is to fail, answers as it has to.
+/// Checks whether a new desk, of whose shelf that call fails, if one is to fail, answers as it has to.
 pub fn answers<W: Wait>(
     rt: &W,
     alloc: Global,
@@ -118,7 +118,7 @@ pub fn pages(alloc: Global, client: u32, numbers: &[u64]) -> Result<Vec<Request>
     Ok(requests)
 }
 
-/// Whether these are the answers: receipts of these versions, and these refusals.
+/// Checks whether these are the answers: receipts of these versions, and these refusals.
 pub fn are_told<N: RoomName>(
     answers: &[Result<Receipt<N>, SubmitError>],
     wanted: &[Result<u64, SubmitError>],

@@ -4,7 +4,7 @@ use canvas_shelf::{Call, MemShelf};
 
 /// A keeper that tells what calls were made of its shelf. What asks it is generic in it, since the type of a room over a journal is large.
 pub trait Recorded {
-    /// Whether a checkpoint was written: the shelf was asked to make segment 2.
+    /// Checks whether a checkpoint was written: the shelf was asked to make segment 2.
     fn has_made_second(&self) -> bool;
 
     /// How often the shelf was synced.

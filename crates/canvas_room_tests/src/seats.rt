@@ -37,7 +37,7 @@ pub fn join_by<K: Keeper + Drop, N: RoomName, Q: Wait + Drop, W: Wait>(
     Ok(id_in(receipt.entry()))
 }
 
-/// Whether a seat refuses a client's edit of that number so, or takes it where it is to.
+/// Checks whether a seat refuses a client's edit of that number so, or takes it where it is to.
 pub fn refuses<K: Keeper + Drop, N: RoomName, Q: Wait + Drop, W: Wait>(
     rt: &W,
     alloc: Global,
@@ -50,7 +50,7 @@ pub fn refuses<K: Keeper + Drop, N: RoomName, Q: Wait + Drop, W: Wait>(
     Ok(seat.submit(rt, &request).err() == wanted)
 }
 
-// Whether entries are these: author and number of each.
+// Checks whether entries are these: author and number of each.
 fn are_these(entries: &[Entry], wanted: &[(u32, u64)]) -> bool {
     entries
         .iter()
@@ -58,8 +58,8 @@ fn are_these(entries: &[Entry], wanted: &[(u32, u64)]) -> bool {
         .eq(wanted.iter().copied())
 }
 
-/// Whether the entries that a seat reads after a version are these: author and number of each. None where it is to read none there, since
-/// a checkpoint passed them.
+/// Checks whether the entries that a seat reads after a version are these: author and number of each. None where it is to read none there,
+/// since a checkpoint passed them.
 pub fn reads<N: RoomName, D: Drop>(
     alloc: Global,
     seat: &mut Seat<N, D>,
@@ -108,7 +108,7 @@ fn join_and_learn<K: Keeper + Drop, N: RoomName, Q: Wait + Drop, W: Wait>(
     })
 }
 
-// Whether a seat that has learned of a Join reads its entry.
+// Checks whether a seat that has learned of a Join reads its entry.
 fn reads_entry<N: RoomName, D: Drop>(alloc: Global, seat: &mut Seat<N, D>, joined: Joined) -> bool {
     match seat.tail(alloc, joined.before, 1) {
         Ok(Some(entries)) => entries.first().and_then(id_in) == Some(joined.id),
@@ -116,7 +116,7 @@ fn reads_entry<N: RoomName, D: Drop>(alloc: Global, seat: &mut Seat<N, D>, joine
     }
 }
 
-// Whether a seat that has learned of a Join gives the client a copy of the document that has seen it.
+// Checks whether a seat that has learned of a Join gives the client a copy of the document that has seen it.
 fn copies<N: RoomName, D: Drop>(alloc: Global, seat: &mut Seat<N, D>, joined: Joined) -> bool {
     match copied(alloc, seat, joined.id) {
         Some(version) => version >= joined.version,
@@ -124,7 +124,7 @@ fn copies<N: RoomName, D: Drop>(alloc: Global, seat: &mut Seat<N, D>, joined: Jo
     }
 }
 
-// Whether a seat that has learned of a Join reads it in each way.
+// Checks whether a seat that has learned of a Join reads it in each way.
 fn reads_own<N: RoomName, D: Drop>(alloc: Global, seat: &mut Seat<N, D>, joined: Joined) -> bool {
     reads_entry(alloc, seat, joined)
         && copies(alloc, seat, joined)

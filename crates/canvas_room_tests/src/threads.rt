@@ -70,7 +70,7 @@ fn await_lock(flags: &Flags) {
     }
 }
 
-// Whether so many seats come within a million turns that yield.
+// Checks whether so many seats come within a million turns that yield.
 fn have_come(flags: &Flags, seats: usize) -> bool {
     for _ in 0..MOST_TURNS {
         if flags.come.load(Ordering::SeqCst) == seats {
@@ -129,7 +129,7 @@ impl<K: Keeper + Drop, N: RoomName, Q: Wait + Drop> Site for Seat<N, Lock<K, N, 
     }
 }
 
-// Whether these are as many ids as there are, from 1 on, each once.
+// Checks whether these are as many ids as there are, from 1 on, each once.
 fn are_first(ids: &[Option<u32>]) -> bool {
     for (id, _) in (1u32..).zip(ids) {
         if !ids.contains(&Some(id)) {
@@ -167,7 +167,7 @@ fn all_do_beside<S: Site + Drop + Send, B, H: FnOnce() -> B, R: Threads + Wait +
     join(rt, move || all_do(rt, alloc, seats, deed, flags), here)
 }
 
-// Whether these seats meet so and tell the first ids, and the version at which the lock was held.
+// Checks whether these seats meet so and tell the first ids, and the version at which the lock was held.
 fn meet<
     K: Keeper + Drop + Send,
     N: RoomName + Send + Sync,
@@ -198,7 +198,7 @@ fn meet<
     )
 }
 
-// Whether a meeting may begin: where seats are to read, the first of them joins.
+// Checks whether a meeting may begin: where seats are to read, the first of them joins.
 fn begins<K: Keeper + Drop, N: RoomName, Q: Wait + Drop, W: Wait>(
     rt: &W,
     seats: &mut [SeatOf<K, N, Q>],

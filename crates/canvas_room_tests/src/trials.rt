@@ -19,7 +19,7 @@ pub enum Asked {
     Crash(u64, u64),
 }
 
-/// Whether a desk with no entry answers so.
+/// Checks whether a desk with no entry answers so.
 pub fn is_answered<N: RoomName, W: Wait>(
     rt: &W,
     alloc: Global,
@@ -32,7 +32,7 @@ pub fn is_answered<N: RoomName, W: Wait>(
     }
 }
 
-// A batch of edits in order, and two behind them that aren't: one commit.
+// A batch of edits in order, and two after them that aren't: one commit.
 const ONE_COMMIT: Batch = Batch {
     client: 1,
     numbers: &[1, 2, 2, 4],

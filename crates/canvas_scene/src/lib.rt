@@ -34,7 +34,7 @@ use report::write_report;
 /// PARENT POS`, `C set ID NAME VALUE`, `C clear ID NAME`, `C move ID PARENT POS`, `C delete ID`.
 ///
 /// The errors: `BadLine`, where a line can't be read, and then the answers to the lines before it
-/// were added to `out`; `Memory`, only where memory is refused, and then `out` is as it was.
+/// were added to `out`; `Memory`, only if memory runs out, and then `out` is as it was.
 pub fn log_run(alloc: Global, input: &[u8], out: &mut Vec<u8>) -> Result<Server, ScriptError>
     ensures log { IfOk result (λ run. IsLogOf input.now run.kept) }
     ensures fold { IfOk result (λ run. IsFold run.kept run.state) }
@@ -60,7 +60,7 @@ pub fn log_run(alloc: Global, input: &[u8], out: &mut Vec<u8>) -> Result<Server,
 }
 
 /// Reads a scene, plays it, and writes its answers and report. What it answers is the program's
-/// status: 0; 2 where a line can't be read, which is told on `faults`; 3 where memory is refused; 4
+/// status: 0; 2 where a line can't be read, which is told on `faults`; 3 if memory runs out; 4
 /// where a read or write failed, or the input has more than 2^30 bytes or takes more than 2^31
 /// reads.
 pub fn run<R: Read, W: Write, F: Write>(
@@ -97,7 +97,7 @@ pub fn end<F: Write>(fault: &Fault, faults: &mut F) -> u8
     }
 }
 
-// Reads, plays and writes. Where a line can't be read, the answers to those before it are written.
+// Reads, plays and writes. If a line can't be read, the answers to those before it are written.
 fn play_input<R: Read, W: Write>(alloc: Global, input: &mut R, output: &mut W) -> Result<(), Fault>
     ensures played { OnOk result (IsPlayed
         (R.remaining input.old) (R.remaining input.new)

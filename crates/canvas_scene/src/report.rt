@@ -7,7 +7,7 @@ use canvas_doc::{Doc, ObjId, Object};
 use canvas_tree::write_props;
 use std::alloc::{AllocError, Global};
 
-/// Writes the version, and then the objects. Fails only where memory is refused, and then `out` may
+/// Writes the version, and then the objects. Fails only if memory runs out, and then `out` may
 /// have grown.
 pub(crate) fn write_report(
     alloc: Global,

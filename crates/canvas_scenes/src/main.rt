@@ -1,7 +1,7 @@
 //! Whole inputs of `scene`, each with all that is written for it.
 //!
 //! A question is an input. A line of it such as `5 to 7: take *` stands for `take 5`, `take 6` and `take 7`. Since the last line of
-//! an input may lack its line feed, each is played without it, too, and where that makes a difference, it is told.
+//! an input may lack its line feed, each is played without it, too, and if that makes a difference, it is told.
 #![tactic(auto)]
 
 mod inputs;
@@ -16,7 +16,7 @@ use std::io;
 #[derive(Drop)]
 struct Scenes;
 
-// What is written for an input, and where the status isn't 0, the status and what is told.
+// What is written for an input, and if the status isn't 0, the status and what is told.
 fn played(alloc: Global, input: &[u8]) -> Result<Vec<u8>, AllocError> {
     let mut input = input;
     let mut output = Vec::new(alloc);

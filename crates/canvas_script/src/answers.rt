@@ -10,7 +10,7 @@ use canvas_world::Answer;
 use std::alloc::{AllocError, Global};
 
 /// The line that an event's answer is printed as, its line feed at the end; nothing for a new node.
-/// Fails only where memory is refused.
+/// Errors: out of memory.
 pub fn answer_line(alloc: Global, answer: &Answer) -> Result<String, AllocError>
     ensures { IfOk result (λ line. string_bytes line ≡ answer_line (seen_answer answer.now)) }
 {

@@ -51,7 +51,7 @@ impl Names {
         self.names.len() as u64
     }
 
-    /// Whether no name was used.
+    /// Checks whether no name was used.
     pub fn is_empty(&self) -> bool
         ensures { IsTrue result ↔ (length self.now ≡ 0) }
     {
@@ -69,7 +69,7 @@ impl Names {
         Some(name.as_slice())
     }
 
-    /// Whether the name was used.
+    /// Checks whether the name was used.
     pub fn contains(&self, name: &[u8]) -> bool
         ensures { result ≡ is_used self.now name.now }
     {
@@ -77,7 +77,7 @@ impl Names {
     }
 
     /// The name's rank, from 1, among the names in the order of their first uses. At its first use
-    /// the name is added. Fails only where memory is refused, and then nothing has changed.
+    /// the name is added. Fails only if memory runs out, and then nothing has changed.
     pub fn number(&mut self, name: &[u8]) -> Result<u64, AllocError>
         requires { IsNodeName name.now }
         ensures number { IfOk result (IsNumber self.new name.now) }
@@ -94,7 +94,7 @@ impl Names {
     }
 }
 
-/// Whether it is a node's name: 1 to 16 of `a` to `z` and `0` to `9`, but not `server`.
+/// Checks whether it is a node's name: 1 to 16 of `a` to `z` and `0` to `9`, but not `server`.
 pub fn is_node_name(word: &[u8]) -> bool
     ensures { IsTrue result ↔ IsNodeName word.now }
 {
@@ -104,14 +104,14 @@ pub fn is_node_name(word: &[u8]) -> bool
     are_node_bytes(word) && word != b"server".as_slice()
 }
 
-// Whether a node's name may have the byte.
+// Checks whether a node's name may have the byte.
 fn is_node_byte(byte: u8) -> bool
     ensures { result ≡ is_node_byte byte }
 {
     byte.is_ascii_lowercase() || byte.is_ascii_digit()
 }
 
-// Whether a node's name may have each of the bytes.
+// Checks whether a node's name may have each of the bytes.
 fn are_node_bytes(bytes: &[u8]) -> bool
     ensures { result ≡ list_all is_node_byte bytes.now }
 {

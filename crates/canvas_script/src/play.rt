@@ -10,8 +10,8 @@ use crate::{Item, Names};
 use canvas_world::{Event, EventVariant, World};
 use std::alloc::{AllocError, Global};
 
-/// Plays the items in order in the empty world, and adds to `out` what they print. Fails only where
-/// memory is refused, and then `out` may have grown.
+/// Plays the items in order in the empty world, and adds to `out` what they print. Fails only if
+/// memory runs out, and then `out` may have grown.
 pub fn play_items(
     alloc: Global,
     names: &Names,

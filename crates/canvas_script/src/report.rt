@@ -9,8 +9,8 @@ use canvas_lines::block;
 use canvas_world::World;
 use std::alloc::{AllocError, Global};
 
-/// Adds the report: the server's block, and then one for each node in its order. Fails only where
-/// memory is refused, and then `out` may have grown.
+/// Adds the report: the server's block, and then one for each node in its order. Fails only if
+/// memory runs out, and then `out` may have grown.
 pub fn write_report(
     alloc: Global,
     names: &Names,
@@ -39,8 +39,8 @@ fn write_nodes(
     Ok(())
 }
 
-/// Adds the server's block: what the server holds, and the tree of its whole log. Fails only where
-/// memory is refused, and then `out` is as it was.
+/// Adds the server's block: what the server holds, and the tree of its whole log. Fails only if
+/// memory runs out, and then `out` is as it was.
 pub fn write_server(alloc: Global, world: &World, out: &mut Vec<u8>) -> Result<(), AllocError>
     ensures ok { OnOk result (AddsServerBlock world.now out.old.items out.new.items) }
     ensures err { OnErr result (out.new.items ≡ out.old.items) }
@@ -64,8 +64,8 @@ fn server_head(alloc: Global, world: &World) -> Result<String, AllocError>
 }
 
 /// Adds the block of node `k`, counted from 1: its name, id, version and number of edits that wait,
-/// and the tree of its view; nothing where there is no such node. Fails only where memory is
-/// refused, and then `out` is as it was.
+/// and the tree of its view; nothing where there is no such node. Fails only if memory runs
+/// out, and then `out` is as it was.
 pub fn write_node(
     alloc: Global,
     names: &Names,

@@ -60,7 +60,7 @@ impl From<ScriptError> for Fault {
 /// are passed over. The first other line is `world`, and each later one an event or a block to show.
 ///
 /// The errors: `BadLine`, where a line can't be read, and then what the lines before it print was
-/// added to `out`; `Memory`, only where memory is refused, and then `out` is as it was.
+/// added to `out`; `Memory`, only if memory runs out, and then `out` is as it was.
 pub fn world_run(alloc: Global, input: &[u8], out: &mut Vec<u8>) -> Result<World, ScriptError>
     ensures world { IfOk result (IsWorldOf input.now) }
     ensures report { IfOk result

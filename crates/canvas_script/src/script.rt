@@ -40,7 +40,7 @@ pub struct Script {
     pub bad_line: Option<u64>,
 }
 
-/// Whether the input is a script of a world: the first line that isn't passed over is `world`.
+/// Checks whether the input is a script of a world: the first line that isn't passed over is `world`.
 pub fn is_world(input: &[u8]) -> bool
     ensures { IsTrue result ↔ IsWorld input.now }
 {
@@ -55,7 +55,7 @@ pub fn is_world(input: &[u8]) -> bool
 }
 
 /// Reads a script: what it asks for, or what the lines before the first that can't be read ask for.
-/// Fails only where memory is refused.
+/// Errors: out of memory.
 pub fn read_script(alloc: Global, input: &[u8]) -> Result<Script, AllocError>
     ensures whole { IfOk result (λ r. IfNone r.bad_line
         (InputSays input.now r.names (map seen_item r.items.items))) }

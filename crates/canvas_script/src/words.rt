@@ -42,7 +42,7 @@ pub(crate) fn read_count(word: &[u8]) -> Result<u64, LineError>
     Ok(value)
 }
 
-// Whether a zero stands before other digits.
+// Checks whether a zero stands before other digits.
 fn has_leading_zero(word: &[u8]) -> bool
     ensures { IsTrue result ↔ ((slice_index word.now 0 ≡ 48) × (1 < length word.now)) }
 {

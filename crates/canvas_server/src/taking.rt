@@ -47,7 +47,7 @@ pub enum TakeError {
     /// There are 2^62 entries; or it is a Join, and the next id is 4294967295.
     #[error("no entry more may come")]
     Full = 2,
-    /// Memory was refused.
+    /// Memory ran out.
     #[error("out of memory")]
     Memory = 3,
 }

@@ -15,14 +15,14 @@ use tungstenite::{Error, Message as Frame, NoMask, WebSocket};
 
 /// Serves a connection until it ends: reads a message, answers it, and so on.
 ///
-/// Bytes that are a text of no message that a client sends, and a message of text, are answered by a No for NotRead; where memory is
-/// refused while a message is decoded or answered, the answer is a No for Memory. After a No it goes on. Each message of an answer is
+/// Bytes that are a text of no message that a client sends, and a message of text, are answered by a No for NotRead; if memory runs
+/// out while a message is decoded or answered, the answer is a No for Memory. After a No it goes on. Each message of an answer is
 /// one binary message, and a small answer leaves in one write. Pings and pongs are passed over.
 ///
 /// Once the answer to a binary message has left, the answerer is told.
 ///
 /// It ends with a closing frame, or the 4294967296th message, which isn't read. Otherwise it tells what ended it: a fault of the
-/// socket, or that memory was refused for what the socket reads or for the frame of a text. Every message that was read has an answer,
+/// socket, or that memory ran out for what the socket reads or for the frame of a text. Every message that was read has an answer,
 /// and the answer its texts, since a No takes no memory. All answers but the last have left then, and of the last a beginning.
 pub fn serve_one<A: Answerer, S: Read + Write + Drop>(
     alloc: Global,

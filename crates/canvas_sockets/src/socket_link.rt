@@ -121,7 +121,7 @@ impl<S: Read + Write + Drop, K: MaskKeys + Drop> Link for SocketLink<S, K> {
     }
 }
 
-// Whether the message ends an answer.
+// Checks whether the message ends an answer.
 fn is_end(message: &Message) -> bool
     ensures { IsTrue result ↔ IsEnd (seen_message message.now) }
 {

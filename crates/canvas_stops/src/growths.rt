@@ -7,7 +7,7 @@ use std::alloc::Global;
 // A record has fewer growths than this.
 const MOST: u64 = 100;
 
-// Whether a record of this text is refused where its growth of that number is.
+// Checks whether a record of this text is refused where its growth of that number is.
 fn is_refused(alloc: Global, text: &[u8], growth: u64) -> bool {
     let heap = Refusing::new(alloc, growth);
     matches!(record(&heap, text), Err(RecordError::Memory))

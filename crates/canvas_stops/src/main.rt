@@ -10,15 +10,15 @@
 //!   shelf, one after another: the script of a journal, in which no message stands.
 //! - `fuse N` lets so many calls of the shelf pass and makes all others fail; `fault N` makes this one fail alone, the first being 1.
 //! - `keep N:SIZE ..` is a crash after a journal's script that keeps so many of the bytes of segment N that weren't synced, and of others
-//!   none. Where no line says so, there is one that keeps none.
+//!   none. If no line says so, there is one that keeps none.
 //!
 //! These ask of a script:
 //!
 //! - `play`, of a room: what each line is answered: the version of an entry, or why there is none. Then which version both seats read. Then
 //!   what is found later, and to which version the script goes on there, from its first line whose entries aren't found. On a shelf in
 //!   memory that is three times, after a crash that keeps of the bytes that aren't synced none, half, and all. In a store it is twice, by
-//!   another that takes the document over: where the transaction that wasn't answered isn't done, and where it is. Where the shelf isn't
-//!   opened, also what opening it again comes to. Where the store doesn't become a shelf, the line says no more than that its device failed.
+//!   another that takes the document over: where the transaction that wasn't answered isn't done, and if it is. If the shelf isn't
+//!   opened, also what opening it again comes to. If the store doesn't become a shelf, the line says no more than that its device failed.
 //! - `play`, of a journal: what opening and each call answer, how many calls the shelf counts and how many failed, and what each crash
 //!   leaves to be found; where opening fails, also what opening the same shelf again finds.
 //! - `fuses` and `faults`: the same for each number of calls of the shelf, or of the store, that pass while all others fail, and for each
@@ -31,7 +31,7 @@
 //! - `open`: what looking at the shelf finds and what opening it finds, the calls that opening makes, and each segment then.
 //! - `cuts`: the same with the last segment cut to each length. `bytes HEX`: what looking and opening find with each byte of the last
 //!   segment replaced by this one; a line says so where opening fails and yet changes a segment.
-//! - `first`: the text of the first record of the last segment, and the bytes behind it.
+//! - `first`: the text of the first record of the last segment, and the bytes after it.
 //! - `lists N`: what a shelf with no segment answers that is asked so often for its numbers.
 //! - `growths TEXT`: how many growths a record of this text has, each of which is refused in turn.
 #![tactic(auto)]

@@ -17,7 +17,7 @@ pub fn write_found<S: Shelf>(alloc: Global, shelf: &mut S, text: &mut Text) {
     }
 }
 
-/// Adds what looking at a shelf finds after a crash that keeps so much, or nothing where memory is refused for it.
+/// Adds what looking at a shelf finds after a crash that keeps so much, or nothing if memory runs out for it.
 pub fn write_kept(alloc: Global, shelf: &MemShelf, keep: &[(u32, u64)], text: &mut Text) {
     match shelf.crash(keep) {
         Ok(mut left) => write_found(alloc, &mut left, text),

@@ -123,7 +123,7 @@ fn write_answer<R: Wait + Copy + Drop>(
     Ok(())
 }
 
-// Whether a line that begins with this word is one of a script: a call of a journal, or what a room is asked.
+// Checks whether a line that begins with this word is one of a script: a call of a journal, or what a room is asked.
 fn is_step(word: &str) -> bool {
     word.starts_with('[') || word == "read" || find(&STEPS, word).is_some()
 }

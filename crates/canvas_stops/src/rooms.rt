@@ -16,7 +16,7 @@ pub type BlankOn<B> = BlankRoom<Journal<B>>;
 // How many seats a room has.
 const SEATS: usize = 2;
 
-// Whether no client has more judged edits than there are entries.
+// Checks whether no client has more judged edits than there are entries.
 fn is_counted(state: &State, version: u64) -> bool
     ensures { IsTrue result → IsCounted (state.now, version) }
 {

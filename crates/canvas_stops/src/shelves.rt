@@ -137,7 +137,7 @@ pub fn write_left<S: Shelf>(alloc: Global, left: &mut S, text: &mut Text) {
     }
 }
 
-/// Adds the text of the first record in these bytes, and the bytes behind it.
+/// Adds the text of the first record in these bytes, and the bytes after it.
 pub fn write_first(bytes: &[u8], text: &mut Text) {
     match first_record(bytes) {
         Some((first, behind)) => {

@@ -31,7 +31,7 @@ fn note_cut(
     }
 }
 
-/// Adds what opening finds where the last segment is cut to each length, and where it isn't.
+/// Adds what opening finds where the last segment is cut to each length, and if it isn't.
 pub fn write_cuts(alloc: Global, segments: &[Segment], text: &mut Text) {
     let [rest @ .., last] = segments else {
         return;
@@ -69,7 +69,7 @@ fn write_change<S: Shelf>(alloc: Global, shelf: &mut S, segments: &Text, text: &
     }
 }
 
-// Adds what opening a shelf finds, in a line. Where it isn't opened, its segments must still be written so.
+// Adds what opening a shelf finds, in a line. If it isn't opened, its segments must still be written so.
 fn write_opened<S: Shelf + Drop>(alloc: Global, shelf: S, segments: &Text, text: &mut Text)
     requires { IsTrue (S.honest shelf) → top_is_listed (S.disk shelf) ≡ true }
 {

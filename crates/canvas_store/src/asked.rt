@@ -22,7 +22,7 @@ pub(crate) enum Asked<'a> {
 }
 
 impl<'a> Asked<'a> {
-    // Whether it may be asked again where no answer came: it changes nothing, or nothing more by being done twice.
+    // Checks whether it may be asked again where no answer came: it changes nothing, or nothing more by being done twice.
     pub(crate) fn repeats(&self) -> bool {
         !matches!(self, Asked::Commit(..))
     }

@@ -43,14 +43,14 @@ impl<R: Net<Stream = TcpStream> + AllocGlobal + Clone + Drop> Lease<R> {
         })
     }
 
-    /// The same lease once more, over a connection of its own. Fails only where memory is refused.
+    /// The same lease once more, over a connection of its own. Errors: out of memory.
     pub fn another(&self) -> Result<Self, AllocError> {
         Lease::new(self.wire.another()?, &self.name, self.number, self.owner)
     }
 
     /// Lets the lease go on. Tells whether it could: a lease that has ended doesn't begin anew, and whoever held it should stop serving.
     ///
-    /// `Unreachable` or `Unanswered` where no endpoint told: the lease may go on, so ask again at once. `Memory` where memory was refused.
+    /// `Unreachable` or `Unanswered` where no endpoint told: the lease may go on, so ask again at once. `Memory` if memory runs out.
     pub fn renew(&mut self) -> Result<bool, StoreError> {
         let body = self.wire.ask(&Asked::KeepAlive(self.number))?;
         let kept = read_kept(self.wire.alloc(), &body)?;
@@ -59,7 +59,7 @@ impl<R: Net<Stream = TcpStream> + AllocGlobal + Clone + Drop> Lease<R> {
 
     /// Ends the lease, so that another can take the document over at once. Call it once nothing is written any more.
     ///
-    /// `Unreachable` or `Unanswered` where no endpoint told: then the lease ends by itself. `Memory` where memory was refused.
+    /// `Unreachable` or `Unanswered` where no endpoint told: then the lease ends by itself. `Memory` if memory runs out.
     pub fn release(mut self) -> Result<(), StoreError> {
         self.wire.ask(&Asked::Revoke(self.number))?;
         Ok(())
@@ -67,7 +67,7 @@ impl<R: Net<Stream = TcpStream> + AllocGlobal + Clone + Drop> Lease<R> {
 
     /// The text of the document's identity, if it has one.
     ///
-    /// `Unreachable` or `Unanswered` where no endpoint told. `Memory` where memory was refused.
+    /// `Unreachable` or `Unanswered` where no endpoint told. `Memory` if memory runs out.
     pub fn identity(&mut self) -> Result<Option<Vec<u8>>, StoreError> {
         let keys = self.identity_keys()?;
         let mut found = self.wire.values(&keys, 1, 0)?;
@@ -77,7 +77,7 @@ impl<R: Net<Stream = TcpStream> + AllocGlobal + Clone + Drop> Lease<R> {
     /// Gives the document an identity, in place of the one that it has.
     ///
     /// `Lost` where another owns the document; `Unreachable` where nothing was asked; `Unanswered` where it may have been done; `Memory` where
-    /// memory was refused.
+    /// memory ran out.
     pub fn set_identity(&mut self, text: &[u8]) -> Result<(), StoreError> {
         let key = identity_key(self.wire.alloc(), &self.name)?;
         self.commit(Change::Put {

@@ -15,7 +15,7 @@ use std::net::{Net, TcpStream};
 /// A document's segments in an etcd, by its gateway (JSON over HTTP/1.1, without TLS). No contract says what a network does, so it claims
 /// nothing. Contracts see it as how many of its calls have failed.
 ///
-/// The endpoints are members of one etcd. Where one takes no connection within 2 seconds, or is silent for 5, the next one is asked; a
+/// The endpoints are members of one etcd. If one takes no connection within 2 seconds, or is silent for 5, the next one is asked; a
 /// transaction alone is never asked twice once it was sent, since it may have been done.
 ///
 /// Who owns a document holds the key `lugcurrant/NAME/owner`, which goes with a lease of so many seconds as it was
@@ -50,10 +50,10 @@ impl<R: Net<Stream = TcpStream> + AllocGlobal + Clone + Drop> Model for EtcdStor
 }
 
 impl<R: Net<Stream = TcpStream> + AllocGlobal + Clone + Drop> EtcdStore<R> {
-    /// The store of the document of this name, which `is_name` of `canvas_gateway` allows, by these endpoints. Where it takes the document
+    /// The store of the document of this name, which `is_name` of `canvas_gateway` allows, by these endpoints. If it takes the document
     /// over, its lease ends after so many seconds in which nobody keeps it alive. Nothing is asked yet.
     ///
-    /// Fails where memory is refused.
+    /// Fails if memory runs out.
     pub fn new(
         net: R,
         hosts: Vec<Host>,
@@ -75,14 +75,14 @@ impl<R: Net<Stream = TcpStream> + AllocGlobal + Clone + Drop> EtcdStore<R> {
 
     /// The lease, once the document was taken over, for a thread that keeps it alive.
     ///
-    /// Fails where memory is refused.
+    /// Fails if memory runs out.
     pub fn lease(&self) -> Result<Lease<R>, AllocError> {
         self.document.lease()
     }
 
-    /// Whether somebody owns the document now.
+    /// Checks whether somebody owns the document now.
     ///
-    /// `Unreachable` or `Unanswered` where no endpoint told. `Memory` where memory was refused.
+    /// `Unreachable` or `Unanswered` where no endpoint told. `Memory` if memory runs out.
     pub fn is_owned(&mut self) -> Result<bool, StoreError>
         ensures { self.new ≡ self.old }
     {
@@ -107,7 +107,7 @@ impl<R: Net<Stream = TcpStream> + AllocGlobal + Clone + Drop> EtcdStore<R> {
         }
     }
 
-    // Want of memory is told as such, and all else is a failure.
+    // Out of memory is reported as such, and all else is a failure.
     fn tell(&mut self, error: StoreError) -> ShelfError
         ensures { CountsFailure self.old self.new (result ≡ ShelfError.Device) }
     {

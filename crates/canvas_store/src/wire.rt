@@ -34,7 +34,7 @@ pub enum StoreError {
     /// Another owns the document.
     #[error("another owns the document")]
     Lost,
-    /// Memory was refused.
+    /// Memory ran out.
     #[error("out of memory")]
     Memory,
 }
@@ -260,7 +260,7 @@ fn host_at(hosts: &[Host], at: usize) -> Result<&Host, StoreError> {
     hosts.get(at).ok_or(StoreError::Unreachable)
 }
 
-// Whether the other side still holds the connection, and has sent nothing unasked.
+// Checks whether the other side still holds the connection, and has sent nothing unasked.
 fn is_open(stream: &TcpStream) -> bool {
     let mut byte = [0u8; 1];
     let waiting = match stream.set_nonblocking(true) {
@@ -271,7 +271,7 @@ fn is_open(stream: &TcpStream) -> bool {
     still && stream.set_nonblocking(false).is_ok()
 }
 
-// The answer that comes on this connection, and nothing behind it.
+// The answer that comes on this connection, and nothing after it.
 fn receive(alloc: Global, stream: &mut TcpStream) -> Result<Answer, StoreError> {
     let mut reader = AnswerReader::new(alloc, MAX_BODY);
     let mut waiting: Vec<u8> = Vec::new(alloc);

@@ -8,8 +8,8 @@ use crate::fault::SumFault;
 use crate::lines::{first_line, named};
 use crate::sum::RunningSum;
 
-/// Whether each whole line of these sums is the line of the beginning of the segment that has its length. Answers the length that the last
-/// one names, 0 where there is none: so many bytes of the segment are those that were synced.
+/// Checks whether each whole line of these sums is the line of the beginning of the segment that has its length. Answers the length that
+/// the last one names, 0 where there is none: so many bytes of the segment are those that were synced.
 ///
 /// The lengths may not fall. What stands behind the last line's end is passed over: sums are not synced, so a crash may leave less of them than
 /// was written, and a line that is cut.
@@ -28,7 +28,7 @@ pub fn check_sums(segment: &[u8], sums: &[u8]) -> Result<usize, SumFault>
     Ok(sum.size())
 }
 
-// Goes on with the sum of a beginning of the segment up to the length that a line names, where the line holds.
+// Goes on with the sum of a prefix of the segment up to the length that a line names, where the line holds.
 fn follow(sum: &mut RunningSum, segment: &[u8], line: &[u8]) -> Result<(), SumFault>
     requires within { size_of sum.old ≤ length segment.now }
     requires before { IsSumOf sum.old (take (size_of sum.old) segment.now) }

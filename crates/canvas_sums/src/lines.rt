@@ -6,7 +6,7 @@ ghost use Rattle.canvas_sums.specs.Lines.{HasNoEnd, Names};
 use itoa::Buffer;
 use std::str;
 
-// The first line, without its end, and what stands behind it. None where no line ends.
+// The first line, without its end, and what stands after it. None where no line ends.
 pub(crate) fn first_line(bytes: &[u8]) -> Option<(&[u8], &[u8])>
     ensures { MatchOption result (HasNoEnd bytes.now) (λ p. (bytes.now ≡ p.0.now ++ 10 ∷ p.1.now) × HasNoEnd p.0.now) }
 {
@@ -32,7 +32,7 @@ fn number_of(text: &[u8]) -> Option<usize>
     }
 }
 
-// The length that a line names, and the 64 bytes behind it.
+// The length that a line names, and the 64 bytes after it.
 pub(crate) fn named(line: &[u8]) -> Option<(usize, &[u8])>
     ensures { MatchOption result ((n : ℕ) (digest : List ℕ) → Names line.now n digest → ⊥) (λ p. Names line.now p.0 p.1.now) }
 {

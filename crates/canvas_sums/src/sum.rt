@@ -43,8 +43,8 @@ impl RunningSum {
         self.size
     }
 
-    /// The line of the bytes that were added: how many they are, in decimal, a space, and their SHA-256 as 64 hex digits. Fails only where
-    /// memory is refused.
+    /// The line of the bytes that were added: how many they are, in decimal, a space, and their SHA-256 as 64 hex digits. Fails only if
+    /// memory runs out.
     ///
     /// Contracts say it of fewer than 2^64 bytes.
     pub fn line(&self, alloc: Global) -> Result<String, AllocError>
@@ -62,7 +62,7 @@ impl RunningSum {
         self.hasher.clone().unwrap().finalize()
     }
 
-    // Whether this is the text of it.
+    // Checks whether this is the text of it.
     pub(crate) fn is_digest(&self, text: &[u8]) -> bool
         ensures { (bytes : List ℕ) → IsSumOf self.now bytes → IsTrue result ↔ (text.now ≡ encode_lower (sha256 bytes)) }
     {

@@ -29,7 +29,7 @@ fn growths(
     Ok(None)
 }
 
-// Whether the same is said of a text that is read into an arena.
+// Checks whether the same is said of a text that is read into an arena.
 fn is_same_in_arena(
     alloc: Global,
     kind: Kind,

@@ -7,7 +7,7 @@ use canvas_model::words::cut;
 use canvas_wire::{decode, decode_checkpoint, decode_entry};
 use std::alloc::{AllocError, Allocator, Global};
 
-// Whether an entry may come next by this rule.
+// Checks whether an entry may come next by this rule.
 fn may_follow<A: Allocator + Copy>(
     alloc: A,
     rule: Rule,
@@ -20,7 +20,7 @@ fn may_follow<A: Allocator + Copy>(
     }
 }
 
-// Whether the entry that a text spells may come next.
+// Checks whether the entry that a text spells may come next.
 fn fits_after<A: Allocator + Copy>(
     heap: Global,
     alloc: A,
@@ -39,7 +39,7 @@ fn fits_after<A: Allocator + Copy>(
     }
 }
 
-/// Whether an entry may come after a checkpoint of the first form by this rule, with a tab between the two.
+/// Checks whether an entry may come after a checkpoint of the first form by this rule, with a tab between the two.
 pub fn fits<A: Allocator + Copy>(
     heap: Global,
     alloc: A,
@@ -63,7 +63,7 @@ fn doc_of<A: Allocator>(message: &Message<A>) -> Option<&Doc<A>> {
     }
 }
 
-// Whether one object stands above another in a document.
+// Checks whether one object stands above another in a document.
 fn above_in<A: Allocator>(
     heap: Global,
     doc: &Doc<A>,
@@ -83,7 +83,7 @@ fn above_in<A: Allocator>(
     }
 }
 
-/// Whether one object stands above another, or is that one: a copy and their ids, with tabs between them.
+/// Checks whether one object stands above another, or is that one: a copy and their ids, with tabs between them.
 pub fn above<A: Allocator + Copy>(
     heap: Global,
     alloc: A,

@@ -43,7 +43,7 @@ impl Promise<Ended> for KeepsId {
 /// A client on a thread of its own, with the inbox by which it is told what to do. Contracts see it as the client's id.
 ///
 /// It does what it is told in order, one after the other. It ends where it is told to stop, where nobody is left who could tell it
-/// anything, and where an exchange fails.
+/// anything, and if an exchange fails.
 pub struct ClientNode {
     commands: Sender<Command>,
     thread: PromisedHandle<Ended, KeepsId>,
@@ -67,7 +67,7 @@ impl Model for ClientNode {
 }
 
 impl ClientNode {
-    /// Starts a thread for a client that has an id, which exchanges over this link. Fails where memory is refused or no thread can be
+    /// Starts a thread for a client that has an id, which exchanges over this link. Fails if memory runs out or no thread can be
     /// made, and then the client comes back.
     pub fn start<L, R>(rt: &R, client: Client, link: L) -> Result<ClientNode, AllocFailed<Client>>
     where
@@ -100,14 +100,14 @@ impl ClientNode {
         }
     }
 
-    /// Tells the client what to do next. Fails where its thread has ended, or memory is refused, and then the command comes back.
+    /// Tells the client what to do next. Fails where its thread has ended, or memory runs out, and then the command comes back.
     pub fn send<W: Wait>(&self, rt: &W, command: Command) -> Result<(), SendError<Command>>
         ensures { IfErr result (λ error. send_message error ≡ command) }
     {
         self.commands.send(rt, command)
     }
 
-    /// Lets the inbox go, so that the thread ends once it has done what it was told, waits for that, and answers the client. Where an
+    /// Lets the inbox go, so that the thread ends once it has done what it was told, waits for that, and answers the client. If an
     /// exchange failed, answers with its error, and the client is let go.
     pub fn join<R: Threads>(self, rt: &R) -> Result<Client, LinkError>
         ensures { IfOk result (λ client. client.id ≡ Some self) }
@@ -158,7 +158,7 @@ impl<L: Link + Drop, R: Wait + Drop> Task for Work<L, R> {
     }
 }
 
-// Starts a thread that does a task. Where none can be made, the task is done here, with nobody left who could tell it anything, and the
+// Starts a thread that does a task. If none can be made, the task is done here, with nobody left who could tell it anything, and the
 // client comes back.
 fn start_task<T: Task + Send + Drop + 'static, R: Threads>(
     rt: &R,

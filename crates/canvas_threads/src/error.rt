@@ -8,7 +8,7 @@ use canvas_journal::KeepError;
 use canvas_judge::NoReason;
 use canvas_nodes::LinkError;
 
-/// The error of a node whose client's exchange broke off: the one that a No tells; Memory where memory was refused; and Failed where the
+/// The error of a node whose client's exchange broke off: the one that a No tells; Memory if memory runs out; and Failed where the
 /// link has ended, or its answer is none, which a link to a seat never says.
 pub(crate) fn broken_off(client: &Client, error: LinkError) -> SubmitError
     ensures { result ≡ error_of client.now.acknowledged error }

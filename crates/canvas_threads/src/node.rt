@@ -70,7 +70,7 @@ impl<K: Keeper + Drop, N: RoomName, Q: Wait + Drop, W: Wait + Drop> Node<N, Lock
     /// Makes these edits one after the other, and exchanges after each between two calls of the gate. What the client refuses is passed
     /// over.
     ///
-    /// The errors are those of `exchange_at`, as `broken_off` has them, and `NotKept(Memory)` where memory is refused besides.
+    /// The errors are those of `exchange_at`, as `broken_off` has them, and `NotKept(Memory)` if memory runs out besides.
     pub(crate) fn make_all<G: Gate>(
         &mut self,
         alloc: Global,
@@ -95,7 +95,7 @@ impl<K: Keeper + Drop, N: RoomName, Q: Wait + Drop, W: Wait + Drop> Node<N, Lock
         Ok(())
     }
 
-    // Makes an edit, and tells whether the client made it or refused it. `NotKept(Memory)` where memory is refused.
+    // Makes an edit, and tells whether the client made it or refused it. `NotKept(Memory)` if memory runs out.
     fn make(&mut self, request: &EditRequest) -> Result<bool, SubmitError>
         ensures same { OnOk result (self.new.client.id ≡ self.old.client.id) }
         ensures follows { OnOk result ((requests : List local.EditRequest) → FollowsRoom N.opening requests self.old.link self.old.client → FollowsRoom N.opening (requests ++ request.now ∷ []) self.new.link self.new.client) }
@@ -111,7 +111,7 @@ impl<K: Keeper + Drop, N: RoomName, Q: Wait + Drop, W: Wait + Drop> Node<N, Lock
     }
 }
 
-// That an edit is passed over, since its client refuses it. `NotKept(Memory)` where memory is refused.
+// That an edit is passed over, since its client refuses it. `NotKept(Memory)` if memory runs out.
 fn pass_over(error: EditError) -> Result<(), SubmitError>
     ensures { OnOk result (error ≡ EditError.Memory → ⊥) }
 {

@@ -20,16 +20,16 @@ use std::thread::{Threads, map_vec};
 /// after each between two calls of the gate. Once all have ended, each exchanges once more, so that its client reads up to the room's
 /// last version. Answers the clients, in the order of the lists.
 ///
-/// Each client has made all edits of its list that it didn't refuse. Where nobody else made an edit under its id, nothing waits at it, its
+/// Each client has made all edits of its list that it didn't refuse. If nobody else made an edit under its id, nothing waits at it, its
 /// edits stand in the room's history, each once, and it shows the room's document as its seat has seen it.
 ///
 /// What its client refuses a node passes over, without a call of the gate. An edit that was judged before counts as done. A client
-/// that others use too takes no entry which isn't its own, and stays where it is. Where no thread can be made, nodes run one after
+/// that others use too takes no entry which isn't its own, and stays where it is. If no thread can be made, nodes run one after
 /// the other.
 ///
 /// The error is that of the first node, in the order of the lists, that had one: those of `Seat::submit` but for Repeat and Owed, where
 /// a Gap tells the number of the last edit that the client knows to be judged; `NotKept(Failed)` where the room has ended;
-/// `NotKept(Memory)` where memory is refused besides. What was submitted stays.
+/// `NotKept(Memory)` if memory runs out besides. What was submitted stays.
 pub fn run_nodes<K, N, Q, R, G>(
     rt: &R,
     _room: &Room<K, N, Q>,
@@ -186,7 +186,7 @@ where
     all_done(alloc, ended)
 }
 
-// The job of each plan. Fails only where memory is refused.
+// The job of each plan. Errors: out of memory.
 fn jobs_of<S: Drop, P: Drop>(
     alloc: Global,
     sites: Vec<S>,
@@ -208,7 +208,7 @@ fn jobs_of<S: Drop, P: Drop>(
     Ok(jobs)
 }
 
-// What becomes of each job, on a thread of its own. Fails only where memory is refused.
+// What becomes of each job, on a thread of its own. Errors: out of memory.
 fn run_each<S, R, P, G>(
     alloc: Global,
     rt: &R,

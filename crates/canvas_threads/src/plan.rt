@@ -12,7 +12,7 @@ pub trait Plan: Drop {
     /// That these edits are asked of a client of this id.
     ghost asks: { Self → ℕ → List local.EditRequest → Type 0 };
 
-    /// The edits that a client of this id is to make, in their order. Fails only where memory is refused.
+    /// The edits that a client of this id is to make, in their order. Errors: out of memory.
     fn edits(self, alloc: Global, id: u32) -> Result<Vec<EditRequest>, AllocError>
         ensures { IfOk result (λ edits. asks self id edits.items) };
 }

@@ -18,8 +18,8 @@ use std::sync::Wait;
 
 /// Joins at a seat, for a new client: it follows then what the seat has seen, as one that has made no edit.
 ///
-/// The errors are those of `canvas_nodes::join`: Refused where the room refuses the Join, and Memory where memory was refused. The client
-/// is then new still, or it follows: only where memory was refused after it was given its id.
+/// The errors are those of `canvas_nodes::join`: Refused where the room refuses the Join, and Memory if memory runs out. The client
+/// is then new still, or it follows: only if memory runs out after it was given its id.
 pub fn join_at<K: Keeper + Drop, N: RoomName, R: Wait + Drop, W: Wait + Drop>(
     client: &mut Client,
     link: &mut SeatLink<N, Lock<K, N, R>, W>,
@@ -42,8 +42,8 @@ pub fn join_at<K: Keeper + Drop, N: RoomName, R: Wait + Drop, W: Wait + Drop>(
 /// waits, and the client shows the document of all that the seat has seen; so clients whose seats have seen equal histories show equal
 /// documents.
 ///
-/// The errors are those of `canvas_nodes::exchange`: Refused where the room refuses an edit or the client, and Memory where memory was
-/// refused.
+/// The errors are those of `canvas_nodes::exchange`: Refused where the room refuses an edit or the client, and Memory if memory runs
+/// out.
 pub fn exchange_at<K: Keeper + Drop, N: RoomName, R: Wait + Drop, W: Wait + Drop>(
     alloc: Global,
     client: &mut Client,

@@ -37,7 +37,7 @@ fn command(word: Word) -> Command {
     }
 }
 
-// Tells a client these words. One that was told to stop may have ended before the words behind that.
+// Tells a client these words. One that was told to stop may have ended before the words after that.
 fn tell<W: Wait>(rt: &W, node: &ClientNode, words: &[Word]) -> Result<(), Fail> {
     let mut may_have_ended = false;
     for word in words {
@@ -138,7 +138,7 @@ fn edit_exchange_stop(rt: HostRuntime) -> Result<(), Fail> {
     Ok(())
 }
 
-// Whether a room comes to this version within a million turns that yield.
+// Checks whether a room comes to this version within a million turns that yield.
 fn comes_to<K: Keeper + Drop, N: RoomName, Q: Wait + Drop, W: Wait>(
     rt: &W,
     room: &Room<K, N, Q>,
@@ -153,13 +153,13 @@ fn comes_to<K: Keeper + Drop, N: RoomName, Q: Wait + Drop, W: Wait>(
     false
 }
 
-// Whether both of two clients that wait for nothing show the same at this version.
+// Checks whether both of two clients that wait for nothing show the same at this version.
 fn agree(one: &Client, two: &Client, version: u64) -> bool {
     let are_there = one.version() == version && two.version() == version;
     are_there && one.unacknowledged() == 0 && one.view().same(two.view())
 }
 
-// Whether both clients, once they have ended, agree at this version.
+// Checks whether both clients, once they have ended, agree at this version.
 fn agree_at_end<R: Threads>(
     rt: &R,
     one: ClientNode,
@@ -171,7 +171,7 @@ fn agree_at_end<R: Threads>(
     Ok(agree(&one, &two, version))
 }
 
-// Whether two clients have each made a page in a room, and are told to exchange again.
+// Checks whether two clients have each made a page in a room, and are told to exchange again.
 fn have_paged<K: Keeper + Drop, N: RoomName, Q: Wait + Drop, W: Wait>(
     rt: &W,
     room: &Room<K, N, Q>,
@@ -188,7 +188,7 @@ fn have_paged<K: Keeper + Drop, N: RoomName, Q: Wait + Drop, W: Wait>(
     Ok(true)
 }
 
-// Whether two clients at the last of these seats that have each made a page agree, once each exchanges again.
+// Checks whether two clients at the last of these seats that have each made a page agree, once each exchanges again.
 fn agree_by<
     K: Keeper + Drop + Send + 'static,
     N: RoomName + Send + Sync + 'static,

@@ -48,7 +48,7 @@ impl Meeting {
         }
     }
 
-    /// Whether both went on since the other came.
+    /// Checks whether both went on since the other came.
     pub fn has_met(&self) -> bool {
         self.one.met.load(Ordering::SeqCst) && self.two.met.load(Ordering::SeqCst)
     }

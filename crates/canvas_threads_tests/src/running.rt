@@ -14,31 +14,31 @@ use std::sync::Wait;
 use std::test::Fail;
 use std::thread::Threads;
 
-// Whether the tree that the document has in the arena is this one.
+// Checks whether the tree that the document has in the arena is this one.
 fn is_tree_of(arena: &Bump, tree: &Tree, doc: &Doc) -> Result<bool, AllocError> {
     Ok(grow(arena, doc)?.same(tree))
 }
 
-// Whether this is the tree that the document has in an arena.
+// Checks whether this is the tree that the document has in an arena.
 fn is_tree_in_arena(alloc: Global, tree: &Tree, doc: &Doc) -> Result<bool, AllocError> {
     let arena = Bump::new(alloc);
     is_tree_of(&arena, tree, doc)
 }
 
-// Whether two documents are the same, and the tree of the one in the machine's memory that of the other in an arena.
+// Checks whether two documents are the same, and the tree of the one in the machine's memory that of the other in an arena.
 fn are_same(alloc: Global, one: &Doc, two: &Doc) -> Result<bool, AllocError> {
     let tree = grow(alloc, one)?;
     Ok(one.same(two) && is_tree_in_arena(alloc, &tree, two)?)
 }
 
-// Whether two clients are at this version, with the same documents and trees, and nothing waits at either.
+// Checks whether two clients are at this version, with the same documents and trees, and nothing waits at either.
 fn agree(alloc: Global, one: &Client, two: &Client, version: u64) -> Result<bool, AllocError> {
     let are_there = one.version() == version && two.version() == version;
     let waiting = one.unacknowledged().max(two.unacknowledged());
     Ok(are_there && waiting == 0 && are_same(alloc, one.view(), two.view())?)
 }
 
-// Whether both of two clients are at the version of their room, which is this one, and agree.
+// Checks whether both of two clients are at the version of their room, which is this one, and agree.
 fn are_two(alloc: Global, ended: &Ended, wanted: u64) -> Result<bool, AllocError> {
     let Ok(Ran { clients, version }) = ended else {
         return Ok(false);
@@ -49,7 +49,7 @@ fn are_two(alloc: Global, ended: &Ended, wanted: u64) -> Result<bool, AllocError
     Ok(*version == wanted && agree(alloc, one, two, wanted)?)
 }
 
-// Whether two nodes that make three pages each agree with the room.
+// Checks whether two nodes that make three pages each agree with the room.
 fn two_agree<R: Threads + Wait + AllocGlobal + Copy + Send + Sync + Drop, G: Gate + Sync>(
     rt: R,
     gate: &G,
@@ -71,7 +71,7 @@ fn two_at_once(rt: HostRuntime) -> Result<(), Fail> {
     Ok(())
 }
 
-// Whether one of the clients has this id.
+// Checks whether one of the clients has this id.
 fn has_id(clients: &[Client], id: u32) -> bool {
     for client in clients {
         if client.id() == Some(id) {
@@ -81,7 +81,7 @@ fn has_id(clients: &[Client], id: u32) -> bool {
     false
 }
 
-// Whether the clients have the ids from 1 to 8.
+// Checks whether the clients have the ids from 1 to 8.
 fn have_ids(clients: &[Client]) -> bool {
     for id in 1..9 {
         if !has_id(clients, id) {
@@ -91,7 +91,7 @@ fn have_ids(clients: &[Client]) -> bool {
     true
 }
 
-// Whether each client is at this version, and has one edit that is judged.
+// Checks whether each client is at this version, and has one edit that is judged.
 fn are_judged(clients: &[Client], version: u64) -> bool {
     for client in clients {
         if client.version() != version || client.acknowledged() != 1 {
@@ -101,7 +101,7 @@ fn are_judged(clients: &[Client], version: u64) -> bool {
     true
 }
 
-// Whether eight nodes that make one edit each get eight ids, and make 16 entries.
+// Checks whether eight nodes that make one edit each get eight ids, and make 16 entries.
 fn are_eight<R: Threads + Wait + AllocGlobal + Copy + Send + Sync + Drop>(
     rt: R,
 ) -> Result<bool, Fail> {
@@ -178,7 +178,7 @@ fn refused_edit(rt: HostRuntime) -> Result<(), Fail> {
     Ok(())
 }
 
-// Whether a node that joins where a checkpoint has passed what came before takes the copy, and its edit lands on it.
+// Checks whether a node that joins where a checkpoint has passed what came before takes the copy, and its edit lands on it.
 fn copies<R: Threads + Wait + AllocGlobal + Copy + Send + Sync + Drop>(
     rt: R,
 ) -> Result<bool, Fail> {

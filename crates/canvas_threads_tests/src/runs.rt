@@ -75,7 +75,7 @@ fn lists_of(alloc: Global, work: Work) -> Result<Vec<Vec<EditRequest>>, AllocErr
     Ok(lists)
 }
 
-// Whether a client joins at the last of these seats, and a checkpoint passes its entry.
+// Checks whether a client joins at the last of these seats, and a checkpoint passes its entry.
 fn makes_floor<K: Keeper + Drop, N: RoomName, Q: Wait + Drop, W: Wait>(
     rt: &W,
     seats: &mut [SeatOf<K, N, Q>],

@@ -17,7 +17,7 @@ use std::alloc::{AllocError, Allocator};
 /// live.
 ///
 /// It asks the document once for each object in the tree, and once for its children. Fails only
-/// where memory is refused.
+/// if memory runs out.
 pub fn grow<A: Allocator + Copy, B: Allocator + Copy>(
     alloc: A,
     doc: &Doc<B>,

@@ -9,7 +9,7 @@ use canvas_codec::json_text;
 use canvas_value::{Name, Value};
 use std::alloc::{AllocError, Allocator, Global};
 
-// Writes the text of the tree at this level. Where memory is refused, `out` may have grown.
+// Writes the text of the tree at this level. If memory runs out, `out` may have grown.
 #[cycle(write)]
 pub(crate) fn write_tree<A: Allocator, B: Allocator>(
     alloc: Global,
@@ -25,7 +25,7 @@ pub(crate) fn write_tree<A: Allocator, B: Allocator>(
     Ok(())
 }
 
-// Writes the texts of the trees, one after another. Where memory is refused, `out` may have grown.
+// Writes the texts of the trees, one after another. If memory runs out, `out` may have grown.
 #[cycle(write)]
 fn write_trees<A: Allocator, B: Allocator>(
     alloc: Global,
@@ -76,7 +76,7 @@ fn head_text<A: Allocator>(alloc: Global, tree: &Tree<A>) -> Result<String, Allo
 /// Writes a line for each of the properties at this level: two blanks for each level, a full stop
 /// and the name, a blank and the compact JSON of the value.
 ///
-/// `alloc` serves for the lines while they are made. Fails only where memory is refused, and then
+/// `alloc` serves for the lines while they are made. Fails only if memory runs out, and then
 /// `out` is unchanged.
 pub fn write_props<A: Allocator, B: Allocator>(
     alloc: Global,
@@ -93,7 +93,7 @@ pub fn write_props<A: Allocator, B: Allocator>(
     out.extend_from_slice(&lines)
 }
 
-// Writes a line for each of the properties. Where memory is refused, `out` may have grown.
+// Writes a line for each of the properties. If memory runs out, `out` may have grown.
 fn push_props<A: Allocator, B: Allocator>(
     alloc: Global,
     props: &[(Name<A>, Value<A>)],

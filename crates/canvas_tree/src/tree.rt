@@ -91,7 +91,7 @@ impl<A: Allocator> Tree<A> {
     }
 
     /// The ids from the top of the tree down to this object, both among them, or none if it doesn't
-    /// stand in the tree. Fails only where memory is refused.
+    /// stand in the tree. Errors: out of memory.
     pub fn path_to<B: Allocator>(
         &self,
         alloc: B,
@@ -107,7 +107,7 @@ impl<A: Allocator> Tree<A> {
         }
     }
 
-    /// The same tree under another allocator. Fails only where memory is refused, and then leaves
+    /// The same tree under another allocator. Fails only if memory runs out, and then leaves
     /// nothing behind.
     pub fn copy_in<B: Allocator + Copy>(&self, alloc: B) -> Result<Tree<B>, AllocError>
         ensures { IfOk result (λ t. t ≡ self.now) }
@@ -120,7 +120,7 @@ impl<A: Allocator> Tree<A> {
     /// deeper. An object's line is its id, its kind, and its position if it has one; a property's
     /// is a full stop and its name, a blank and the compact JSON of its value.
     ///
-    /// `alloc` serves for the text while it is made. Fails only where memory is refused, and then
+    /// `alloc` serves for the text while it is made. Fails only if memory runs out, and then
     /// `out` is unchanged.
     pub fn text<B: Allocator>(
         &self,
@@ -136,7 +136,7 @@ impl<A: Allocator> Tree<A> {
         out.extend_from_slice(&text)
     }
 
-    /// Whether two trees are the same, whichever allocators hold them. It takes no memory.
+    /// Checks whether two trees are the same, whichever allocators hold them. It takes no memory.
     pub fn same<B: Allocator>(&self, other: &Tree<B>) -> bool
         ensures { IsTrue result ↔ (self.now ≡ other.now) }
     {
@@ -229,7 +229,7 @@ fn copy_pos<A: Allocator, B: Allocator + Copy>(
     pos.as_ref().map(|pos| pos.copy(alloc)).transpose()
 }
 
-// Whether two trees are the same.
+// Checks whether two trees are the same.
 #[cycle(same)]
 fn same_tree<A: Allocator, B: Allocator>(one: &Tree<A>, other: &Tree<B>) -> bool
     ensures { IsTrue result ↔ (one.now ≡ other.now) }
@@ -237,7 +237,7 @@ fn same_tree<A: Allocator, B: Allocator>(one: &Tree<A>, other: &Tree<B>) -> bool
     same_label(one, other) && same_trees(&one.children, &other.children)
 }
 
-// Whether the trees are the same, in the same order.
+// Checks whether the trees are the same, in the same order.
 #[cycle(same)]
 fn same_trees<A: Allocator, B: Allocator>(ones: &[Tree<A>], others: &[Tree<B>]) -> bool
     ensures { IsTrue result ↔ (ones.now ≡ others.now) }
@@ -253,21 +253,21 @@ fn same_trees<A: Allocator, B: Allocator>(ones: &[Tree<A>], others: &[Tree<B>]) 
     true
 }
 
-// Whether the two objects at the tops are the same, but for what is below them.
+// Checks whether the two objects at the tops are the same, but for what is below them.
 fn same_label<A: Allocator, B: Allocator>(one: &Tree<A>, other: &Tree<B>) -> bool
     ensures { IsTrue result ↔ (one.now.label ≡ other.now.label) }
 {
     same_head(one, other) && same_props(&one.props, &other.props)
 }
 
-// Whether their ids, their kinds and their positions are the same.
+// Checks whether their ids, their kinds and their positions are the same.
 fn same_head<A: Allocator, B: Allocator>(one: &Tree<A>, other: &Tree<B>) -> bool
     ensures { IsTrue result ↔ HaveOneHead one.now.label other.now.label }
 {
     one.id == other.id && one.kind == other.kind && same_pos(&one.pos, &other.pos)
 }
 
-// Whether the two are the same position, or both none.
+// Checks whether the two are the same position, or both none.
 fn same_pos<A: Allocator, B: Allocator>(one: &Option<Pos<A>>, other: &Option<Pos<B>>) -> bool
     ensures { IsTrue result ↔ (one.now ≡ other.now) }
 {

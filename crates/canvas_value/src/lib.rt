@@ -143,7 +143,7 @@ impl<A: Allocator> Value<A> {
         variant
     }
 
-    /// The same value under another allocator. The error is that memory was refused, and then
+    /// The same value under another allocator. The error is that memory ran out, and then
     /// nothing is left behind.
     pub fn copy_in<B: Allocator + Copy>(&self, alloc: B) -> Result<Value<B>, AllocError>
         ensures { IfOk result (λ v. v ≡ self.now) }
@@ -151,7 +151,7 @@ impl<A: Allocator> Value<A> {
         copy(alloc, self)
     }
 
-    /// Whether two values are the same, whichever allocators hold them. It takes no memory.
+    /// Checks whether two values are the same, whichever allocators hold them. It takes no memory.
     pub fn same<B: Allocator>(&self, other: &Value<B>) -> bool
         ensures { IsTrue result ↔ (self.now ≡ other.now) }
     {
@@ -226,7 +226,7 @@ fn copy_items<A: Allocator, B: Allocator + Copy>(
     Ok(copies)
 }
 
-// Whether the two values are the same.
+// Checks whether the two values are the same.
 #[cycle(alike)]
 fn alike<A: Allocator, B: Allocator>(value: &Value<A>, other: &Value<B>) -> bool
     ensures { IsTrue result ↔ (value.now ≡ other.now) }
@@ -241,7 +241,7 @@ fn alike<A: Allocator, B: Allocator>(value: &Value<A>, other: &Value<B>) -> bool
     }
 }
 
-// Whether the values are the same, in the same order.
+// Checks whether the values are the same, in the same order.
 #[cycle(alike)]
 fn alike_items<A: Allocator, B: Allocator>(items: &[Value<A>], others: &[Value<B>]) -> bool
     ensures { IsTrue result ↔ (items.now ≡ others.now) }

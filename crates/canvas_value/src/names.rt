@@ -62,14 +62,14 @@ impl<A: Allocator> Model for Name<A> {
     ghost invariant = { λ n. IsName n.bytes.items };
 }
 
-// Whether a name may have the byte.
+// Checks whether a name may have the byte.
 fn is_name_byte(b: u8) -> bool
     ensures { result ≡ is_name_byte b }
 {
     b.is_ascii_lowercase() || b.is_ascii_digit() || b == b'_'
 }
 
-// Whether a name may have each of the bytes.
+// Checks whether a name may have each of the bytes.
 fn are_name_bytes(bytes: &[u8]) -> bool
     ensures { result ≡ list_all is_name_byte bytes.now }
 {
@@ -82,12 +82,12 @@ impl<A: Allocator> Name<A> {
     /// Reads a name, as a copy of the bytes.
     ///
     /// It accepts exactly the names. Of anything else it gives the first of `Empty`, `TooLong` and
-    /// `BadByte` that holds. `Memory` comes only where the bytes are a name and memory was refused.
+    /// `BadByte` that holds. `Memory` comes only if the bytes are a name and memory ran out.
     pub fn read(alloc: A, bytes: &[u8]) -> Result<Name<A>, NameError>
         ensures ok { IfOk result (λ n. n ≡ bytes.now) }
         ensures name { IfOk result IsName }
 
-        // A name is refused for want of memory alone.
+        // A name fails only if memory runs out.
         ensures only_memory { IsName bytes.now → IfErr result (λ e. e ≡ NameError.Memory) }
         ensures fault { IfErr result (IsNameError bytes.now) }
     {
@@ -124,7 +124,7 @@ impl<A: Allocator> Name<A> {
         }
     }
 
-    /// Whether two names are the same, whichever allocators hold them. It takes no memory.
+    /// Checks whether two names are the same, whichever allocators hold them. It takes no memory.
     pub fn same<B: Allocator>(&self, other: &Name<B>) -> bool
         ensures { IsTrue result ↔ (self.now ≡ other.now) }
     {
@@ -138,7 +138,7 @@ impl<A: Allocator> Name<A> {
         self.bytes().cmp(other.bytes())
     }
 
-    /// The same name under another allocator. The error is that memory was refused.
+    /// The same name under another allocator. The error is that memory ran out.
     pub fn copy_in<B: Allocator>(&self, alloc: B) -> Result<Name<B>, AllocError>
         ensures { IfOk result (λ n. n ≡ self.now) }
     {

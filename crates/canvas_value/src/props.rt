@@ -5,7 +5,7 @@ ghost use Rattle.canvas_value.specs.Props.{IsProp};
 use crate::{Name, Value};
 use std::alloc::{AllocError, Allocator};
 
-/// The same properties under another allocator. The error is that memory was refused.
+/// The same properties under another allocator. The error is that memory ran out.
 pub fn copy_props<A: Allocator, B: Allocator + Copy>(
     alloc: B,
     props: &[(Name<A>, Value<A>)],
@@ -31,7 +31,7 @@ fn copy_prop<A: Allocator, B: Allocator + Copy>(
     Ok((name, value))
 }
 
-/// Whether the properties are the same, in the same order. It takes no memory.
+/// Checks whether the properties are the same, in the same order. It takes no memory.
 pub fn same_props<A: Allocator, B: Allocator>(
     props: &[(Name<A>, Value<A>)],
     others: &[(Name<B>, Value<B>)],
@@ -49,7 +49,7 @@ pub fn same_props<A: Allocator, B: Allocator>(
     true
 }
 
-// Whether two properties are the same.
+// Checks whether two properties are the same.
 fn same_prop<A: Allocator, B: Allocator>(
     prop: &(Name<A>, Value<A>),
     other: &(Name<B>, Value<B>),
@@ -59,7 +59,7 @@ fn same_prop<A: Allocator, B: Allocator>(
     prop.0.same(&other.0) && prop.1.same(&other.1)
 }
 
-/// The same value under another allocator, or none again. The error is that memory was refused.
+/// The same value under another allocator, or none again. The error is that memory ran out.
 pub fn copy_value<A: Allocator, B: Allocator + Copy>(
     alloc: B,
     value: &Option<Value<A>>,
@@ -69,7 +69,7 @@ pub fn copy_value<A: Allocator, B: Allocator + Copy>(
     value.as_ref().map(|value| value.copy_in(alloc)).transpose()
 }
 
-/// Whether the two are the same value, or both none. It takes no memory.
+/// Checks whether the two are the same value, or both none. It takes no memory.
 pub fn same_value<A: Allocator, B: Allocator>(
     value: &Option<Value<A>>,
     other: &Option<Value<B>>,

@@ -40,7 +40,7 @@ impl Drop for Notes {
 }
 
 impl Notes {
-    /// Nothing is noted yet. Fails only where memory is refused.
+    /// Nothing is noted yet. Errors: out of memory.
     pub(crate) fn new(alloc: Global) -> Result<Notes, AllocError> {
         let cells = Cells {
             failed_code: AtomicU64::new(0),
@@ -55,7 +55,7 @@ impl Notes {
         })
     }
 
-    /// The same notes, for another thread. Fails only where memory is refused.
+    /// The same notes, for another thread. Errors: out of memory.
     pub fn share(&self) -> Result<Notes, AllocError> {
         Ok(Notes {
             cells: Arc::try_clone(&self.cells)?,

@@ -22,7 +22,7 @@ struct Summing {
 /// The witness that writes the sums of each segment that it saw made: for segment 7 of a folder the file `segment-0000000007.sum`, of
 /// which each sync writes a line (`RunningSum::line`). A retired segment's file is removed.
 ///
-/// Nothing is synced, and no failure is told. Where a line can't be written, or only in part, no further line of that segment is: so what
+/// Nothing is synced, and no failure is told. If a line can't be written, or only in part, no further line of that segment is: so what
 /// stands there are always the lines of its first syncs, and a part of one more.
 pub struct SumFiles<R: Files<File = File> + AllocGlobal + Drop> {
     files: R,
@@ -101,7 +101,7 @@ fn make_file<R: Files<File = File> + AllocGlobal>(
 }
 
 impl<R: Files<File = File> + AllocGlobal + Drop> SumFiles<R> {
-    /// A witness of the segments of this folder. Fails only where memory is refused.
+    /// A witness of the segments of this folder. Errors: out of memory.
     pub fn new(files: R, dir: &str) -> Result<Self, AllocError> {
         let dir = String::from_str(files.alloc(), dir)?;
         Ok(SumFiles {

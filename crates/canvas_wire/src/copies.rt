@@ -29,7 +29,7 @@ pub(crate) fn encode_copy<A: Allocator>(
     Ok(text.into_bytes())
 }
 
-/// The JSON text of a document's rows, as it stands in each copy of that document. The error is that memory was refused. The JSON tree of
+/// The JSON text of a document's rows, as it stands in each copy of that document. The error is that memory ran out. The JSON tree of
 /// one row at a time stands in memory beside it.
 pub fn encode_rows<A: Allocator>(alloc: Global, doc: &Doc<A>) -> Result<Vec<u8>, AllocError>
     ensures { IfOk result (λ b. EncodesRows b.items doc.now) }
@@ -41,7 +41,7 @@ pub fn encode_rows<A: Allocator>(alloc: Global, doc: &Doc<A>) -> Result<Vec<u8>,
 }
 
 /// The JSON text of the copy of a document at this version, for a client of which so many edits were judged by then, round the text of its
-/// rows, which [`encode_rows`] wrote. The error is that memory was refused.
+/// rows, which [`encode_rows`] wrote. The error is that memory ran out.
 pub fn encode_copy_of(
     alloc: Global,
     version: u64,
@@ -66,7 +66,7 @@ fn copy_start(alloc: Global, version: u64, done: u64) -> Result<String, AllocErr
     format!(in alloc; "[\"copy\",{version},{done},")
 }
 
-// Adds the JSON text of the document's rows. Where memory is refused, `text` may have grown.
+// Adds the JSON text of the document's rows. If memory runs out, `text` may have grown.
 fn push_rows<A: Allocator>(alloc: Global, doc: &Doc<A>, text: &mut String) -> Result<(), AllocError>
     ensures { OnOk result (string_bytes text.new
         ≡ string_bytes text.old ++ compact_text (rows_form.write (map.entries doc.now))) }

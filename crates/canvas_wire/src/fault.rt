@@ -25,7 +25,7 @@ pub enum WireError {
     /// All else fits, and a value has lists more than 16 deep.
     #[error("a value has lists more than 16 deep")]
     TooDeep,
-    /// Memory was refused.
+    /// Memory ran out.
     #[error("out of memory")]
     Memory,
 }

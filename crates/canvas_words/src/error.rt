@@ -8,7 +8,7 @@ use thiserror::Error;
 pub enum WordsError {
     /// They are no command, or ask for its help or version.
     Line(clap::Error),
-    /// They are a command, of which a word isn't as it has to be; or memory was refused.
+    /// They are a command, of which a word isn't as it has to be; or memory ran out.
     Word(WordError),
 }
 
@@ -24,7 +24,7 @@ pub enum WordError {
     /// The name of a document in an etcd isn't 1 to 64 letters, digits, `-`, `.` and `_`.
     #[error("no name of a document")]
     NotAName,
-    /// Memory was refused.
+    /// Memory ran out.
     #[error("out of memory")]
     Memory,
 }

@@ -79,7 +79,7 @@ impl<A: Allocator> World<A> {
 }
 
 impl<A: Allocator + Copy> World<A> {
-    /// The empty world. Fails only where memory is refused.
+    /// The empty world. Errors: out of memory.
     pub fn new(alloc: A) -> Result<Self, AllocError>
         ensures { IfOk result (λ w. w ≡ empty) }
     {
@@ -87,7 +87,7 @@ impl<A: Allocator + Copy> World<A> {
         Ok(World { network })
     }
 
-    /// Plays one event. Where memory is refused, nothing has changed.
+    /// Plays one event. If memory runs out, nothing has changed.
     pub fn step(&mut self, event: &Event<A>) -> Result<Answer, AllocError>
         ensures step { IfOk result (λ answer. Step self.old event.now (seen_answer answer) self.new) }
         ensures err { OnErr result (self.new ≡ self.old) }
@@ -163,7 +163,7 @@ impl<A: Allocator + Copy> World<A> {
         (done, None)
     }
 
-    /// Plays events in order from the empty world, until all are played or one is refused memory. Fails only where the empty world
+    /// Plays events in order from the empty world, until all are played or one is refused memory. Fails only if the empty world
     /// is refused memory.
     pub fn play(alloc: A, events: &[Event<A>]) -> Result<Played<A>, AllocError>
         ensures run { IfOk result (λ p. Run empty (take p.done events.now) p.world) }

@@ -113,7 +113,7 @@ pub(crate) fn append(files: &mut [Held], name: &[u8], bytes: &[u8]) -> Result<()
     Ok(())
 }
 
-// Makes certain of the bytes of a file that stands.
+// Makes sure of the bytes of a file that stands.
 pub(crate) fn sync(alloc: Global, files: &mut [Held], name: &[u8]) -> Result<(), AllocError>
     requires { stands name.now (held_files files.old) ≡ true }
     ensures ok { OnOk result (held_files files.new ≡ changed name.now as_synced (held_files files.old)) }
@@ -136,7 +136,7 @@ pub(crate) fn remove(files: &mut [Held], name: &[u8])
     file.sure = false;
 }
 
-// Makes certain of which names stand.
+// Makes sure of which names stand.
 pub(crate) fn make_sure(files: &mut [Held])
     ensures { held_files files.new ≡ map as_sure (held_files files.old) }
 {

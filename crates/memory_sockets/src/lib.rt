@@ -16,7 +16,7 @@ pub fn socket(alloc: Global, bytes: &[u8], role: Role) -> MemorySocket<'_> {
     WebSocket::from_raw_socket(alloc, stream, NoMask, role, None)
 }
 
-/// The bytes by which a socket of that role sends each of these lines as a binary message. Fails where memory is refused.
+/// The bytes by which a socket of that role sends each of these lines as a binary message. Fails if memory runs out.
 pub fn sent(alloc: Global, lines: &str, role: Role) -> Result<Vec<u8>, Error> {
     let mut sender = socket(alloc, &[], role);
     for line in lines.lines() {
@@ -25,7 +25,7 @@ pub fn sent(alloc: Global, lines: &str, role: Role) -> Result<Vec<u8>, Error> {
     Ok(sender.into_inner().writer)
 }
 
-/// The binary messages that a client reads in these bytes, each with a line feed. Fails where memory is refused.
+/// The binary messages that a client reads in these bytes, each with a line feed. Fails if memory runs out.
 pub fn heard(alloc: Global, bytes: &[u8]) -> Result<Vec<u8>, AllocError> {
     let mut client = socket(alloc, bytes, Role::Client);
     let mut lines = Vec::new(alloc);

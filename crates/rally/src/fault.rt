@@ -29,7 +29,7 @@ fn tell_usage<F: Write>(faults: &mut F) -> u8
     }
 }
 
-/// The fault by which a node's error ends the program: want of memory, or else a device that failed.
+/// The fault by which a node's error ends the program: out of memory, or else a device that failed.
 pub(crate) fn fault_of(error: SubmitError) -> Fault
     ensures { IsMemoryOrDevice result }
 {

@@ -38,7 +38,7 @@ impl Plan for Page {
     }
 }
 
-// A request that sets the property of an object to this number. Fails only where memory is refused.
+// A request that sets the property of an object to this number. Errors: out of memory.
 fn set(alloc: Global, id: ObjId, n: u32) -> Result<EditRequest, AllocError>
     ensures { IfOk result (IsSetOf id) }
 {

@@ -25,7 +25,7 @@ use std::thread::Threads;
 ///
 /// The errors: `Device`, where the folder or the output failed, or the room refused an edit; `Damaged`, `TooLarge` and `Memory`, as
 /// `canvas_daemon::serve` answers them; `Usage`, only for fewer clients than 1 or more than 64. With an error other than `Device`
-/// nothing was written. Where no thread can be made, the clients edit one after the other.
+/// nothing was written. If no thread can be made, the clients edit one after the other.
 pub fn rally<R, W>(
     rt: &R,
     files: HostRuntime,
@@ -56,7 +56,7 @@ fn rally_line(alloc: Global, version: u64, equal: bool) -> Result<String, AllocE
     format!(in alloc; "rally version {version} equal {word}\n")
 }
 
-// Whether the clients agree, in a word.
+// Checks whether the clients agree, in a word.
 fn equal_word(equal: bool) -> &'static str
     ensures { result.now ≡ equal_word equal }
 {
@@ -99,7 +99,7 @@ where
     }
 }
 
-// This plan for so many nodes. Fails only where memory is refused.
+// This plan for so many nodes. Errors: out of memory.
 fn plans_of(alloc: Global, page: Page, count: usize) -> Result<Vec<Page>, AllocError>
     ensures count { IfOk result (λ plans. length plans.items ≡ count) }
     ensures each { IfOk result (λ plans. All (λ plan. plan ≡ page) plans.items) }
@@ -121,7 +121,7 @@ fn compared(clients: &[Client]) -> (u64, bool)
     }
 }
 
-// Whether each of these clients is at the version of this one, shows the same document, and waits for nothing.
+// Checks whether each of these clients is at the version of this one, shows the same document, and waits for nothing.
 fn agree_with(first: &Client, clients: &[Client]) -> bool
     ensures { IsTrue result ↔ All (AgreeWith first.now) clients.now }
 {
@@ -133,7 +133,7 @@ fn agree_with(first: &Client, clients: &[Client]) -> bool
     true
 }
 
-// Whether a client is at the version of this one, shows the same document, and waits for nothing.
+// Checks whether a client is at the version of this one, shows the same document, and waits for nothing.
 fn agrees_with(first: &Client, client: &Client) -> bool
     ensures { IsTrue result ↔ AgreeWith first.now client.now }
 {

@@ -35,7 +35,7 @@ where
     }
 }
 
-// Does what the words ask for. Answers whether the clients agree.
+// Does what the words ask for. Returns whether the clients agree.
 fn perform<R, W>(
     rt: &R,
     files: HostRuntime,
