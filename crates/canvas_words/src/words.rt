@@ -15,7 +15,7 @@ use std::alloc::{AllocError, Global};
 /// What the words ask for, of which the first is the program's name.
 ///
 /// The errors: `Line` is `clap`'s: it has the text to print, which for `--help` and `--version` is no fault, and the program's status;
-/// `Word`, where an origin, a URL or a name isn't as it has to be, or memory was refused.
+/// `Word`, where an origin, a URL or a name isn't as it has to be, or memory ran out.
 pub fn read_words<'a>(alloc: Global, words: &'a [String]) -> Result<Asked, WordsError>
     ensures { IfOk result AsksForOrigins }
 {
@@ -99,7 +99,7 @@ fn layout_of(matches: &ArgMatches<'_>) -> Option<Layout> {
 fn program<'a>(alloc: Global) -> Result<Command<'a>, AllocError> {
     let program = Command::new(alloc, "lugcurrant")
         .version("0.1.0")
-        .about("Serves a document that many people edit at once, also offline")
+        .about("Multiplayer document server: many clients edit one document, online and offline")
         .subcommand_required(true)
         .arg_required_else_help(true);
     let program = with_command(Ok(program), serve_command(alloc));
@@ -198,7 +198,7 @@ fn folder_or_members<'a>(alloc: Global) -> Result<ArgGroup<'a>, AllocError> {
 
 // The members of an etcd, as an argument.
 fn members<'a>(alloc: Global) -> Result<Arg<'a>, AllocError> {
-    let help = "The members of the etcd that holds the document, as http://127.0.0.1:2379";
+    let help = "etcd members, comma-separated, e.g. http://127.0.0.1:2379";
     option(alloc, "etcd", "URL,..", help)
         .action(ArgAction::Append)
         .value_delimiter(',')
@@ -207,7 +207,7 @@ fn members<'a>(alloc: Global) -> Result<Arg<'a>, AllocError> {
 
 // The name of a document in an etcd, as an argument.
 fn document_name<'a>(alloc: Global) -> Result<Arg<'a>, AllocError> {
-    let help = "The document's name there: 1 to 64 letters, digits, -, . and _";
+    let help = "Name of the document in etcd: 1 to 64 letters, digits, '-', '.', '_'";
     option(alloc, "document", "NAME", help).requires_arg("etcd")
 }
 
@@ -219,29 +219,28 @@ fn name_without_folder<'a>(alloc: Global) -> Result<Arg<'a>, AllocError> {
 // The words of `serve`.
 fn serve_command<'a>(alloc: Global) -> Result<Command<'a>, AllocError> {
     let serve = Command::new(alloc, "serve").about(
-        "Serves a document until it is killed, which is safe at any moment",
+        "Serve a document (stop it with Ctrl-C or kill; safe at any moment)",
     );
-    let serve = with_place(alloc, serve, "The folder of the document");
+    let serve = with_place(alloc, serve, "Folder that holds the document");
     let serve = with_arg(serve, standby(alloc));
     let serve = with_limits(alloc, serve);
     let serve = with_arg(serve, Ok(origin(alloc)));
     let serve = with_arg(serve, Ok(page(alloc)));
     let serve = with_arg(serve, accept_loss(alloc));
-    with_arg(serve, Ok(flag(alloc, "quiet", "Tell of faults alone")))
+    with_arg(serve, Ok(flag(alloc, "quiet", "Log errors only")))
 }
 
-// Whether a document in an etcd is waited for, as an argument.
+// Checks whether a document in an etcd is waited for, as an argument.
 fn standby<'a>(alloc: Global) -> Result<Arg<'a>, AllocError> {
-    let help = "Where another server has the document, wait until it hasn't";
+    let help = "Wait while another server has the document, then take over";
     flag(alloc, "standby", help)
         .requires_arg("etcd")?
         .conflicts_with("dir")
 }
 
-// Whether a folder is opened although that loses something, as an argument.
+// Checks whether a folder is opened although that loses something, as an argument.
 fn accept_loss<'a>(alloc: Global) -> Result<Arg<'a>, AllocError> {
-    let help =
-        "Open a folder that has lost something, once its segments are copied to its folder lost";
+    let help = "Open a folder that has lost data, after copying its segments to DIR/lost";
     flag(alloc, "accept-loss", help).conflicts_with("etcd")
 }
 
@@ -258,25 +257,25 @@ fn with_limits<'a>(
 
 // The port, as an argument.
 fn port<'a>(alloc: Global) -> Arg<'a> {
-    let help = "The port of this machine, or 0 for any free one";
+    let help = "Port to listen on (127.0.0.1 only); 0 picks a free one";
     number(alloc, "port", "PORT", "7411", help).value_parser(value_parser!(u16))
 }
 
 // The most clients, as an argument.
 fn clients<'a>(alloc: Global) -> Arg<'a> {
-    let help = "How many clients are served at once";
+    let help = "Maximum number of connected clients, 1 to 64";
     number(alloc, "clients", "N", "64", help).value_parser(value_parser!(u32).range(1..65))
 }
 
 // The longest silence, as an argument.
 fn idle<'a>(alloc: Global) -> Arg<'a> {
-    let help = "After how much silence a connection ends";
+    let help = "Close a connection after this many seconds without traffic";
     number(alloc, "idle", "SECONDS", "300", help).value_parser(value_parser!(u64).range(1..86_401))
 }
 
 // The longest edit, as an argument.
 fn message_bytes<'a>(alloc: Global) -> Arg<'a> {
-    let help = "The most bytes of an edit";
+    let help = "Maximum size of an edit, in bytes";
     number(alloc, "message-bytes", "BYTES", "1048576", help).value_parser(value_parser!(u32).range(
         1_024..67_108_865,
     ))
@@ -295,8 +294,7 @@ fn number<'a>(
 
 // Whose pages may connect, as an argument.
 fn origin<'a>(alloc: Global) -> Arg<'a> {
-    let help =
-        "An origin whose pages may connect, beside the server's own; may be given several times";
+    let help = "Also accept browser pages from this origin (repeatable)";
     option(alloc, "origin", "ORIGIN", help).action(ArgAction::Append)
 }
 
@@ -306,67 +304,67 @@ fn page<'a>(alloc: Global) -> Arg<'a> {
         alloc,
         "page",
         "FOLDER",
-        "The folder of a page to serve at /",
+        "Serve the web page in this folder at /",
     )
 }
 
 // The words of `show`.
 fn show_command<'a>(alloc: Global) -> Result<Command<'a>, AllocError> {
     let show = Command::new(alloc, "show").about(
-        "Writes a document as text; a server may have it meanwhile",
+        "Print a document (works while a server is running)",
     );
-    let show = with_place(alloc, show, "The folder of the document");
-    let help = "Write its objects as one JSON array, a row for each";
+    let show = with_place(alloc, show, "Folder that holds the document");
+    let help = "Print the objects as one JSON array, one row per object";
     let show = with_arg(show, Ok(flag(alloc, "json", help)));
     with_arg(show, lines(alloc))
 }
 
-// Whether a document's rows are shown in lines, as an argument.
+// Checks whether a document's rows are shown in lines, as an argument.
 fn lines<'a>(alloc: Global) -> Result<Arg<'a>, AllocError> {
-    let help = "Write its objects as JSON, a row for each in a line of its own";
+    let help = "Print the objects as JSON, one row per line";
     flag(alloc, "lines", help).conflicts_with("json")
 }
 
 // The words of `import`.
 fn import_command<'a>(alloc: Global) -> Result<Command<'a>, AllocError> {
     let import = Command::new(alloc, "import").about(
-        "Makes a document of the rows on standard input, which are as show --json writes them",
+        "Create a document from rows on standard input, as printed by show --json or --lines",
     );
     with_place(
         alloc,
         import,
-        "The folder to be made; it may be there, but hold no document",
+        "Folder to create; if it exists, it must not hold a document",
     )
 }
 
 // The words of `restore`.
 fn restore_command<'a>(alloc: Global) -> Result<Command<'a>, AllocError> {
     Command::new(alloc, "restore")
-        .about("Makes a folder of a backup, with an identity of its own: clients begin anew there")
+        .about("Create a folder from a backup, with a new identity, so that clients start over")
         .arg(folder(
             alloc,
             "backup",
             "BACKUP",
-            "The folder of the backup, which stays as it is",
+            "Folder with the backup (not changed)",
         ))?
         .arg(folder(
             alloc,
             "dir",
             "DIR",
-            "The folder to be made; it may be there, but hold no document",
+            "Folder to create; if it exists, it must not hold a document",
         ))
 }
 
 // The words of `move`.
 fn move_command<'a>(alloc: Global) -> Result<Command<'a>, AllocError> {
     let moved = Command::new(alloc, "move").about(
-        "Moves the document in a folder into an etcd, with its identity, or back",
+        "Move a document, with its identity, from a folder to etcd or back",
     );
-    let dir = folder(alloc, "dir", "DIR", "The folder of the document");
+    let dir = folder(alloc, "dir", "DIR", "Folder that holds the document");
     let moved = with_arg(Ok(moved), Ok(dir));
     let moved = with_arg(moved, members(alloc));
     let moved = with_arg(moved, document_name(alloc));
-    let help = "Move it out of the etcd into the folder, which holds no document yet";
+    let help = "Move from etcd to the folder, which must not hold a document";
     let moved = with_arg(moved, Ok(flag(alloc, "back", help)));
     with_group(moved, required_members(alloc))
 }
@@ -380,17 +378,17 @@ fn required_members<'a>(alloc: Global) -> Result<ArgGroup<'a>, AllocError> {
 // The words of `check`.
 fn check_command<'a>(alloc: Global) -> Result<Command<'a>, AllocError> {
     let check = Command::new(alloc, "check").about(
-        "Tells what stands in a document's segments, and where they are damaged; writes nothing",
+        "Report what recovery would find, and any damage (read-only)",
     );
-    with_place(alloc, check, "The folder of the document")
+    with_place(alloc, check, "Folder that holds the document")
 }
 
 // The words of `log`.
 fn log_command<'a>(alloc: Global) -> Result<Command<'a>, AllocError> {
     let log = Command::new(alloc, "log").about(
-        "Writes the entries since the last checkpoint as JSON, one a line",
+        "Print the entries since the last checkpoint, one JSON text per line",
     );
-    with_place(alloc, log, "The folder of the document")
+    with_place(alloc, log, "Folder that holds the document")
 }
 
 // What `serve` is asked for.
