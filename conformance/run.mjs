@@ -66,7 +66,7 @@ async function play(module, lines) {
   return null;
 }
 
-const module = await compile(readFileSync(new URL('../clients/web/canvas.wasm', import.meta.url)));
+const module = await compile(readFileSync(new URL('../packages/js/canvas.wasm', import.meta.url)));
 let faults = 0;
 const names = process.argv.slice(2);
 for (const name of names) {

@@ -3,7 +3,7 @@ import { readFileSync } from 'node:fs';
 import { Client, ClientError, compile } from '../clients/web/lugcurrant.js';
 import { Server } from '../tests/web/server.mjs';
 
-const MODULE = new URL('../clients/web/canvas.wasm', import.meta.url);
+const MODULE = new URL('../packages/js/canvas.wasm', import.meta.url);
 let compiled = null;
 const newClient = async () => Client.load(compiled ??= await compile(readFileSync(MODULE)));
 

@@ -1,7 +1,7 @@
 #!/usr/bin/python3
 """run.py LUGCURRANT [RUNS] [EDITS] [--broken]: the C library, from C and from Python, against `lugcurrant serve`.
 
-LUGCURRANT is the built program; the library is what clients/c/build made, or that of LUGCURRANT_LIBRARY. Each group has a server and a
+LUGCURRANT is the built program; the library is what packages/c/build made, or that of LUGCURRANT_LIBRARY. Each group has a server and a
 folder of its own:
 
 - numbers: calls without a client, with a mark that is none, with no bytes, with bytes that aren't UTF-8, with numbers that are nothing's:
@@ -11,7 +11,7 @@ folder of its own:
 - places: 3,000 objects, one behind the other and one before the other; positions that are named.
 - shown: what is told to have changed, after random edits of two clients, is what differs in the tree.
 - kept: a client that is saved and loaded goes on as the same one, with what waits.
-- page: clients/c/page.c is compiled and run; what it prints is what `lugcurrant show` prints.
+- page: examples/c/page.c is compiled and run; what it prints is what `lugcurrant show` prints.
 - module: `python -m lugcurrant PORT` prints the tree.
 - together: RUNS (5) times 4 Python clients make EDITS (800) random edits, two of them away for a while, and the server is killed and started
   again in their midst. In the end each shows what `lugcurrant show` prints, and nothing waits.
@@ -365,8 +365,8 @@ async def settle(client, port):
 
 def page(room):
     """The C program."""
-    program, library_path = os.path.join(room, "page"), os.environ.get("LUGCURRANT_LIBRARY", str(TOP / "clients/c/liblugcurrant.so"))
-    subprocess.run(["cc", "-std=c11", "-Wall", "-Wextra", "-O2", "-o", program, str(TOP / "clients/c/page.c"), os.path.abspath(library_path), "-Wl,-rpath," + os.path.dirname(os.path.abspath(library_path))], check=True)
+    program, library_path = os.path.join(room, "page"), os.environ.get("LUGCURRANT_LIBRARY", str(TOP / "packages/c/liblugcurrant.so"))
+    subprocess.run(["cc", "-std=c11", "-Wall", "-Wextra", "-O2", "-o", program, str(TOP / "examples/c/page.c"), os.path.abspath(library_path), "-Wl,-rpath," + os.path.dirname(os.path.abspath(library_path))], check=True)
     server = Server(os.path.join(room, "page-folder"))
     texts = [subprocess.run([program, str(server.port)], capture_output=True, text=True, check=True, timeout=60).stdout for _ in range(2)]
     server.kill()

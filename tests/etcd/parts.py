@@ -11,7 +11,7 @@ import time
 from pathlib import Path
 
 TOP = Path(__file__).resolve().parents[2]
-sys.path[:0] = [str(TOP / "tests"), str(TOP / "clients")]
+sys.path[:0] = [str(TOP / "tests"), str(TOP / "examples" / "plain")]
 
 import merging  # noqa: E402
 import shared  # noqa: E402

@@ -53,7 +53,7 @@ const [objects = '10000', program] = process.argv.slice(2);
 endAfter(300);
 const page = fileURLToPath(new URL('../../clients/web/', import.meta.url));
 console.log(`node ${process.version}`);
-for (const line of await bench(library, readFileSync(new URL('../../clients/web/canvas.wasm', import.meta.url)), Number(objects))) console.log(`  ${line}`);
+for (const line of await bench(library, readFileSync(new URL('../../packages/js/canvas.wasm', import.meta.url)), Number(objects))) console.log(`  ${line}`);
 if (program) {
   const server = await Server.start(program, { page }), browser = await Browser.start();
   try {

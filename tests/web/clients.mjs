@@ -28,7 +28,7 @@ function breakClient(client) {
 }
 
 const server = await Server.start(program);
-const module = await compile(readFileSync(new URL('../../clients/web/canvas.wasm', import.meta.url)));
+const module = await compile(readFileSync(new URL('../../packages/js/canvas.wasm', import.meta.url)));
 const refusals = { here: {}, there: {} };
 const clients = [];
 for (let k = 0; k < CLIENTS; k++) {

@@ -7,7 +7,7 @@ import { Client, Colour, ROOT, compile, readValue, valueText } from '../../clien
 import { endAfter } from './server.mjs';
 
 endAfter(120);
-const module = await compile(readFileSync(new URL('../../clients/web/canvas.wasm', import.meta.url)));
+const module = await compile(readFileSync(new URL('../../packages/js/canvas.wasm', import.meta.url)));
 const code = (act) => { try { act(); return null; } catch (fault) { return fault.code ?? fault.name; } };
 const joined = async () => { const client = await Client.load(module); client.receive('["welcome",7]'); return client; };
 const text = (bytes) => new TextDecoder().decode(bytes);

@@ -11,7 +11,7 @@ import { Server, endAfter } from './server.mjs';
 import { until } from './devtools.mjs';
 
 endAfter(200);
-const module = await compile(readFileSync(new URL('../../clients/web/canvas.wasm', import.meta.url)));
+const module = await compile(readFileSync(new URL('../../packages/js/canvas.wasm', import.meta.url)));
 const server = await Server.start(process.argv[2], { words: ['--clients', '2'] });
 const folder = join(server.folder, 'canvas'), kept = join(server.folder, 'kept');
 const link = async (options = {}) => new Link(await Client.load(module), server.url, {}, { retry: 50, mostRetry: 400, ...options });

@@ -1,7 +1,7 @@
 #!/usr/bin/env node
 // The whiteboard page in a headless Chromium: every gesture, two windows side by side, one offline and back, the server killed and started anew:
 //     node --experimental-websocket page.mjs LUGCURRANT [PICTURES] [--break]
-// With LUGCURRANT_LIBRARY (clients/c/build) set, a Python program edits beside the two windows.
+// With LUGCURRANT_LIBRARY (packages/c/build) set, a Python program edits beside the two windows.
 // PICTURES is a folder for screenshots. With --break the first window's client hears other values than the server told: then it has to fail.
 import { spawn } from 'node:child_process';
 import { cpSync, mkdirSync, mkdtempSync, readFileSync, rmSync, writeFileSync } from 'node:fs';

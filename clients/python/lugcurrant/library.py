@@ -1,4 +1,4 @@
-"""The calls of `liblugcurrant.so`. `clients/c/lugcurrant.h` says what each does, and what the numbers mean."""
+"""The calls of `liblugcurrant.so`. `packages/c/include/lugcurrant.h` says what each does, and what the numbers mean."""
 
 import ctypes
 import os

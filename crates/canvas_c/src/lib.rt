@@ -1,7 +1,7 @@
 //! The client for programs in C and in whatever calls C: a handle that they hold, and a call for each thing that it does.
 //!
-//! `clients/c/lugcurrant.h` declares these calls, and says what each number means. No call can be made to fail: whatever the handle's
-//! mark, the bytes and the numbers are, it answers, and its contract says what then holds.
+//! `packages/c/include/lugcurrant.h` declares these calls, and says what each number means. No call can be made to fail: whatever the
+//! handle's mark, the bytes and the numbers are, it answers, and its contract says what then holds.
 #![tactic(auto)]
 
 ghost use Rattle.std.specs.Prelude.{◌≡◌, IfErr, IfOk, length};

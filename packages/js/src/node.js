@@ -12,7 +12,7 @@ let compiled = null;
 Client.defaultModule = () => {
   compiled ??= readFile(MODULE).then((bytes) => WebAssembly.compile(bytes), () => {
     compiled = null;
-    throw new Error(`the module canvas.wasm is not in the package (${MODULE.pathname}): clients/wasm/build makes it, and packages/js/build puts it there`);
+    throw new Error(`the module canvas.wasm is not in the package (${MODULE.pathname}): packages/wasm/build makes it, and packages/js/build puts it there`);
   });
   return compiled;
 };

@@ -7,7 +7,7 @@ from typing import Any
 
 from ._api import CALLS, FAULTS, Handle
 
-BUILD = "clients/c/build --unproved makes it, and packages/python/build a wheel with it; or name it in the variable LUGCURRANT_LIBRARY"
+BUILD = "packages/c/build --unproved makes it, and packages/python/build a wheel with it; or name it in the variable LUGCURRANT_LIBRARY"
 
 
 class LibraryMissing(ImportError):
@@ -51,12 +51,12 @@ _library: Library | None = None
 
 
 def places() -> list[Path]:
-    """Where the library is looked for: in the variable LUGCURRANT_LIBRARY alone where that is set, beside the package, in `clients/c`."""
+    """Where the library is looked for: in the variable LUGCURRANT_LIBRARY alone where that is set, beside the package, in `packages/c`."""
     named = os.environ.get("LUGCURRANT_LIBRARY")
     if named:
         return [Path(named)]
     here = Path(__file__).resolve().parent
-    built = [above / "clients" / "c" / "liblugcurrant.so" for above in here.parents if (above / "crates").is_dir()]
+    built = [above / "packages" / "c" / "liblugcurrant.so" for above in here.parents if (above / "crates").is_dir()]
     return [here / "liblugcurrant.so", *built]
 
 
