@@ -15,6 +15,7 @@ import sys
 import tempfile
 import time
 
+FIGURES = os.path.join(os.path.dirname(os.path.dirname(os.path.abspath(__file__))), "tools", "figures")
 LAST = {"welcome", "idle", "no"}
 RUNNING = []  # the processes that a group has started
 GIVEN = set()  # the ports that were given
@@ -27,6 +28,11 @@ class Wrong(Exception):
 def require(holds, *words):
     if not holds:
         raise Wrong(" ".join(str(word) for word in words))
+
+
+def record(name, **figures):
+    """Puts a result into the file that LUGCURRANT_RESULTS names, for the figures of pages; nothing without that variable."""
+    subprocess.run([FIGURES, "--record", name, *(f"{key}={value}" for key, value in figures.items())], check=True)
 
 
 class Client:

@@ -12,10 +12,12 @@ import subprocess
 import sys
 import tempfile
 import threading
+from pathlib import Path
 
 import websockets
 
 PORT = 7433
+FIGURES = Path(__file__).resolve().parents[2] / "tools" / "figures"
 
 
 async def ask(socket, message):
@@ -64,6 +66,8 @@ def main():
         server.wait()
         lost |= acknowledged - shown(canvasd, folder)
     print(f"{times} kills, {sent} edits sent, {len(acknowledged)} answered by idle, {len(lost)} lost")
+    figures = [f"kills={times}", f"answered={len(acknowledged)}", f"lost={len(lost)}"]
+    subprocess.run([FIGURES, "--record", f"kills with {clients}", *figures], check=True)
     shutil.rmtree(folder)
     sys.exit(1 if lost else 0)
 

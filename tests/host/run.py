@@ -50,7 +50,7 @@ from pathlib import Path
 sys.path.insert(0, str(Path(__file__).resolve().parents[1]))
 
 import shared  # noqa: E402
-from shared import Client, Wrong, draw, framed, numbers_and_names, page, read_answer, require, text_of, try_groups  # noqa: E402
+from shared import Client, Wrong, draw, framed, numbers_and_names, page, read_answer, record, require, text_of, try_groups  # noqa: E402
 
 PROGRAM = os.path.abspath(sys.argv[1])
 NUMBERS, NAMES = numbers_and_names(sys.argv[2:])
@@ -250,6 +250,7 @@ def kills(room):
     answered = [name for mine in kept for name in mine]
     lost = [name for name in answered if name not in tree]
     require(len(answered) > 16 and not lost, len(lost), "of", len(answered), "answered edits are lost")
+    record("host kills", kills=KILLS, answered=len(answered), lost=len(lost))
     return f"{KILLS} kills, {len(answered)} answered edits, 0 lost"
 
 
