@@ -298,9 +298,10 @@ export class Link extends EventTarget {
 
   #caughtUp() {
     this.#ready.resolve(this);
-    if (!this.#flow.isSettled || this.#isSettled) return;
-    this.#isSettled = true;
+    if (!this.#flow.isSettled) return;
     for (const waiter of this.#settling.splice(0)) waiter.resolve();
+    if (this.#isSettled) return;            // the event comes once for each time that something waited
+    this.#isSettled = true;
     this.#fire('settled', this);
   }
 }
