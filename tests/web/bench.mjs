@@ -2,9 +2,10 @@
 // How fast the client of the WebAssembly module is, in node and, where a server's program is given, in Chromium:
 //     node --experimental-websocket bench.mjs [OBJECTS [LUGCURRANT]]
 // Seconds are the processor's in node, so that other programs beside it count little, and the clock's in Chromium.
+import { execFileSync } from 'node:child_process';
 import { readFileSync } from 'node:fs';
 import { fileURLToPath } from 'node:url';
-import * as library from '../../clients/web/lugcurrant.js';
+import * as library from '../../packages/js/src/node.js';
 import { Browser, until } from './devtools.mjs';
 import { Server, endAfter } from './server.mjs';
 
@@ -51,10 +52,11 @@ async function bench({ Client, compile }, source, n) {
 
 const [objects = '10000', program] = process.argv.slice(2);
 endAfter(300);
-const page = fileURLToPath(new URL('../../clients/web/', import.meta.url));
+const page = fileURLToPath(new URL('../../examples/whiteboard/', import.meta.url));
 console.log(`node ${process.version}`);
 for (const line of await bench(library, readFileSync(new URL('../../packages/js/canvas.wasm', import.meta.url)), Number(objects))) console.log(`  ${line}`);
 if (program) {
+  execFileSync(`${page}build`, { stdio: 'ignore' });
   const server = await Server.start(program, { page }), browser = await Browser.start();
   try {
     const window = await browser.open(`http://127.0.0.1:${server.port}/`);

@@ -4,7 +4,7 @@
 //     node --experimental-websocket clients.mjs LUGCURRANT [EDITS [SEED]] [--break]
 // With --break one client hears other values than the server told, so that the comparison has to fail.
 import { readFileSync } from 'node:fs';
-import { Client, ClientError, Link, ROOT, compile } from '../../clients/web/lugcurrant.js';
+import { Client, ClientError, Link, ROOT, compile } from '../../packages/js/src/node.js';
 import { Server, endAfter } from './server.mjs';
 
 const CLIENTS = 6, KILLS = 3;
@@ -34,7 +34,7 @@ const clients = [];
 for (let k = 0; k < CLIENTS; k++) {
   const client = await Client.load(module);
   if (isBroken && k === 0) breakClient(client);
-  clients.push({ client, link: new Link(client, server.url, { refused: ({ name }) => count(refusals.there, name) }, { mostRetry: 500 }) });
+  clients.push({ client, link: new Link(client, server.url, { refused: ({ name }) => count(refusals.there, name), mostRetry: 500 }) });
 }
 while (clients.some(({ client }) => !client.id)) await sleep(20);
 
@@ -56,7 +56,6 @@ const made = { edits: 0, away: 0, kills: 0 };
 for (let k = 1; k <= Number(edits); k++) {
   const one = any(clients);
   edit(one);
-  one.link.wake();
   if (below(25) === 0) { one.link.offline = !one.link.offline; count(made, 'away'); }
   if (below(10) === 0) await sleep(below(20));
   if (k % Math.ceil(Number(edits) / (KILLS + 1)) === 0 && made.kills < KILLS) { await server.restart(); count(made, 'kills'); }
@@ -66,22 +65,17 @@ for (const { link } of clients) link.offline = false;
 // An edit that the server has to refuse: what it is to stand in is deleted while its client is away.
 async function conflict(one, other) {
   const page = one.client.create('page', ROOT);
-  one.link.wake();
   while (!other.client.objects().has(page)) await sleep(20);
   one.link.offline = true;
   one.client.create('frame', page);
   other.client.delete(page);
-  other.link.wake();
   while (other.client.waiting) await sleep(20);
   one.link.offline = false;
 }
 await conflict(clients[1], clients[2]);
 
 // Each sets a value on a page of its own, so that whoever hears other values shows them in the end.
-for (const [k, { client, link }] of clients.entries()) {
-  client.set(client.create('page', ROOT), 'x', 1000 + k);
-  link.wake();
-}
+for (const [k, { client }] of clients.entries()) client.set(client.create('page', ROOT), 'x', 1000 + k);
 
 let shown = server.show();
 const isSettled = () => clients.every(({ client }) => client.version === shown.version && client.waiting === 0);

@@ -56,12 +56,14 @@ export class Window {
   }
 
   constructor(socket) {
-    Object.assign(this, { socket, calls: 0, waiters: new Map(), faults: [] });
+    Object.assign(this, { socket, calls: 0, waiters: new Map(), faults: [], dialogs: [] });
     socket.onmessage = ({ data }) => this.hear(JSON.parse(data));
   }
 
   hear({ id, result, error, method, params }) {
     if (id) { const { resolve, reject } = this.waiters.get(id); this.waiters.delete(id); return error ? reject(new Error(error.message)) : resolve(result); }
+    // A page that asks before it is left: the test leaves it.
+    if (method === 'Page.javascriptDialogOpening') { this.dialogs.push(params.type); this.call('Page.handleJavaScriptDialog', { accept: true }).catch(() => {}); }
     if (method === 'Runtime.exceptionThrown') this.faults.push(params.exceptionDetails.exception?.description ?? params.exceptionDetails.text);
     if (method === 'Log.entryAdded' && params.entry.level === 'error' && params.entry.source !== 'network' && !params.entry.text.includes('net::ERR_CONNECTION_REFUSED')) this.faults.push(params.entry.text);
   }

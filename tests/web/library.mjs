@@ -1,9 +1,9 @@
 #!/usr/bin/env node
-// The calls of lugcurrant.js one by one: values, texts, sizes, faults:
+// The calls of the package's client one by one: values, texts, sizes, faults:
 //     node library.mjs
 import assert from 'node:assert';
 import { readFileSync } from 'node:fs';
-import { Client, Colour, ROOT, compile, readValue, valueText } from '../../clients/web/lugcurrant.js';
+import { Client, Colour, ROOT, compile, readValue, valueText } from '../../packages/js/src/node.js';
 import { endAfter } from './server.mjs';
 
 endAfter(120);

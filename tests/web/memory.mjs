@@ -3,7 +3,7 @@
 //     node memory.mjs SMALL.wasm
 import assert from 'node:assert';
 import { readFileSync } from 'node:fs';
-import { Client } from '../../clients/web/lugcurrant.js';
+import { Client } from '../../packages/js/src/node.js';
 import { endAfter } from './server.mjs';
 
 endAfter(120);

@@ -2,8 +2,8 @@
 // The whiteboard page in a headless Chromium: every gesture, two windows side by side, one offline and back, the server killed and started anew:
 //     node --experimental-websocket page.mjs LUGCURRANT [PICTURES] [--break]
 // With LUGCURRANT_LIBRARY (packages/c/build) set, a Python program edits beside the two windows.
-// PICTURES is a folder for screenshots. With --break the first window's client hears other values than the server told: then it has to fail.
-import { spawn } from 'node:child_process';
+// PICTURES is a folder for screenshots. With --break the windows' clients hear other places than the server sent: then it has to fail.
+import { execFileSync, spawn } from 'node:child_process';
 import { cpSync, mkdirSync, mkdtempSync, readFileSync, rmSync, writeFileSync } from 'node:fs';
 import { tmpdir } from 'node:os';
 import { join } from 'node:path';
@@ -15,13 +15,15 @@ const isBroken = process.argv.includes('--break');
 const [program, pictures] = process.argv.slice(2).filter((word) => !word.startsWith('--'));
 endAfter(300);
 
-const source = fileURLToPath(new URL('../../clients/web/', import.meta.url));
+const source = fileURLToPath(new URL('../../examples/whiteboard/', import.meta.url));
 const folder = mkdtempSync(join(tmpdir(), 'lugcurrant-page-'));
+execFileSync(join(source, 'build'), { stdio: 'ignore' });
 cpSync(source, folder, { recursive: true });
 if (isBroken) {
   const file = join(folder, 'lugcurrant.js'), text = readFileSync(file, 'utf8');
-  const broken = text.replace('receive(message) {', `receive(message) {
-    message = fromUtf8.decode(message).replace(/"at",\\["list",\\d+/, '"at",["list",1');`);
+  const broken = text.replace('  receive(message) {', `  receive(message) {
+    message = textOfBytes(message);
+    if (!message.includes(',[' + this.id + ',')) message = message.replace(/"at",\\["list",\\d+/, '"at",["list",1');`);
   if (broken === text) throw new Error('there is nothing to break');
   writeFileSync(file, broken);
 }
@@ -36,7 +38,7 @@ const picture = async (window, name) => pictures && window.picture(join(pictures
 // A Python program that edits as well, until it is told to end at this version or above.
 class Partner {
   constructor() {
-    const path = fileURLToPath(new URL('../../clients/python', import.meta.url));
+    const path = fileURLToPath(new URL('../../packages/python/src', import.meta.url));
     this.child = spawn('/usr/bin/python3', [fileURLToPath(new URL('partner.py', import.meta.url)), String(server.port)], { env: { ...process.env, PYTHONPATH: path }, stdio: ['pipe', 'pipe', 'inherit'] });
     process.on('exit', () => this.child.kill('SIGKILL'));
     this.said = new Promise((resolve) => { let text = ''; this.child.stdout.on('data', (data) => { text += data; }); this.child.stdout.on('end', () => resolve(text)); });
@@ -144,7 +146,7 @@ try {
   check('so does the field for colours', (await left.when(box.id, ({ properties }) => properties.fill.rgba === 0x336699ff)).properties.fill.rgba === 0x336699ff);
   await window.write('#x', '500');
   check('a number gives it a place', same((await left.when(box.id, ({ properties }) => properties.at[0] === 500)).properties.at, [500, 250]));
-  await window.js('document.getElementById("board").focus()');
+  await window.js('document.getElementById("stage").focus()');
   await window.key('ArrowRight');
   check('an arrow key moves it by one', same((await left.when(box.id, ({ properties }) => properties.at[0] === 501)).properties.at, [501, 250]));
 
@@ -154,7 +156,7 @@ try {
   await until(async () => !same(await children(left, box.parent), order));
   const back = await children(left, box.parent);
   check('a button brings it one to the back', back.indexOf(box.id) === order.indexOf(box.id) - 1, `${order} ${back}`);
-  await window.js('document.getElementById("board").focus()');
+  await window.js('document.getElementById("stage").focus()');
   await window.key(']');
   check('and a key to the front', await until(async () => same(await children(left, box.parent), order)));
 
@@ -182,7 +184,7 @@ try {
   await right.window.js(`lugcurrant.send(['set', '${round.id}', 'fill', { rgba: 0x7fb09aff }])`);
   await sleep(300);
   const offline = await right.state();
-  check('there its edits wait, and are counted', offline.waiting >= 7 && (await right.window.js("document.getElementById('waiting').textContent")) === `${offline.waiting} edits wait`, JSON.stringify(offline));
+  check('there its edits wait, and are counted', offline.unsent >= 7 && offline.waiting === offline.unsent && (await right.window.js("document.getElementById('waiting').textContent")) === `${offline.unsent} edits wait`, JSON.stringify(offline));
   await picture(right.window, 'offline');
   await window.call('Page.bringToFront');
   await left.window.js(`lugcurrant.send(['set', '${words.id}', 'text', 'Written meanwhile'])`);
@@ -201,7 +203,7 @@ try {
   check('what the server refuses is taken back, and said in words', await until(async () => (await right.said()).startsWith('Taken back: what it would stand in was deleted')) && await agree([left, right]), await right.said());
 
   await window.call('Page.bringToFront');
-  const press = await window.js(`(() => { const box = document.querySelector('[data-id="${round.id}"]').getBoundingClientRect(); return [box.x + box.width / 2, box.y + box.height / 2]; })()`);
+  const press = await window.js(`(() => { const box = document.querySelector('#stage [data-id="${round.id}"]').getBoundingClientRect(); return [box.x + box.width / 2, box.y + box.height / 2]; })()`);
   await window.press(press);
   for (let k = 1; k <= 10; k++) { await window.mouse('mouseMoved', [press[0] + 3 * k, press[1] + 2 * k]); if (k === 5) await server.kill(); }
   await window.release([press[0] + 30, press[1] + 20]);
@@ -212,7 +214,7 @@ try {
   await server.run(server.port);
   check('after its start all is there again, and the same', await until(async () => (await left.state()).state === 'online' && (await right.state()).state === 'online', 40) && await agree([left, right]) && (await right.objects()).some(({ id }) => id === alone.id));
 
-  await window.js('document.getElementById("board").focus()');
+  await window.js('document.getElementById("stage").focus()');
   await window.clickAt(on(600, 90));
   await window.key('Delete');
   check('a key deletes', await until(async () => !(await right.objects()).some(({ id }) => id === alone.id)));
@@ -221,7 +223,7 @@ try {
   const second = (await left.objects()).find(({ kind, properties }) => kind === 'page' && properties.name === 'Page 2');
   check('what is drawn then stands on it', (await left.draw('ellipse', on(200, 200), on(300, 300)))?.parent === second?.id);
   await window.click('#pages li:first-child');
-  check('and one goes back to the first', await until(async () => window.js(`getComputedStyle(document.querySelector('[data-id="${frame.id}"]')).visibility === 'visible' && !!document.querySelector('[data-id="${frame.id}"]').getBoundingClientRect().width`)));
+  check('and one goes back to the first', await until(async () => window.js(`!!document.querySelector('#stage [data-id="${frame.id}"]')?.getBoundingClientRect().width`)));
   await window.clickAt(on(240, 180));
   await picture(window, 'whiteboard');
 
@@ -234,6 +236,7 @@ try {
   await server.kill();
   await server.run(server.port);
   await right.reload();
+  check('the browser asks first, as edits wait', same(right.window.dialogs, ['beforeunload']), right.window.dialogs.join());
   const afterwards = await right.state();
   check('a window that is loaded anew has its id, and what waited', afterwards.id === beforehand.id && beforehand.waiting >= 3 && (await right.objects()).some(({ id, properties }) => id === kept && properties.name === 'Kept'), JSON.stringify([beforehand, afterwards]));
   check('and the other window gets it', await until(async () => (await left.objects()).some(({ id, properties }) => id === kept && properties.name === 'Kept')) && await agree([left, right]));

@@ -1,6 +1,7 @@
 #!/usr/bin/env node
 // Draws a small design in the page, with a second window beside it, and takes its picture:
 //     node --experimental-websocket picture.mjs LUGCURRANT FILE.png
+import { execFileSync } from 'node:child_process';
 import { fileURLToPath } from 'node:url';
 import { Browser, sleep, until } from './devtools.mjs';
 import { Server, endAfter } from './server.mjs';
@@ -14,7 +15,9 @@ let last = null;
 const made = (kind, holder, [x, y, w, h], more) => [['create', kind, holder, last], ['set', '$', 'at', [x, y]], ['set', '$', 'size', [w, h]],
   ...Object.entries(more).map(([name, value]) => ['set', '$', name, value])];
 
-const server = await Server.start(program, { page: fileURLToPath(new URL('../../clients/web/', import.meta.url)) });
+const page = fileURLToPath(new URL('../../examples/whiteboard/', import.meta.url));
+execFileSync(`${page}build`, { stdio: 'ignore' });
+const server = await Server.start(program, { page });
 const browser = await Browser.start();
 try {
   const open = async () => {
@@ -26,12 +29,12 @@ try {
   const send = async (edits) => (last = await window.js(`lugcurrant.send(...${JSON.stringify(edits)})`));
   const draw = (kind, holder, place, more) => send(made(kind, holder, place, more));
   const inside = async (holder, ...list) => { last = null; for (const one of list) await draw(one[0], holder, one[1], one[2]); };
-  const page = await send([['create', 'page', '0:0', null], ['set', '$', 'name', 'Jam labels']]);
+  const board = await send([['create', 'page', '0:0', null], ['set', '$', 'name', 'Jam labels']]);
   last = null;
-  const label = await draw('frame', page, [40, 50, 250, 330], { name: 'Label', fill: colour('fffdf9') });
-  const notes = await draw('frame', page, [330, 50, 300, 200], { name: 'Notes', fill: colour('ffffff') });
-  await draw('shape', page, [330, 290, 190, 90], { name: 'Ask Ben: matt paper?', form: 'rect', fill: colour('e9c46a') });
-  await draw('text', page, [545, 320, 110, 24], { text: '\u2190 by Friday', fill: colour('7d7781') });
+  const label = await draw('frame', board, [40, 50, 250, 330], { name: 'Label', fill: colour('fffdf9') });
+  const notes = await draw('frame', board, [330, 50, 300, 200], { name: 'Notes', fill: colour('ffffff') });
+  await draw('shape', board, [330, 290, 190, 90], { name: 'Ask Ben: matt paper?', form: 'rect', fill: colour('e9c46a') });
+  await draw('text', board, [545, 320, 110, 24], { text: '\u2190 by Friday', fill: colour('7d7781') });
   await inside(label, ['shape', [0, 0, 250, 74], { name: 'Redcurrant', form: 'rect', fill: colour('b4405f') }], ['shape', [40, 104, 66, 66], { form: 'ellipse', fill: colour('9d2f4d') }],
     ['shape', [94, 124, 72, 72], { form: 'ellipse', fill: colour('b4405f') }], ['shape', [144, 98, 62, 62], { form: 'ellipse', fill: colour('c65d7b') }],
     ['shape', [120, 78, 60, 20], { form: 'ellipse', fill: colour('7fb09a') }], ['text', [62, 222, 140, 22], { text: 'Sweet & sharp', fill: colour('4a4750') }],
