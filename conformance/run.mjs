@@ -2,7 +2,7 @@
 // Plays vectors on the JavaScript client:  run.mjs FILE..
 // An edit is made by what a person asked for, and has to come to the very change that stands in the vector.
 import { readFileSync } from 'node:fs';
-import { Client, ClientError, compile } from '../clients/web/lugcurrant.js';
+import { Client, ClientError, compile } from '../packages/js/src/node.js';
 
 const word = (id) => id.join(':');
 const text = (bytes) => bytes && new TextDecoder().decode(bytes);

@@ -1,6 +1,6 @@
 // A world to be recorded: a server, clients that are the proved one, and a speaker that sends whatever it likes. For each client a vector.
 import { readFileSync } from 'node:fs';
-import { Client, ClientError, compile } from '../clients/web/lugcurrant.js';
+import { Client, ClientError, compile } from '../packages/js/src/node.js';
 import { Server } from '../tests/web/server.mjs';
 
 const MODULE = new URL('../packages/js/canvas.wasm', import.meta.url);

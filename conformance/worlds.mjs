@@ -408,6 +408,12 @@ export const worlds = {
   },
 };
 
+// The objects of a client's tree, each before its children: an order that the tree alone decides, so that a world can be played again.
+function inOrder(client, id = '0:0') {
+  const object = client.object(id);
+  return [object, ...object.children.flatMap((child) => inOrder(client, child))];
+}
+
 // Two players and a speaker that do anything at all, in an order that the seed gives.
 export function anything(seed, steps) {
   return async (world) => {
@@ -416,7 +422,7 @@ export function anything(seed, steps) {
     const any = (list) => list[below(list.length)];
     const { s, a, b, page } = await furnished(world);
     const act = (player) => {
-      const objects = [...player.client.objects().values()], object = any(objects), holder = any(objects);
+      const objects = inOrder(player.client), object = any(objects), holder = any(objects);
       const id = object.id.split(':').map(Number), into = holder.id.split(':').map(Number);
       const after = holder.children.length && below(2) ? any(holder.children).split(':').map(Number) : null;
       [() => player.create(any(['page', 'frame', 'shape', 'text']), into, after), () => player.create(any(['frame', 'shape']), into, after),
@@ -424,7 +430,7 @@ export function anything(seed, steps) {
         () => player.delete(below(3) ? id : into)][below(objects.length > 14 ? 7 : 6)]();
     };
     const speak = async () => {
-      const objects = [...a.client.objects().values()].filter(({ kind }) => kind !== 'document'), object = any(objects), holder = any(objects);
+      const objects = inOrder(a.client).filter(({ kind }) => kind !== 'document'), object = any(objects), holder = any(objects);
       if (!object) return;
       const id = object.id.split(':').map(Number), into = holder.id.split(':').map(Number);
       await [() => s.create('shape', into, any(['O', 'g', '7'])), () => s.set(id, any(['p', 'q']), below(100)), () => s.clear(id, 'p'), () => s.move(id, into, any(['O', 'g', '7'])), () => s.create('frame', page, any(['a', 'b']))][below(5)]();
