@@ -9,7 +9,7 @@ folder of its own:
 - deep: a copy of a document of 5,000 levels, as no server may send it: a process with a stack of half a MiB takes it and reads its tree; and
   of 20,000 levels, of which it reads objects, and which it edits, saves and loads.
 - places: 3,000 objects, one behind the other and one before the other; positions that are named.
-- shown: what is told to have changed, after random edits of two clients, is what differs in the tree.
+- shown: what is given as changed, after random edits of two clients, is what differs in the tree.
 - kept: a client that is saved and loaded goes on as the same one, with what waits.
 - page: examples/c/page.c is compiled and run; what it prints is what `lugcurrant show` prints.
 - module: `python -m lugcurrant PORT` prints the tree.
@@ -23,6 +23,7 @@ Needs Debian's gcc and python3-websockets."""
 
 import asyncio
 import ctypes
+import functools
 import json
 import os
 import random
@@ -37,16 +38,22 @@ import time
 from pathlib import Path
 
 TOP = Path(__file__).resolve().parents[2]
-sys.path.insert(0, str(TOP / "clients" / "python"))
+PACKAGE = TOP / "packages/python/src"
+sys.path.insert(0, str(PACKAGE))
 
-from lugcurrant import ROOT, Client, Link, MessageError, Refused, SaveError, State  # noqa: E402
-from lugcurrant.library import Handle, MadeId, library  # noqa: E402
+from lugcurrant import ROOT, Client, ClientError, Colour, Link, State  # noqa: E402
+from lugcurrant import library as package_library  # noqa: E402
+from lugcurrant._api import Handle, MadeId  # noqa: E402
+from lugcurrant.values import value_text  # noqa: E402
 
 WORDS = [word for word in sys.argv[1:] if not word.startswith("--")]
 PROGRAM = os.path.abspath(WORDS[0])
 RUNS = int(WORDS[1]) if len(WORDS) > 1 else 5
 EDITS = int(WORDS[2]) if len(WORDS) > 2 else 800
 BROKEN = "--broken" in sys.argv[1:]
+LIBRARY = os.path.abspath(os.environ.get("LUGCURRANT_LIBRARY") or TOP / "packages/c/liblugcurrant.so")
+# What examples/c/page.c is compiled of.
+PAGE_SOURCES = ["examples/c/page.c"]
 
 
 class Wrong(Exception):
@@ -56,6 +63,13 @@ class Wrong(Exception):
 def require(holds, *words):
     if not holds:
         raise Wrong(" ".join(str(word) for word in words))
+
+
+class Calls:
+    """The library's calls as methods, as the header names them without `lugcurrant_`."""
+
+    def __getattr__(self, name):
+        return functools.partial(package_library.library(), name)
 
 
 class Server:
@@ -93,7 +107,7 @@ class Server:
 
 def numbers():
     """What isn't as it should be has a number of its own."""
-    calls, made = library(), MadeId(7, 8)
+    calls, made = Calls(), MadeId(7, 8)
     empty, marked, room = Handle(), Handle(1, 2), ctypes.create_string_buffer(b"keep")
     for handle in (empty, marked):
         answers = [
@@ -141,14 +155,15 @@ def numbers():
 
 def left(handle):
     """The bytes that the last call left."""
-    room = ctypes.create_string_buffer(library().length(handle) + 1)
-    require(library().read(handle, room, len(room) - 1) == 0, "what was left")
+    calls = Calls()
+    room = ctypes.create_string_buffer(calls.length(handle) + 1)
+    require(calls.read(handle, room, len(room) - 1) == 0, "what was left")
     return room.raw[:-1]
 
 
 def places(handle, made):
     """Calls that name a position or an end, and what they leave; the page 3:1 is there alone."""
-    calls = library()
+    calls = Calls()
     for position, number in [(b"", 33), (b"a" * 129, 34), (b"a\n", 35), (b"\xff", 35), (b"a ", 36), (b"O", 12), (b"P", 0)]:
         answer = calls.create_at(handle, 1, 0, 0, position, len(position), made)
         require(answer == number, "a page at", position[:9], "is answered", answer, "and not", number)
@@ -171,7 +186,7 @@ def places(handle, made):
 
 def saved(handle):
     """Saved clients, and bytes that are none."""
-    calls, other = library(), Handle()
+    calls, other = Calls(), Handle()
     require(calls.save(handle) == 0, "no saved client")
     text = left(handle)
     require(text.startswith(b'["client",[3,4,1,0],['), "a saved client is", text[:40])
@@ -204,7 +219,7 @@ client.close()
 
 # The same without the tree's text, whose lines get longer with each level.
 DEEPER = """
-from lugcurrant import ROOT, Client, ObjectId, Refused
+from lugcurrant import ROOT, Client, ClientError, ObjectId
 import json, sys
 levels = int(sys.argv[1])
 rows = [[[0, 0], "document", None, []]]
@@ -219,8 +234,8 @@ assert client.children(ObjectId(1, levels - 1)) == [last] and client.children(la
 def refused(act, *words):
     try:
         return act(*words)
-    except Refused as fault:
-        return fault.reason
+    except ClientError as fault:
+        return fault.code
 assert refused(client.create_last, "shape", last) == "TooDeep"
 assert refused(client.move_last, middle, last) == "OwnDescendant"
 assert refused(client.move_last, page, last) == "BadParent"
@@ -247,7 +262,7 @@ def deep():
     """Documents that are deeper than any server may make one, read with a stack of half a MiB."""
     stack, said = 1 << 19, []
     for program, levels in [(DEEP, 5000), (DEEPER, 20000)]:
-        done = subprocess.run([sys.executable, "-c", program, str(levels)], capture_output=True, text=True, env=dict(os.environ, PYTHONPATH=str(TOP / "clients/python")),
+        done = subprocess.run([sys.executable, "-c", program, str(levels)], capture_output=True, text=True, env=dict(os.environ, PYTHONPATH=str(PACKAGE)),
                               preexec_fn=lambda: resource.setrlimit(resource.RLIMIT_STACK, (stack, stack)))
         require(done.returncode == 0, "the client of a document of", levels, "levels ended with", done.returncode, done.stderr[-300:])
         said.append(f"{levels} levels, {int(done.stdout) / 1e6:.1f} MB of text")
@@ -278,13 +293,14 @@ def shown_of(client):
     seen, pending = {}, [(client.tree(), None)]
     while pending:
         node, parent = pending.pop()
-        seen[node.id] = (node.kind, parent, node.position, json.dumps(node.properties), tuple(child.id for child in node.children))
+        properties = ",".join(f"{name}:{value_text(value)}" for name, value in node.properties.items())
+        seen[node.id] = (node.kind, parent, node.position, properties, tuple(child.id for child in node.children))
         pending += [(child, node.id) for child in node.children]
     return seen
 
 
 def shown():
-    """After each step the objects that are told to have changed are those that differ in the tree, and the objects that are kept are the tree's."""
+    """After each step the objects that `changed` gives are those that differ in the tree, and the objects that are kept are the tree's."""
     steps = 0
     for seed in range(6):
         chance, client = random.Random(seed), joined(1)
@@ -295,9 +311,10 @@ def shown():
                 server.judge(client, chance)
             if chance.random() < 0.5:
                 now, changed = shown_of(client), client.changed()
-                require(set(changed.added) == set(now) - set(told) and set(changed.removed) == set(told) - set(now), f"seed {seed}: what came and went is told as", changed)
-                altered = {at for at in set(now) & set(told) if now[at][:4] != told[at][:4]}
-                require(set(changed.altered) == altered, f"seed {seed}: what differs is told as", changed.altered, "and not", altered)
+                put, differ = {it.id for it in changed.put}, {at for at in now if now[at] != told.get(at)}
+                require(put == differ and len(changed.put) == len(put), f"seed {seed}: what is new or differs is", differ, "and not", changed.put)
+                require(sorted(changed.gone) == sorted(set(told) - set(now)), f"seed {seed}: what went is", set(told) - set(now), "and not", changed.gone)
+                require(all(now[it.id] == (*it.words(), it.children) for it in changed.put), f"seed {seed}: what changed isn't as the tree has it")
                 objects = {at: (*it.words(), it.children) for at, it in client.objects().items()}
                 require(objects == now, f"seed {seed}: the objects that are kept aren't the tree's")
                 told, steps = now, steps + 1
@@ -314,7 +331,7 @@ class History:
         """Judges some edits of the two, and tells each what it hasn't heard, or a part of it."""
         for one in (client, self.other):
             known = sum(entry[0] == one.id for entry in self.entries)
-            text = one.message(known - one.acknowledged + 1)
+            text = one.edit_message(known - one.acknowledged + 1)
             if text is not None and chance.random() < 0.7:
                 _, author, number, change = json.loads(text)
                 self.entries.append([author, number, change, self.outcome(change)])
@@ -350,23 +367,29 @@ def kept():
         require(server.show() == (3, second.text()), "what the folder holds")
     try:
         Client.load(text[:-1])
-    except SaveError as fault:
-        return f"{len(text)} bytes; half of them are {fault.reason}"
+    except ClientError as fault:
+        return f"{len(text)} bytes; all but the last are {fault.code}"
     raise Wrong("bytes that are no client are loaded")
 
 
 async def settle(client, port):
-    link = Link(client, f"ws://127.0.0.1:{port}/", pause=0.02)
-    run = asyncio.create_task(link.run())
-    await asyncio.wait_for(link.until_settled(), 20)
-    run.cancel()
+    async with Link(client, f"ws://127.0.0.1:{port}/") as link:
+        await asyncio.wait_for(link.settled(), 20)
     return client
+
+
+def compiled(room):
+    """The program of examples/c/page.c."""
+    program = os.path.join(room, "page")
+    sources = [str(TOP / source) for source in PAGE_SOURCES]
+    include, run_path = f"-I{TOP / 'packages/c/include'}", f"-Wl,-rpath,{os.path.dirname(LIBRARY)}"
+    subprocess.run(["cc", "-std=c11", "-Wall", "-Wextra", "-O2", include, "-o", program, *sources, LIBRARY, run_path], check=True)
+    return program
 
 
 def page(room):
     """The C program."""
-    program, library_path = os.path.join(room, "page"), os.environ.get("LUGCURRANT_LIBRARY", str(TOP / "packages/c/liblugcurrant.so"))
-    subprocess.run(["cc", "-std=c11", "-Wall", "-Wextra", "-O2", "-o", program, str(TOP / "examples/c/page.c"), os.path.abspath(library_path), "-Wl,-rpath," + os.path.dirname(os.path.abspath(library_path))], check=True)
+    program = compiled(room)
     server = Server(os.path.join(room, "page-folder"))
     texts = [subprocess.run([program, str(server.port)], capture_output=True, text=True, check=True, timeout=60).stdout for _ in range(2)]
     server.kill()
@@ -379,7 +402,7 @@ def page(room):
 def module(room):
     """The package as a program."""
     server = Server(os.path.join(room, "module-folder"))
-    shown = subprocess.Popen([sys.executable, "-u", "-m", "lugcurrant", str(server.port)], stdout=subprocess.PIPE, text=True, cwd=TOP / "clients/python")
+    shown = subprocess.Popen([sys.executable, "-u", "-m", "lugcurrant", str(server.port)], stdout=subprocess.PIPE, text=True, cwd=PACKAGE)
     asyncio.run(draw(server.port))
     text, end = "", threading.Timer(60, shown.kill)
     end.start()
@@ -390,22 +413,21 @@ def module(room):
     text += shown.communicate(timeout=20)[0]
     server.kill()
     require(shown.returncode == 0, "python -m lugcurrant ended with", shown.returncode)
-    require(text.endswith(server.show()[1]) and "Plan" in text, "python -m lugcurrant printed", text)
-    return f"{text.count('online')} trees"
+    trees = "".join(line for line in text.splitlines(keepends=True) if not line.startswith("-- "))  # such lines are the link's states
+    require(trees.endswith(server.show()[1]) and "Plan" in trees, "python -m lugcurrant printed", text)
+    return f"{trees.count('version ')} trees"
 
 
 async def draw(port):
     client = Client()
-    link = Link(client, f"ws://127.0.0.1:{port}/")
-    run = asyncio.create_task(link.run())
-    await asyncio.wait_for(link.until_settled(), 20)
-    at = client.create("page", ROOT)
-    client.set(at, "name", "Plan")
-    changed = client.changed()
-    require(changed.added == [at] and not changed.removed and not changed.altered, "what has changed:", changed)
-    require(client.edit(f"create frame {at} -") == 3 and len(client.messages()) == 3, "an edit's number, and the messages")
-    await asyncio.wait_for(link.until_settled(), 20)
-    run.cancel()
+    async with Link(client, f"ws://127.0.0.1:{port}/") as link:
+        client.changed()
+        at = client.create("page", ROOT)
+        client.set(at, "name", "Plan")
+        changed = client.changed()
+        require([it.id for it in changed.put] == [at, ROOT] and not changed.gone, "what has changed:", changed)
+        require(client.edit(f"create frame {at} -") == 3 and len(client.messages()) == 3, "an edit's number, and the messages")
+        await asyncio.wait_for(link.settled(), 20)
 
 
 class Broken(Client):
@@ -429,19 +451,18 @@ def edit(client, chance):
     acts = [lambda: client.create(kind, parent.id, after), lambda: client.create_last(kind, parent.id), lambda: client.create_first(kind, parent.id),
             lambda: client.create_at(kind, parent.id, position), lambda: client.move(at.id, parent.id, after), lambda: client.move_last(at.id, parent.id),
             lambda: client.move_first(at.id, parent.id), lambda: client.move_at(at.id, parent.id, position), lambda: client.clear(at.id, chance.choice("abc")),
-            lambda: client.set(at.id, chance.choice("abc"), chance.choice([1, -5, True, "text \u00e9", ["rgba", 7], ["list", 1, ["list"]]])),
+            lambda: client.set(at.id, chance.choice("abc"), chance.choice([1, -5, True, "text \u00e9", Colour(7), [1, []]])),
             lambda: client.set(at.id, "a", chance.randrange(9)), lambda: chance.random() < 0.4 and client.delete(at.id)]
     try:
         chance.choice(acts if len(nodes) > 3 else acts[:4])()
-    except Refused:
+    except ClientError:
         pass
 
 
-async def edits(client, link, count, chance):
+async def edits(client, count, chance):
     """Random edits, of which some are refused."""
     for _ in range(count):
         edit(client, chance)
-        link.edited()
         await asyncio.sleep(chance.random() * 0.01)
 
 
@@ -449,32 +470,43 @@ async def away(link, chance):
     """Goes offline, and back."""
     for _ in range(3):
         await asyncio.sleep(0.2 + chance.random() * 0.3)
-        link.go_offline()
+        link.offline = True
         await asyncio.sleep(0.2 + chance.random() * 0.3)
-        link.go_online()
+        link.offline = False
 
 
-async def play(server, chance):
-    """Four clients, of which two are away at times, and a server that is killed."""
-    make = Broken if BROKEN else Client
-    states = [set() for _ in range(4)]
-    clients = [make() for _ in range(4)]
-    links = [Link(client, f"ws://127.0.0.1:{server.port}/", told=lambda state, why, seen=seen: seen.add(state), pause=0.02, longest_wait=0.4) for client, seen in zip(clients, states)]
-    runs = [asyncio.create_task(link.run()) for link in links]
-    await asyncio.gather(*(asyncio.wait_for(link.until_settled(), 30) for link in links))
-    work = [asyncio.create_task(edits(client, link, EDITS // 4, chance)) for client, link in zip(clients, links)]
-    work += [asyncio.create_task(away(link, chance)) for link in links[:2]]
+async def disturb(server):
+    """Kills the server twice, and starts it again."""
     for _ in range(2):
         await asyncio.sleep(0.4)
         server.kill()
         await asyncio.sleep(0.2)
         server.start()
+
+
+async def all_heard(clients, links):
+    """Waits until nothing waits, and each client has the version of the others."""
+    await asyncio.gather(*(link.settled() for link in links))
+    while len({client.version for client in clients}) > 1:
+        await asyncio.sleep(0.02)
+
+
+async def play(server, chance):
+    """Four clients, of which two are away at times, and a server that is killed."""
+    clients = [(Broken if BROKEN else Client)() for _ in range(4)]
+    states = [set() for _ in clients]
+    links = [Link(client, f"ws://127.0.0.1:{server.port}/", state=lambda link, seen=seen: seen.add(link.state), most_retry=0.4) for client, seen in zip(clients, states)]
+    runs = [asyncio.create_task(link.run()) for link in links]
+    await asyncio.wait_for(asyncio.gather(*(link.ready() for link in links)), 30)
+    work = [asyncio.create_task(edits(client, EDITS // 4, chance)) for client in clients]
+    work += [asyncio.create_task(away(link, chance)) for link in links[:2]]
+    await disturb(server)
     await asyncio.gather(*work)
-    for _ in range(2):
-        await asyncio.gather(*(asyncio.wait_for(link.until_settled(), 60) for link in links))
-    for run in runs:
-        run.cancel()
-    require(all(State.OFFLINE in seen for seen in states[:2]) and all(State.WAITING in seen for seen in states[2:]), "states weren't told:", states)
+    await asyncio.wait_for(all_heard(clients, links), 60)
+    for link in links:
+        link.close()
+    await asyncio.gather(*runs)
+    require(all(State.OFFLINE in seen for seen in states[:2]) and all(State.NO_SERVER in seen for seen in states[2:]), "states weren't told:", states)
     return clients
 
 
@@ -494,14 +526,16 @@ def together(room):
 
 
 def main():
-    groups = [("together", together)] if BROKEN else [("numbers", lambda room: numbers()), ("deep", lambda room: deep()), ("places", lambda room: ends()), ("shown", lambda room: shown()), ("kept", lambda room: kept()), ("page", page), ("module", module), ("together", together)]
+    groups = [("numbers", lambda room: numbers()), ("deep", lambda room: deep()), ("places", lambda room: ends()), ("shown", lambda room: shown()),
+              ("kept", lambda room: kept()), ("page", page), ("module", module), ("together", together)]  # fmt: skip
+    groups = groups[-1:] if BROKEN else groups
     wrong = 0
     with tempfile.TemporaryDirectory() as room:
         for name, group in groups:
             start = time.monotonic()
             try:
                 said = group(room)
-            except (Wrong, asyncio.TimeoutError, MessageError, subprocess.CalledProcessError) as fault:
+            except (Wrong, asyncio.TimeoutError, ClientError, subprocess.CalledProcessError) as fault:
                 wrong += 1
                 said = f"WRONG: {fault!r}"
             print(f"{name}: {said} ({time.monotonic() - start:.1f} s)", flush=True)
