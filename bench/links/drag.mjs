@@ -1,39 +1,76 @@
-// node drag.mjs KIND URL N HZ SECONDS OUT MODE : N clients, each drags a note of its own
-import { writeFileSync } from 'node:fs'; import * as l from './lib.mjs';
-const [kind, url, n, hz, seconds, out, mode = 'plain'] = process.argv.slice(2); const N = +n, HZ = +hz, S = +seconds;
-const edits = [], clients = [], waits = [];
-for (let k = 0; k < N; k += 1) {
-  if (kind === 'lug') {
-    const me = await l.lugClient(url, process.env.PAUSES ? JSON.parse(process.env.PAUSES) : {}); clients.push(me);
-  } else { const me = l.yClient(url, 'bench'); clients.push(me); }
+// Clients that each drag a note of its own:  drag.mjs lug|yjs URL CLIENTS HZ SECONDS OUT [plain|coalesce]     started by lag.mjs
+//
+// A step is an edit of the note's place: [step, time]. With `coalesce` a client of Lugcurrant makes the last step alone, once nothing waits, as a
+// program would that thins out its edits by itself.
+import { writeFileSync } from 'node:fs';
+import * as lib from './lib.mjs';
+
+const [kind, url, ...words] = process.argv.slice(2), [clientCount, hz, seconds] = words.map(Number), [, , , out, mode = 'plain'] = words;
+const edits = [];                                       // [note, step, time]
+const waits = [];                                       // [seconds, edits that wait] of the first client, each second
+let most = 0;                                           // edits that waited, at most
+
+// Each kind's client: whether it is ready, how it takes a note, sets its place, and how much waits.
+async function lugDragger() {
+  const { client, link } = await lib.lugClient(url, JSON.parse(process.env.PAUSES ?? '{}'));
+  return {
+    isReady: () => client.id && client.children(lib.ROOT).length > 0,
+    trouble: () => `${link.state} ${link.words}`,
+    take() { this.note = client.createLast('shape', client.children(lib.ROOT)[0]); },
+    set(place) { client.set(this.note, 'at', place); },
+    waiting: () => Number(client.waiting),
+  };
 }
-const ok = await l.until(() => clients.every((c) => kind === 'lug' ? c.client.id && c.client.children('0:0').length : c.provider.synced), 60000, 20);
-if (!ok) { console.log('NOT READY', clients.map((c) => kind === 'lug' ? c.link.state + c.link.words : c.provider.synced).join()); process.exit(1); }
-for (const c of clients) {
-  if (kind === 'lug') { c.note = c.client.createLast('shape', c.client.children('0:0')[0]); c.link.wake(); c.set = (v) => { c.client.set(c.note, 'at', v); c.link.wake(); }; c.waiting = () => Number(c.client.waiting); }
-  else { c.note = 'n' + c.doc.clientID; const m = new c.Y.Map(); m.set('at', [0, 0]); c.doc.getMap('notes').set(c.note, m); c.set = (v) => m.set('at', v); c.waiting = () => c.provider.ws?.bufferedAmount ?? 0; }
+
+function yjsDragger() {
+  const { Y, doc, provider } = lib.yjsClient(url, 'bench'), note = new Y.Map();
+  return {
+    isReady: () => provider.synced,
+    trouble: () => 'not synced',
+    take() {
+      this.note = `n${doc.clientID}`;
+      note.set('at', [0, 0]);
+      doc.getMap('notes').set(this.note, note);
+    },
+    set: (place) => note.set('at', place),
+    waiting: () => provider.ws?.bufferedAmount ?? 0,
+  };
 }
-await l.until(() => kind !== 'lug' || clients.every((c) => c.waiting() === 0), 30000, 20);
-process.send?.('go'); console.log('ready');
-await l.sleep(300);
-const begun = performance.now(); let most = 0;
-await Promise.all(clients.map(async (c, k) => {
-  await l.sleep((k / N) * 1000 / HZ);
-  const first = performance.now(); let want = null;
-  for (let i = 1; performance.now() - begun < S * 1000; i += 1) {
-    const t = l.stamp();
-    edits.push([c.note, i, t]);
-    if (mode === 'coalesce' && kind === 'lug') {            // the app's own throttle: the last position only, when nothing waits
-      c.want = i; if (c.waiting() === 0) { c.set([c.want, t]); c.want = null; }
-    } else c.set([i, t]);
-    most = Math.max(most, c.waiting());
-    if (k === 0 && i % HZ === 0) waits.push([Math.round((performance.now() - begun) / 100) / 10, c.waiting()]);
-    await l.sleep(Math.max(0, first + i * 1000 / HZ - performance.now()));
+
+// Drags until the time is over. A step that was passed over for the sake of what waits is made in the end, if it is the last.
+async function drag(one, number, begun) {
+  await lib.sleep((number / clientCount) * 1000 / hz);
+  const first = performance.now();
+  let left = null;
+  for (let step = 1; performance.now() - begun < seconds * 1000; step += 1) {
+    const time = lib.stamp();
+    edits.push([one.note, step, time]);
+    const isLate = mode === 'coalesce' && kind === 'lug' && one.waiting() > 0;
+    if (!isLate) one.set([step, time]);
+    left = isLate ? step : null;
+    most = Math.max(most, one.waiting());
+    if (number === 0 && step % hz === 0) waits.push([Math.round((performance.now() - begun) / 100) / 10, one.waiting()]);
+    await lib.sleep(Math.max(0, first + step * 1000 / hz - performance.now()));
   }
-  if (c.want) { while (c.waiting() !== 0) await l.sleep(2); c.set([c.want, l.stamp()]); }
-}));
-const ended = performance.now();
-const drained = await l.until(() => clients.every((c) => c.waiting() === 0), 120000, 10);
-writeFileSync(out, JSON.stringify({ edits, waits, most, drained: drained ? Math.round(performance.now() - ended) : -1 }));
-await l.sleep(1500);
+  if (left === null) return;
+  while (one.waiting() > 0) await lib.sleep(2);
+  one.set([left, lib.stamp()]);
+}
+
+const draggers = [];
+for (let k = 0; k < clientCount; k += 1) draggers.push(kind === 'lug' ? await lugDragger() : yjsDragger());
+if (!await lib.until(() => draggers.every((one) => one.isReady()), 60000, 20)) {
+  console.log('NOT READY', draggers.map((one) => one.trouble()).join());
+  process.exit(1);
+}
+for (const one of draggers) one.take();
+const isEmpty = () => draggers.every((one) => one.waiting() === 0);
+await lib.until(isEmpty, 30000, 20);
+process.send?.('go');
+await lib.sleep(300);
+const begun = performance.now();
+await Promise.all(draggers.map((one, number) => drag(one, number, begun)));
+const ended = performance.now(), isDrained = await lib.until(isEmpty, 120000, 10);
+writeFileSync(out, JSON.stringify({ edits, waits, most, drained: isDrained ? Math.round(performance.now() - ended) : -1 }));
+await lib.sleep(1500);
 process.exit(0);

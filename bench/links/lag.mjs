@@ -1,31 +1,70 @@
-// How late another client sees a drag:  lag.mjs lug|yjs RTT CLIENTS HZ SECONDS [plain|coalesce]
-//
-// Programs are found by LUGCURRANT (the path of `lugcurrant`) and Debian's node-yjs, node-y-websocket, node-ws. OLD=1 takes the link of clients/web,
-// PAUSES options of a link as JSON. Ports from PORT on. A proxy holds bytes for half a round trip each way.
-import { fork } from 'node:child_process'; import { mkdtempSync, readFileSync, rmSync } from 'node:fs'; import { tmpdir } from 'node:os'; import { dirname, join } from 'node:path'; import { fileURLToPath } from 'node:url'; import * as l from './lib.mjs';
-const [kind, rtt, n, hz, seconds, mode = 'plain'] = process.argv.slice(2);
-const base = Number(process.env.PORT ?? 29100), dir = join(mkdtempSync(join(tmpdir(), 'links-')), 'canvas'), here = (name) => fileURLToPath(new URL(name, import.meta.url));
-process.on('exit', () => rmSync(dirname(dir), { recursive: true, force: true }));
-const server = kind === 'lug' ? l.start(process.env.LUGCURRANT ?? 'lugcurrant', ['serve', dir, '--port', String(base), '--quiet']) : l.start('y-websocket-server', [], { HOST: '127.0.0.1', PORT: String(base) });
-const proxy = l.start('node', [here('proxy.mjs'), String(base + 1), String(base), rtt, String(base + 2)]);
-const die = (why) => { console.log('FAILED', why); for (const p of [server, proxy, w, d]) p?.kill(); process.exit(1); }; let w, d;
-setTimeout(() => die('time'), (Number(seconds) + 150) * 1000);
-for (let k = 0; ; k += 1) { try { await fetch(`http://127.0.0.1:${base}/`); await l.get(base + 2, '/'); break; } catch { if (k > 100) die('no server'); await l.sleep(100); } }
-if (kind === 'lug') { const a = await l.lugClient(`ws://127.0.0.1:${base}/`); await l.until(() => a.client.id); a.client.createLast('page', '0:0'); a.link.wake(); await l.until(() => a.client.waiting === 0); a.link.close(); }
-const url = `ws://127.0.0.1:${base + 1}/`;
-w = fork(here('watch.mjs'), [kind, url, dir + '.seen']); await new Promise((r) => w.once('message', r));
-d = fork(here('drag.mjs'), [kind, url, n, hz, seconds, dir + '.edits', mode], { stdio: ['ignore', 'ignore', 'inherit', 'ipc'] });
-d.once('message', async () => { await l.get(base + 2, '/reset'); });
-const c0 = l.cpu(server.pid), t0 = performance.now();
-await new Promise((r) => d.once('exit', r));
-await l.sleep(Number(rtt) * 2 + 800);
-const stats = JSON.parse(await l.get(base + 2, '/')); const c1 = l.cpu(server.pid);
-w.send('end'); await new Promise((r) => w.once('exit', r));
-const { edits, waits, most, drained } = JSON.parse(readFileSync(dir + '.edits')); const seen = JSON.parse(readFileSync(dir + '.seen'));
-const by = new Map(); for (const [note, seq, t] of seen) { if (!by.has(note)) by.set(note, []); by.get(note).push([seq, t]); }
-const lags = []; let missed = 0; const firstHalf = [], steps = new Set();
-for (const [note, i, t] of edits) { const s = by.get(note)?.find(([q]) => q >= i); if (s) { lags.push((s[1] - t) / 10); } else missed += 1; }
-for (const [note, seq] of seen) steps.add(note + seq);
-const r = (x) => Math.round(x);
-console.log(JSON.stringify({ kind, rtt: +rtt, n: +n, hz: +hz, mode, edits: edits.length, medianMs: r(l.pct(lags, 0.5)), p95Ms: r(l.pct(lags, 0.95)), maxMs: r(l.pct(lags, 1)), missed, stepsSeenPct: r(100 * steps.size / edits.length), mostWaiting: most, drainMs: drained, waits: waits.map((x) => x[1]).join(','), upKB: r(stats.up / 1024), downKB: r(stats.down / 1024), serverCpuS: +(c1 - c0).toFixed(2) }));
-server.kill(); proxy.kill(); setTimeout(() => process.exit(0), 300);
+// How late another client sees a drag:  lag.mjs lug|yjs RTT CLIENTS HZ SECONDS [plain|coalesce]     README.md says more
+import { fork } from 'node:child_process';
+import { mkdtempSync, readFileSync, rmSync } from 'node:fs';
+import { tmpdir } from 'node:os';
+import { join } from 'node:path';
+import * as lib from './lib.mjs';
+
+const [kind, rtt, clients, hz, seconds, mode = 'plain'] = process.argv.slice(2);
+lib.endAfter(Number(seconds) + 150);
+const folder = mkdtempSync(join(tmpdir(), 'links-')), file = (name) => join(folder, name);
+const read = (name) => JSON.parse(readFileSync(file(name), 'utf8'));
+process.on('exit', () => rmSync(folder, { recursive: true, force: true }));
+
+const runs = {
+  lug: (port) => lib.start(lib.lugcurrant, ['serve', file('canvas'), '--port', String(port), '--quiet']),
+  yjs: (port) => lib.start('y-websocket-server', [], { HOST: '127.0.0.1', PORT: String(port) }),
+};
+
+async function makePage(url) {
+  const { client, link } = await lib.lugClient(url);
+  await link.ready;
+  client.createLast('page', lib.ROOT);
+  await link.settled();
+  link.close();
+}
+
+const message = (child) => new Promise((resolve) => child.once('message', resolve));
+const exited = (child) => new Promise((resolve) => child.once('exit', resolve));
+const forked = (name, words) => {
+  const child = fork(lib.path(name), words, { stdio: ['ignore', 'ignore', 'inherit', 'ipc'] });
+  process.on('exit', () => child.kill());
+  return child;
+};
+
+// For each step the milliseconds until the watcher saw this step of the note, or a later one; and how many it never saw.
+function lagsOf(edits, seen) {
+  const byNote = new Map(), lags = [];
+  for (const [note, step, time] of seen) {
+    if (!byNote.has(note)) byNote.set(note, []);
+    byNote.get(note).push({ step, time });
+  }
+  for (const [note, step, time] of edits) {
+    const first = byNote.get(note)?.find((it) => it.step >= step);
+    if (first) lags.push((first.time - time) / 10);
+  }
+  return { lags, missed: edits.length - lags.length };
+}
+
+const behind = await lib.behindProxy(runs[kind], rtt);
+if (kind === 'lug') await makePage(behind.direct);
+const watcher = forked('watch.mjs', [kind, behind.url, file('seen')]);
+await message(watcher);
+const dragger = forked('drag.mjs', [kind, behind.url, clients, hz, seconds, file('edits'), mode]), dragged = exited(dragger);
+dragger.once('message', () => behind.reset());
+const before = lib.cpuSeconds(behind.server.pid);
+await dragged;
+await lib.sleep(Number(rtt) * 2 + 800);
+const stats = await behind.stats(), serverCpu = lib.cpuSeconds(behind.server.pid) - before;
+watcher.send('end');
+await exited(watcher);
+
+const { edits, waits, most, drained } = read('edits'), seen = read('seen'), { lags, missed } = lagsOf(edits, seen);
+const steps = new Set(seen.map(([note, step]) => `${note} ${step}`));
+console.log(JSON.stringify({
+  kind, rtt: Number(rtt), n: Number(clients), hz: Number(hz), mode, edits: edits.length,
+  medianMs: Math.round(lib.percentile(lags, 0.5)), p95Ms: Math.round(lib.percentile(lags, 0.95)), maxMs: Math.round(lib.percentile(lags, 1)), missed,
+  stepsSeenPct: Math.round(100 * steps.size / edits.length), mostWaiting: most, drainMs: drained, waits: waits.map(([, count]) => count).join(','),
+  upKB: Math.round(stats.up / 1024), downKB: Math.round(stats.down / 1024), serverCpuS: Number(serverCpu.toFixed(2)),
+}));
+process.exit(0);

@@ -1,22 +1,50 @@
-// Edits a second that one client has acknowledged, and how long 10,000 entries take who comes back:  tput.mjs RTT
-import { mkdtempSync, rmSync } from 'node:fs'; import { tmpdir } from 'node:os'; import { join } from 'node:path'; import { fileURLToPath } from 'node:url'; import * as l from './lib.mjs';
-const rtt = process.argv[2], P = Number(process.env.PORT ?? 29100), dir = mkdtempSync(join(tmpdir(), 'links-'));
-const s = l.start(process.env.LUGCURRANT ?? 'lugcurrant', ['serve', join(dir, 'canvas'), '--port', String(P), '--quiet']), p = l.start('node', [fileURLToPath(new URL('proxy.mjs', import.meta.url)), String(P + 1), String(P), rtt, String(P + 2)]);
-process.on('exit', () => { s.kill(); p.kill(); rmSync(dir, { recursive: true, force: true }); }); setTimeout(() => { console.log('TIME'); process.exit(1); }, 240000);
-for (let k = 0; k < 200; k += 1) { try { await l.get(P, '/health'); await l.get(P + 2, '/'); break; } catch { await l.sleep(100); } }
-const url = `ws://127.0.0.1:${P + 1}/`, a = await l.lugClient(url);
-await l.until(() => a.client.id, 20000); const page = a.client.createLast('page', '0:0'); a.link.wake(); await l.until(() => a.client.waiting === 0, 20000);
-const b = await l.lugClient(url); await l.until(() => b.client.id && b.client.version >= a.client.version, 20000); b.link.close();
-const say = (o) => console.log(JSON.stringify({ rtt: +rtt, ...o }));
-const known = a.client.acknowledged; let t = performance.now();
-for (let k = 0; k < 20000; k += 1) a.client.set(page, 'n', k);
-a.link.wake(); await l.sleep(4000);
-const done = Number(a.client.acknowledged) - Number(known), judged = l.metric(await l.get(P, '/metrics'), 'lugcurrant_edits_total');
-say({ what: 'edits a second', judged: Math.round((judged - 1) / ((performance.now() - t) / 1000)), acknowledged: Math.round(done / ((performance.now() - t) / 1000)) });
-a.link.close(); await l.sleep(300);
-const c = await l.lugClient(`ws://127.0.0.1:${P}/`); await l.until(() => c.client.id && c.client.version > 10, 20000, 2);
-const more = 10000 + Number(b.client.version) - Number(c.client.version); for (let k = 0; k < more; k += 1) c.client.set(page, 'm', k); c.link.wake(); await l.until(() => c.client.waiting === 0, 120000);
-const behind = Number(c.client.version) - Number(b.client.version), { Link } = await import(process.env.OLD === '1' ? '../../clients/web/lugcurrant.js' : '../../packages/js/src/node.js');
-t = performance.now(); const link = process.env.OLD === '1' ? new Link(b.client, url, {}, { WebSocket: l.WS }) : new Link(b.client, url, { WebSocket: l.WS });
-await l.until(() => b.client.version >= c.client.version, 100000, 2); say({ what: 'entries behind', behind, ms: Math.round(performance.now() - t) }); link.close();
+// Edits a second that one client has acknowledged, and how long 10,000 entries take for a client that comes back:  tput.mjs RTT
+import { mkdtempSync, rmSync } from 'node:fs';
+import { tmpdir } from 'node:os';
+import { join } from 'node:path';
+import * as lib from './lib.mjs';
+
+const EDITS = 20000, MEASURED_FOR = 4000, BEHIND = 10000;
+const rtt = Number(process.argv[2]), folder = mkdtempSync(join(tmpdir(), 'links-'));
+lib.endAfter(240);
+process.on('exit', () => rmSync(folder, { recursive: true, force: true }));
+const say = (line) => console.log(JSON.stringify({ rtt, ...line }));
+const since = (begun) => performance.now() - begun;
+
+// Makes more edits than can be judged meanwhile, and counts those that were.
+async function countEdits({ client }, page, port) {
+  const known = Number(client.acknowledged), begun = performance.now();
+  for (let k = 0; k < EDITS; k += 1) client.set(page, 'n', k);
+  await lib.sleep(MEASURED_FOR);
+  const acknowledged = Number(client.acknowledged) - known, judged = lib.metric(await lib.get(port, '/metrics'), 'lugcurrant_edits_total') - 1;
+  const seconds = since(begun) / 1000;
+  say({ what: 'edits a second', judged: Math.round(judged / seconds), acknowledged: Math.round(acknowledged / seconds) });
+}
+
+// Has another client make edits until this one is so many entries behind, and lets it come back.
+async function comeBack({ client }, page, { direct, url }) {
+  const writer = await lib.lugClient(direct);
+  await writer.link.ready;
+  const more = BEHIND + Number(client.version) - Number(writer.client.version);
+  for (let k = 0; k < more; k += 1) writer.client.set(page, 'm', k);
+  await lib.until(() => Number(writer.client.waiting) === 0, 120000);
+  const behind = Number(writer.client.version) - Number(client.version), begun = performance.now();
+  const link = lib.linkOf(client, url);
+  await lib.until(() => client.version >= writer.client.version, 100000, 2);
+  say({ what: 'entries behind', behind, ms: Math.round(since(begun)) });
+  link.close();
+}
+
+const server = await lib.behindProxy((port) => lib.start(lib.lugcurrant, ['serve', join(folder, 'canvas'), '--port', String(port), '--quiet']), rtt);
+const first = await lib.lugClient(server.url);
+await first.link.ready;
+const page = first.client.createLast('page', lib.ROOT);
+await first.link.settled();
+const second = await lib.lugClient(server.url);
+await lib.until(() => second.client.id && second.client.version >= first.client.version, 20000);
+second.link.close();
+await countEdits(first, page, server.port);
+first.link.close();
+await lib.sleep(300);
+await comeBack(second, page, server);
 process.exit(0);

@@ -1,12 +1,31 @@
-// node watch.mjs KIND URL OUT : records each step of each note that it sees, until the parent disconnects
-import { writeFileSync } from 'node:fs'; import * as l from './lib.mjs';
-const [kind, url, out] = process.argv.slice(2); const seen = []; let me;
-process.on('message', (m) => { if (m === 'end') { writeFileSync(out, JSON.stringify(seen)); process.exit(0); } });
-if (kind === 'lug') {
-  me = await l.lugClient(url, process.env.PAUSES ? JSON.parse(process.env.PAUSES) : {});
-  me.seen = () => { for (const o of me.client.changed().put) { const at = o.properties.at; if (at) seen.push([o.id, at[0], l.stamp()]); } };
-} else {
-  me = l.yClient(url, 'bench');
-  me.doc.getMap('notes').observeDeep((events) => { for (const e of events) if (e.path.length) seen.push([e.path[0], e.target.get('at')[0], l.stamp()]); });
+// Writes down each step of each note that it sees, until its parent says `end`:  watch.mjs lug|yjs URL OUT     started by lag.mjs
+import { writeFileSync } from 'node:fs';
+import * as lib from './lib.mjs';
+
+const [kind, url, out] = process.argv.slice(2);
+const seen = [];                                        // [note, step, time]
+process.on('message', (word) => {
+  if (word !== 'end') return;
+  writeFileSync(out, JSON.stringify(seen));
+  process.exit(0);
+});
+
+async function watchLug() {
+  const one = await lib.lugClient(url, JSON.parse(process.env.PAUSES ?? '{}'));
+  one.seen = () => {
+    for (const { id, properties: { at } } of one.client.changed().put) if (at) seen.push([id, at[0], lib.stamp()]);
+  };
+  return () => one.client.id;
 }
-await l.until(() => kind === 'lug' ? me.client.id : me.provider.synced, 30000); process.send('ready');
+
+function watchYjs() {
+  const one = lib.yjsClient(url, 'bench');
+  one.doc.getMap('notes').observeDeep((events) => {
+    for (const { path, target } of events) if (path.length) seen.push([path[0], target.get('at')[0], lib.stamp()]);
+  });
+  return () => one.provider.synced;
+}
+
+const isReady = kind === 'lug' ? await watchLug() : watchYjs();
+await lib.until(isReady, 30000);
+process.send('ready');
