@@ -472,6 +472,8 @@ async def away(link, chance):
         await asyncio.sleep(0.2 + chance.random() * 0.3)
         link.offline = True
         await asyncio.sleep(0.2 + chance.random() * 0.3)
+        while link.state is not State.OFFLINE:  # on a busy machine the connection takes its time to close
+            await asyncio.sleep(0.02)
         link.offline = False
 
 
@@ -501,7 +503,7 @@ async def play(server, chance):
     work = [asyncio.create_task(edits(client, EDITS // 4, chance)) for client in clients]
     work += [asyncio.create_task(away(link, chance)) for link in links[:2]]
     await disturb(server)
-    await asyncio.gather(*work)
+    await asyncio.wait_for(asyncio.gather(*work), 120)
     await asyncio.wait_for(all_heard(clients, links), 60)
     for link in links:
         link.close()
