@@ -182,9 +182,9 @@ function takeTree({ put, gone }) {
     if (!was || !isSameList(was.children, object.children)) { isOther = true; stale.add(object.id); }
     else if (rows.has(object.id)) dress(object);
   }
-  if (chosen && !objects.has(chosen)) choose(null);
   if (!objects.has(page)) { page = objects.get(ROOT)?.children[0] ?? null; isOther = true; }
   if (isOther) drawPage();
+  if (chosen && !objects.has(chosen)) choose(null);      // the list had its row until here
   for (const id of lifted) if (objects.has(id)) place(objects.get(id));
   drawMarks();
   if (isOther || put.some(({ id }) => id === chosen)) fillPanel(isOther);
@@ -234,27 +234,30 @@ function rowOfMore(depth) {
   return li;
 }
 
-// Puts rows into a list, in order. What stands where it should isn't touched.
+// Puts rows into a list, in order. A row that stays in the list keeps its element in the document and the focus, as a focused element that is
+// moved loses it: scrolling by some rows must not end a walk by keys.
 function fill(list, wanted) {
-  let at = list.firstChild;
+  const focused = list.contains(document.activeElement) ? document.activeElement : null, isWanted = new Set(wanted);
+  for (const li of [...list.children]) if (!isWanted.has(li)) li.remove();
+  let next = list.firstChild;
   for (const li of wanted) {
-    if (li === at) { at = at.nextSibling; continue; }
-    if (at && at.nextSibling === li) { const next = li.nextSibling; at.remove(); at = next; continue; }       // one went
-    list.insertBefore(li, at);
+    if (li === next) next = next.nextSibling;
+    else list.insertBefore(li, next);
   }
-  while (at) { const next = at.nextSibling; at.remove(); at = next; }
-  const active = wanted.find((li) => li.getAttribute('aria-selected') === 'true') ?? wanted[0];                // the one that Tab reaches
-  for (const li of wanted) { const index = li === active ? 0 : -1; if (li.tabIndex !== index) li.tabIndex = index; }
+  if (focused?.isConnected && focused !== document.activeElement) focused.focus({ preventScroll: true });      // it has another place in the order
+  const isSelected = (li) => li.getAttribute('aria-selected') === 'true', reached = wanted.find(isSelected) ?? (isWanted.has(focused) ? focused : wanted[0]);
+  for (const li of wanted) { const index = li === reached ? 0 : -1; if (li.tabIndex !== index) li.tabIndex = index; }
 }
 
-// The list has as many rows as can be seen, some more, and the chosen one: it is as high as all would be.
+// The list has as many rows as can be seen, some more, and the chosen and the focused one: it is as high as all would be.
 let listed = [];                                       // [id, depth] of each row, or [null, depth] for what lies too deep
 function showRows() {
   const list = at('list'), aside = list.parentElement, height = matchMedia('(max-width: 760px)').matches ? 37 : 27;
   const above = Math.max(0, aside.scrollTop - list.offsetTop), first = Math.max(0, Math.floor(above / height) - 10), last = first + Math.ceil(aside.clientHeight / height) + 20;
-  const wanted = [];
+  const wanted = [], focused = list.contains(document.activeElement) ? document.activeElement.dataset.id : null;
   listed.forEach(([id, depth], k) => {
-    if ((k < first || k > last) && (id === null || id !== chosen)) return;
+    const isInSight = k >= first && k <= last, isKept = id !== null && (id === chosen || id === focused);
+    if (!isInSight && !isKept) return;
     const li = id === null ? rowOfMore(depth) : dress(objects.get(id), depth), top = `${k * height}px`;
     if (li.style.top !== top) li.style.top = top;
     wanted.push(li);

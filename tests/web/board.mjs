@@ -67,15 +67,31 @@ for (const wrong of ['', '-99999999999999999999', '1e300']) {
 await wide.js("(()=>{const e=document.getElementById('x'); e.focus(); e.value='77'; e.dispatchEvent(new Event('change')); e.blur(); return 1})()");
 assert(await until(async () => (await spot()).startsWith('[77,')));
 
-// By keys: Tab goes to the chosen row, arrows go on from it.
+// By keys: Tab goes to the chosen row, arrows go on from it, and the focus stays on a row while the list is scrolled under it.
 await wide.js("document.getElementById('newpage').focus();1");
 const focused = () => wide.js("document.activeElement.closest?.('li')?.dataset.id ?? document.activeElement.id ?? ''");
+const drawnAgain = () => wide.js('new Promise((done) => requestAnimationFrame(() => requestAnimationFrame(() => setTimeout(() => done(1)))))');
 const seen = [];
-for (let k = 0; k < 6; k += 1) { await wide.key('Tab'); seen.push(await focused()); if (seen.at(-1) === chosen) break; }
+for (let k = 0; k < 6; k += 1) { await wide.key('Tab'); await drawnAgain(); seen.push(await focused()); if (seen.at(-1) === chosen) break; }
 assert(seen.includes(chosen), `Tab reaches ${seen} and not ${chosen}`);
 await wide.key('ArrowDown');
-assert.notEqual(await focused(), chosen);
-assert.equal(await focused(), await wide.js("document.querySelector('#list li[aria-selected=true]').dataset.id"));
+await drawnAgain();
+const next = await focused();
+assert.notEqual(next, chosen);
+assert.equal(next, await wide.js("document.querySelector('#list li[aria-selected=true]').dataset.id"));
+for (const pixels of [135, -270, 40000, -40000]) {
+  await wide.js(`document.querySelector('.left').scrollBy(0, ${pixels});1`);
+  await drawnAgain();
+  assert.equal(await focused(), next, `the focus stays when the list is scrolled by ${pixels} pixels`);
+}
+
+// What is chosen is deleted: its row goes, nothing is chosen, and the list goes on.
+await wide.key('Delete');
+assert(await until(() => wide.js(`!window.lugcurrant.objects.has('${next}')`)), 'the chosen object is deleted');
+await drawnAgain();
+assert.equal(await wide.js("document.querySelectorAll('#list li[aria-selected=true]').length"), 0);
+assert.equal(await wide.js("document.querySelectorAll('#list li[tabindex=\"0\"]').length"), 1, 'Tab reaches one row');
+assert.equal(await wide.js("document.getElementById('what').textContent"), 'Nothing chosen');
 
 // Edits that wait: the browser asks before it closes.
 await wide.js("document.getElementById('offline').click();1");
