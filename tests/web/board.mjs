@@ -1,6 +1,6 @@
 #!/usr/bin/env node
 // The whiteboard of examples/whiteboard with many objects, narrow, by keys, and while it is closed:
-//     node --experimental-websocket board.mjs LUGCURRANT [OBJECTS [PICTURES]]
+//     node --experimental-websocket board.mjs LUGCURRANT [OBJECTS [PICTURES]] [--browser chromium|firefox]
 // It prints frames a second, and ends with 1 where something isn't as it should be.
 import assert from 'node:assert';
 import { mkdtempSync } from 'node:fs';
@@ -8,11 +8,14 @@ import { tmpdir } from 'node:os';
 import { execFileSync } from 'node:child_process';
 import { join } from 'node:path';
 import { fileURLToPath } from 'node:url';
+import { parseArgs } from 'node:util';
+import { sleep, until } from './devtools.mjs';
+import { startBrowser } from './firefox.mjs';
 import { Server, endAfter } from './server.mjs';
-import { Browser, sleep, until } from './devtools.mjs';
 
 endAfter(280);
-const [program, count = '5000', pictures = null] = process.argv.slice(2), page = fileURLToPath(new URL('../../examples/whiteboard', import.meta.url));
+const { values: words, positionals: [program, count = '5000', pictures = null] } = parseArgs({ options: { browser: { type: 'string' } }, allowPositionals: true });
+const page = fileURLToPath(new URL('../../examples/whiteboard', import.meta.url));
 const rows = [[[0, 0], 'document', null, []], [[1, 1], 'page', [[0, 0], 'O'], [['name', 'Many']]]];
 const digit = (n) => String.fromCharCode(33 + n);
 for (let k = 0; k < Number(count); k += 1) {
@@ -22,12 +25,12 @@ for (let k = 0; k < Number(count); k += 1) {
 const server = new Server(program, mkdtempSync(join(tmpdir(), 'lugcurrant-')), page, []);
 execFileSync(program, ['import', join(server.folder, 'canvas')], { input: `[\n${rows.map((row) => JSON.stringify(row)).join(',\n')}\n]\n`, maxBuffer: 1 << 28 });
 await server.run(0);
-const url = `http://127.0.0.1:${server.port}/`, browser = await Browser.start();
+const url = `http://127.0.0.1:${server.port}/`, browser = await startBrowser(words.browser);
 const at = async (width, height) => { const w = await browser.open(url, width, height); assert(await until(() => w.js(`window.lugcurrant?.objects.size > ${count}`), 60), 'it loads'); await sleep(1200); return w; };
 const begun = performance.now(), wide = await at(1200, 700);
 console.log('loaded', Math.round(performance.now() - begun - 1200), 'ms');
 const other = await at(1200, 700);
-await wide.call('Page.bringToFront');
+await wide.front();
 
 async function frames(what, act) {
   await wide.js('window.fr=[];window.stop={isOver:false};(function f(t,mine){if(mine.isOver)return;fr.push(t);requestAnimationFrame((t)=>f(t,mine))})(performance.now(),window.stop);1');

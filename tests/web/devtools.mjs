@@ -46,7 +46,23 @@ export class Browser {
   }
 }
 
-export class Window {
+// What a test does in a window of any browser, with the window's own `js` and `mouse`.
+export class Actions {
+  async press([x, y]) { await this.mouse('mouseMoved', [x, y], false); await this.mouse('mousePressed', [x, y]); }
+  async release(point) { await this.mouse('mouseReleased', point, false); }
+  async clickAt(point) { await this.press(point); await this.release(point); }
+
+  async drag(from, to, steps = 12) {
+    await this.press(from);
+    for (let k = 1; k <= steps; k++) await this.mouse('mouseMoved', [from[0] + (to[0] - from[0]) * k / steps, from[1] + (to[1] - from[1]) * k / steps]);
+    await this.release(to);
+  }
+
+  middle(selector) { return this.js(`(() => { const box = document.querySelector(${JSON.stringify(selector)}).getBoundingClientRect(); return [box.x + box.width / 2, box.y + box.height / 2]; })()`); }
+  async click(selector) { await this.clickAt(await this.middle(selector)); }
+}
+
+export class Window extends Actions {
   static connect(url) {
     return new Promise((resolve, reject) => {
       const socket = new WebSocket(url);
@@ -56,6 +72,7 @@ export class Window {
   }
 
   constructor(socket) {
+    super();
     Object.assign(this, { socket, calls: 0, waiters: new Map(), faults: [], dialogs: [] });
     socket.onmessage = ({ data }) => this.hear(JSON.parse(data));
   }
@@ -81,19 +98,6 @@ export class Window {
 
   mouse(type, [x, y], pressed = true) { return this.call('Input.dispatchMouseEvent', { type, x, y, button: 'left', buttons: pressed ? 1 : 0, clickCount: 1 }); }
 
-  async press([x, y]) { await this.mouse('mouseMoved', [x, y], false); await this.mouse('mousePressed', [x, y]); }
-  async release(point) { await this.mouse('mouseReleased', point, false); }
-  async clickAt(point) { await this.press(point); await this.release(point); }
-
-  async drag(from, to, steps = 12) {
-    await this.press(from);
-    for (let k = 1; k <= steps; k++) await this.mouse('mouseMoved', [from[0] + (to[0] - from[0]) * k / steps, from[1] + (to[1] - from[1]) * k / steps]);
-    await this.release(to);
-  }
-
-  middle(selector) { return this.js(`(() => { const box = document.querySelector(${JSON.stringify(selector)}).getBoundingClientRect(); return [box.x + box.width / 2, box.y + box.height / 2]; })()`); }
-  async click(selector) { await this.clickAt(await this.middle(selector)); }
-
   async key(key) {
     for (const type of ['keyDown', 'keyUp']) await this.call('Input.dispatchKeyEvent', { type, key, text: type === 'keyDown' && key.length === 1 ? key : undefined });
   }
@@ -110,4 +114,15 @@ export class Window {
     await sleep(250);
     writeFileSync(file, Buffer.from((await this.call('Page.captureScreenshot', { format: 'png' })).data, 'base64'));
   }
+
+  async front() { await this.call('Page.bringToFront'); }
+
+  // Loads the page again, and returns when the old one is gone.
+  async reload() {
+    await this.js('window.isOld = true');
+    await this.call('Page.reload');
+    if (!await until(() => this.js('!window.isOld').catch(() => false))) throw new Error('the page is not loaded again');
+  }
+
+  async close() { await this.call('Page.close'); this.socket.close(); }
 }
