@@ -1,5 +1,5 @@
 // A headless Firefox, over WebDriver BiDi, with the actions of devtools.mjs.
-import { spawn } from 'node:child_process';
+import { spawn, spawnSync } from 'node:child_process';
 import { mkdtempSync, rmSync, writeFileSync } from 'node:fs';
 import { tmpdir } from 'node:os';
 import { join } from 'node:path';
@@ -11,18 +11,22 @@ const LISTENS = /WebDriver BiDi listening on (ws:\S+)/;
 const KEYS = { Backspace: '\uE003', Tab: '\uE004', Enter: '\uE007', Shift: '\uE008', Escape: '\uE00C', ArrowLeft: '\uE012', ArrowUp: '\uE013', ArrowRight: '\uE014',
   ArrowDown: '\uE015', Delete: '\uE017' };
 
-// Starts the browser of this name. Both kinds open windows with the same actions.
+// Debian's programs of the browsers, which are its packages' names too.
+const PROGRAMS = { chromium: 'chromium', firefox: 'firefox-esr' };
+
+// Starts the browser of this name. Both kinds open windows with the same actions. Ends the test if the program is missing.
 export async function startBrowser(name = 'chromium') {
-  if (name === 'chromium') return Browser.start();
-  if (name === 'firefox') return Firefox.start();
-  throw new Error(`cannot start the browser ${name}: it is none of chromium and firefox`);
+  const program = PROGRAMS[name];
+  if (!program) throw new Error(`cannot start the browser ${name}: give one of ${Object.keys(PROGRAMS).join(', ')}`);
+  if (spawnSync(program, ['--version']).error) { console.log(`skipped: there is no ${program} (Debian's package ${program} has it)`); process.exit(0); }
+  return name === 'firefox' ? Firefox.start() : Browser.start();
 }
 
 export class Firefox {
   static async start() {
     const profile = mkdtempSync(join(tmpdir(), 'lugcurrant-firefox-'));
     const words = ['--headless', '--no-remote', '--profile', profile, '--remote-debugging-port=0', 'about:blank'];
-    const child = spawn('firefox-esr', words, { stdio: ['ignore', 'ignore', 'pipe'], env: { ...process.env, MOZ_HEADLESS: '1' } });
+    const child = spawn(PROGRAMS.firefox, words, { stdio: ['ignore', 'ignore', 'pipe'], env: { ...process.env, MOZ_HEADLESS: '1' } });
     const browser = new Firefox(profile, child);
     browser.socket = await connect(`${await addressOf(child)}/session`);
     browser.socket.onmessage = ({ data }) => browser.hear(JSON.parse(data));
