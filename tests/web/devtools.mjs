@@ -124,5 +124,10 @@ export class Window extends Actions {
     if (!await until(() => this.js('!window.isOld').catch(() => false))) throw new Error('the page is not loaded again');
   }
 
-  async close() { await this.call('Page.close'); this.socket.close(); }
+  // Closes the window. The connection ends with it, at times before the answer.
+  async close() {
+    const closed = new Promise((resolve) => { this.socket.onclose = resolve; });
+    this.call('Page.close').catch(() => {});
+    await closed;
+  }
 }
