@@ -184,7 +184,7 @@ function takeTree({ put, gone }) {
   }
   if (!objects.has(page)) { page = objects.get(ROOT)?.children[0] ?? null; isOther = true; }
   if (isOther) drawPage();
-  if (chosen && !objects.has(chosen)) choose(null);      // the list had its row until here
+  if (chosen && !objects.has(chosen)) choose(null);      // not before drawPage: the list had its row until then
   for (const id of lifted) if (objects.has(id)) place(objects.get(id));
   drawMarks();
   if (isOther || put.some(({ id }) => id === chosen)) fillPanel(isOther);
@@ -234,8 +234,8 @@ function rowOfMore(depth) {
   return li;
 }
 
-// Puts rows into a list, in order. A row that stays in the list keeps its element in the document and the focus, as a focused element that is
-// moved loses it: scrolling by some rows must not end a walk by keys.
+// Puts rows into a list, in order. A row that stays in the list isn't taken out of it, because an element that is taken out loses the focus: after
+// that, the arrow keys and Tab don't continue from it.
 function fill(list, wanted) {
   const focused = list.contains(document.activeElement) ? document.activeElement : null, isWanted = new Set(wanted);
   for (const li of [...list.children]) if (!isWanted.has(li)) li.remove();
@@ -244,7 +244,7 @@ function fill(list, wanted) {
     if (li === next) next = next.nextSibling;
     else list.insertBefore(li, next);
   }
-  if (focused?.isConnected && focused !== document.activeElement) focused.focus({ preventScroll: true });      // it has another place in the order
+  if (focused?.isConnected && focused !== document.activeElement) focused.focus({ preventScroll: true });      // its place changed
   const isSelected = (li) => li.getAttribute('aria-selected') === 'true', reached = wanted.find(isSelected) ?? (isWanted.has(focused) ? focused : wanted[0]);
   for (const li of wanted) { const index = li === reached ? 0 : -1; if (li.tabIndex !== index) li.tabIndex = index; }
 }

@@ -88,7 +88,7 @@ for (const pixels of [135, -270, 40000, -40000]) {
   assert.equal(await focused(), next, `the focus stays when the list is scrolled by ${pixels} pixels`);
 }
 
-// What is chosen is deleted: its row goes, nothing is chosen, and the list goes on.
+// The chosen object is deleted: its row is removed, nothing is chosen, and Tab still reaches one row.
 await wide.key('Delete');
 assert(await until(() => wide.js(`!window.lugcurrant.objects.has('${next}')`)), 'the chosen object is deleted');
 await drawnAgain();
