@@ -1,7 +1,7 @@
 #!/usr/bin/env node
 // The whiteboard of examples/whiteboard in Chromium or in Firefox:
 //     node --experimental-websocket browsers.mjs LUGCURRANT [--browser chromium|firefox]
-// Two windows join, draw, drag, walk through the list by keys, and are loaded again with an edit that the server doesn't have.
+// Two windows join, draw, drag and walk through the list by keys. One is loaded again with an edit that the server doesn't have.
 import assert from 'node:assert';
 import { fileURLToPath } from 'node:url';
 import { parseArgs } from 'node:util';

@@ -70,7 +70,7 @@ export class Firefox {
   }
 }
 
-// The address that the browser prints when it listens.
+// Returns the address that the browser prints when it listens.
 function addressOf(child) {
   return new Promise((resolve, reject) => {
     let text = '';
@@ -94,7 +94,7 @@ export class FirefoxWindow extends Actions {
 
   call(method, params) { return this.browser.call(method, { context: this.context, ...params }); }
 
-  // The value comes as JSON, as BiDi has an own form for objects.
+  // Returns the value of an expression. It comes as JSON, because BiDi has its own form of objects.
   async js(expression) {
     const wrapped = `(async () => JSON.stringify({ value: await (0, eval)(${JSON.stringify(expression)}) }))()`;
     const { type, result, exceptionDetails } = await this.browser.call('script.evaluate', { expression: wrapped, target: { context: this.context }, awaitPromise: true });

@@ -29,7 +29,7 @@ execFileSync(join(package_, 'build'), [join(package_, 'canvas.wasm'), packed]);
 mkdirSync(installed, { recursive: true });
 execFileSync('tar', ['-xzf', packed, '-C', installed, '--strip-components', '1']);
 
-// A page whose script loads the client in this way, bundled into a folder; the index.html is in the folder's parent if the bundle is in `js`.
+// Bundles a script that loads the client in this way, and returns the folder of its page.
 function bundle(name, loading, words) {
   const entry = join(room, `${name}.js`), site = join(room, name);
   writeFileSync(entry, `import { Client, Link, ROOT } from 'lugcurrant';
@@ -48,7 +48,7 @@ window.edit = async (url, name, options) => {
 
 function index(site, script) { writeFileSync(join(site, 'index.html'), `<!doctype html><meta charset="utf-8"><script type="module" src="${script}"></script>`); }
 
-// A server of the files of a folder, on a free port.
+// Serves the files of a folder on a free port.
 async function serve(folder) {
   const server = createServer((asked, answer) => {
     const file = join(folder, asked.url === '/' ? 'index.html' : asked.url), isThere = existsSync(file);

@@ -30,7 +30,7 @@ process.on('exit', () => rmSync(room, { recursive: true, force: true }));
 const server = await Server.start(program);
 let tried = 0;
 
-// A folder of a program that has the package installed, and these other packages.
+// Returns the folder of a program that has the package installed, and these other packages.
 function install(name, ...others) {
   const folder = join(room, name), installed = join(folder, 'node_modules/lugcurrant');
   mkdirSync(installed, { recursive: true });
@@ -44,7 +44,7 @@ function run(folder, { options = [], words = 'find', name = 'page' } = {}) {
   return spawnSync(node, [...options, 'program.mjs', server.url, words, name], { cwd: folder, encoding: 'utf8', timeout: 30000 });
 }
 
-// The program ends well, by this kind of WebSocket, and its edit is in the server's folder.
+// Checks that the program ends well, by this kind of WebSocket, and that its edit is in the server's folder.
 function joins(by, folder, given = {}) {
   const name = `Page ${tried}`, { status, stdout, stderr } = run(folder, { ...given, name });
   assert.equal(status, 0, stderr);
