@@ -92,7 +92,7 @@ export async function compile(source) {
 }
 
 export class Client {
-  #calls; #handle; #made; #buffer; #room; #shown; #watchers = new Set();
+  #calls; #handle; #made; #buffer; #room; #shown; #watchers = new Set(); #savedTo = 0;
 
   // Where the module is found if `load` is given none: the package's entry for node or browsers says so.
   static defaultModule = null;
@@ -114,10 +114,15 @@ export class Client {
     this.#bytes(this.#handle, HANDLE_BYTES).fill(0);
     this.#shown = new Shown({ object: (id) => this.#object(id), children: (id) => this.#children(id), isInTree: (id) => this.isInTree(id) });
     this.#need(saved ? exports.lugcurrant_load(this.#handle, ...this.#write(bytesOf(saved))) : exports.lugcurrant_new(this.#handle));
+    if (saved) this.#savedTo = this.lastEdit;
   }
 
   // The client as bytes, of which `load` makes it again: to be kept before an edit is sent, and loaded for the same document alone.
-  save() { return this.#left(this.#calls.lugcurrant_save(this.#handle)); }
+  save() {
+    const saved = this.#left(this.#calls.lugcurrant_save(this.#handle));
+    this.#savedTo = this.lastEdit;
+    return saved;
+  }
 
   // A client without an id in the same module's memory.
   sibling() { return new Client(this.#calls); }
@@ -129,6 +134,7 @@ export class Client {
     this.#bytes(this.#handle, HANDLE_BYTES).set(bytes);
     bytes.fill(0);
     for (const at of [other.#made, other.#buffer, other.#handle]) this.#calls.memory_give(at);
+    this.#savedTo = other.#savedTo;
     this.#shown.touchAll();
     this.#tell('anew', null);
   }
@@ -147,6 +153,8 @@ export class Client {
   get acknowledged() { return fitted(BigInt.asUintN(64, this.#calls.lugcurrant_acknowledged(this.#handle))); }
   // The number of its last edit.
   get lastEdit() { return fitted(BigInt(this.acknowledged) + BigInt(this.waiting)); }
+  // The number of the last edit that stands in a save: another program that loads it sends the same edits up to this one.
+  get savedTo() { return this.#savedTo; }
   get waiting() { return fitted(BigInt.asUintN(64, this.#calls.lugcurrant_waiting(this.#handle))); }
   // The bytes of memory that the module has, and those that are in use.
   get memory() { return this.#calls.memory.buffer.byteLength; }

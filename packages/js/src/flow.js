@@ -6,7 +6,7 @@
 // version that the one before it leads to.
 import { NO_REASONS, REFUSALS } from './api.js';
 import { ClientError, textOfBytes } from './client.js';
-import { changeOf, members, remake } from './remake.js';
+import { changeOf, isShown, members, remake } from './remake.js';
 
 export const MOST_ENTRIES = 64;
 const ENDLESS = 1n << 62n;
@@ -25,6 +25,7 @@ export class Flow {
     this.mostPause = options.mostPause ?? 400;
     this.limit = ENDLESS;                         // edits above this number aren't sent yet: they aren't kept
     this.judged = 0n;                             // the greatest number of an edit that was answered by idle
+    this.tried = BigInt(client.lastEdit);         // the same of one that may have been judged without an answer: sent over a connection that was lost, or before
     this.state = 'connecting';
     this.words = '';
     this.isCaughtUp = false;                      // an ask has brought nothing more, since the connection was made
@@ -35,6 +36,7 @@ export class Flow {
   }
 
   reset() {
+    for (const it of this.fifo ?? []) if (it.what === 'edit') this.#mayBeJudged(it.number);
     this.isOpen = false;
     this.fifo = [];
     this.edits = 0;                               // under way, and their bytes
@@ -88,7 +90,8 @@ export class Flow {
 
   // Milliseconds after which `outgoing` may have more, or null: then something must happen first.
   due(now) {
-    if (!this.isOpen || this.anew?.step === 'scan') return null;
+    if (!this.isOpen) return null;
+    if (this.anew?.step === 'scan') return this.anew.isAsking || this.fifo.length ? null : Math.max(0, this.holdUntil - now);
     if (!this.#hearer.id) return this.fifo.length ? null : Math.max(0, this.holdUntil - now);
     const waits = [];
     if (this.#mayAsk()) waits.push(this.askAt - now);
@@ -151,6 +154,7 @@ export class Flow {
     if (!head) return this.#fault('an answer came that nobody has asked for');
     if (this.anew?.step === 'scan' || head.isVoid) return this.#pass(head, letter, bytes, now);
     const client = this.#hearer;
+    if (letter === COPY && client === this.client && this.#hidesTwin(bytes)) return this.beginAnew('replaced', { scan: true });
     let heard;
     try { heard = client.receive(bytes); } catch (fault) {
       if (!(fault instanceof ClientError)) throw fault;
@@ -162,6 +166,7 @@ export class Flow {
       if (heard.what === 'took') { head.took = true; if (client === this.client) { this.events.push({ type: 'took' }); this.#refused(bytes, letter); } }
       else if (heard.what === 'ahead') head.isAhead = true;
       else if (heard.what === 'not for me' && client === this.client) this.#another(letter, bytes);
+      if (this.anew?.client === client && letter === ENTRY) this.#find(textOfBytes(bytes));
       return undefined;
     }
     this.fifo.shift();
@@ -193,6 +198,7 @@ export class Flow {
   }
 
   #caughtUp(head, now) {
+    if (this.anew?.looks) { this.anew.step = 'scan'; return; }
     if (this.anew) { this.#swap(); return; }
     this.isCaughtUp = true;
     this.#misses(head, now);
@@ -211,15 +217,24 @@ export class Flow {
     if (this.missing.times >= PROVEN && now - this.missing.since >= PROVEN_AFTER) this.beginAnew('stranger', { scan: true, from: 0n });
   }
 
-  // A message for this version that the client can't take: an entry of its own id that isn't its edit, or a copy with other edits of it. Where the
-  // number isn't the next one either, the server has another history: the entries before it were passed by.
+  // The server may have judged this edit, though it hasn't said so.
+  #mayBeJudged(number) { if (number > this.tried) this.tried = number; }
+
+  // The greatest number under which an edit of this program may have been judged.
+  get #mostTried() { return this.judged > this.tried ? this.judged : this.tried; }
+
+  // Whether a copy counts edits as judged that the server never had from this program, so that another one uses the id. The client would take
+  // such a copy, and its own edits of these numbers for judged.
+  #hidesTwin(bytes) {
+    const { version, done } = headOfCopy(bytes), known = BigInt(this.client.acknowledged);
+    return version > BigInt(this.client.version) && done > known && done > this.#mostTried;
+  }
+
+  // A message for this version that the client can't take: an entry of its own id that isn't its edit, or a copy with fewer edits of it than it has
+  // heard of. Where the number isn't the next one either, the server has another history: the entries before it were passed by.
   #another(letter, bytes) {
-    const text = textOfBytes(letter === COPY ? bytes.subarray(0, 80) : bytes), known = BigInt(this.client.acknowledged);
-    if (letter === COPY) {
-      const done = BigInt(/^\["copy",\d+,(\d+)/.exec(text)?.[1] ?? 0);
-      return done < known ? this.beginAnew('stranger') : this.beginAnew('replaced', { scan: true });
-    }
-    const number = BigInt(members(members(text)[2])[1]);
+    if (letter === COPY) return this.beginAnew('stranger');
+    const known = BigInt(this.client.acknowledged), number = BigInt(members(members(textOfBytes(bytes))[2])[1]);
     return number === known + 1n ? this.beginAnew('replaced', { scan: true }) : this.beginAnew('stranger', { scan: true, from: 0n });
   }
 
@@ -229,6 +244,7 @@ export class Flow {
     if (reason === 1) return this.beginAnew('stranger', { scan: false });
     if (head.what === 'ask') { this.askAt = now + 1000; if (reason === 7) this.#tell(name, words); else this.#fault(words); return undefined; }
     if (head.what === 'join') { this.#tell(name, words); return this.#hold(now); }
+    if (!UNJUDGED.includes(reason)) this.#mayBeJudged(head.number);
     // Whatever was sent behind this edit is answered by gaps now: it is sent again.
     for (const it of this.fifo) if (it.what === 'edit') it.isVoid = true;
     this.sent = 0n;
@@ -248,22 +264,23 @@ export class Flow {
     const isEnd = letter !== ENTRY && letter !== COPY;
     if (this.anew?.step === 'scan' && !isEnd && head.isScan) {
       head.entries += 1;
-      if (letter === ENTRY) this.#find(textOfBytes(bytes)); else this.anew.done = BigInt(/^\["copy",\d+,(\d+)/.exec(textOfBytes(bytes.subarray(0, 80)))?.[1] ?? 0);
+      if (letter === ENTRY) this.#find(textOfBytes(bytes)); else this.anew.done = headOfCopy(bytes).done;
     }
     if (!isEnd) return undefined;
     this.fifo.shift();
     this.#left0(head);
-    if (head.what === 'edit' && letter === IDLE && head.number > this.judged) this.judged = head.number;
-    if (this.anew?.step === 'scan' && head.isScan) {
-      if (letter !== IDLE || head.entries < MOST_ENTRIES) this.#joinAnew(now);
-      else { this.anew.from += BigInt(head.entries); this.anew.isAsking = false; }
+    if (head.what === 'edit') {
+      if (letter !== IDLE) { if (!UNJUDGED.includes(reasonOf(bytes))) this.#mayBeJudged(head.number); } else if (head.number > this.judged) this.judged = head.number;
     }
+    if (this.anew?.step === 'scan' && head.isScan) this.#scanned(head, letter, bytes, now);
     return undefined;
   }
 
+  // Notes an entry of the id that is given up.
   #find(text) {
-    const [, , entry] = members(text), [author, number, what] = members(entry);
-    if (Number(author) === this.client.id) this.anew.found.set(number, what);
+    if (!text.startsWith(`[${this.client.id},`, text.indexOf(',', 9) + 1)) return;        // behind ["entry",VERSION,
+    const [, number, what] = members(members(text)[2]);
+    this.anew.found.set(number, what);
   }
 
   // An entry of the client's own that was refused is told in words. The client has taken it already: nothing is changed here.
@@ -279,12 +296,13 @@ export class Flow {
 
   // ---- beginning anew ----
 
-  // Goes on as another client: joins, hears what there is, and makes again what waits and was never judged.
+  // Goes on as another client: joins and hears what there is; then looks through the log, if `scan`, for what was judged of the edits that wait;
+  // hears what came meanwhile; and makes again what waits and was never judged. It looks as late as it can: the server may still read an edit that
+  // was sent over a connection that is lost.
   beginAnew(state, { scan = false, drop = false, from = BigInt(this.client.version) } = {}) {
     if (this.anew || !this.client.id) return undefined;         // without an id it has neither edits nor news
     for (const it of this.fifo) it.isVoid = true;
-    this.anew = { state, step: scan ? 'scan' : 'join', client: null, found: new Map(), done: 0n, from, drop, isAsking: false };
-    if (!scan) this.anew.client = this.client.sibling();
+    this.anew = { state, step: 'join', looks: scan, client: this.client.sibling(), found: new Map(), done: 0n, from, drop, isAsking: false };
     this.dropping = null;
     this.missing = null;
     this.top = 0n;
@@ -297,30 +315,50 @@ export class Flow {
   startedAnew() { if (this.anew) this.anew.isAsking = false; }
 
   #scan(out, now) {
-    if (this.anew.isAsking || this.fifo.length) return;
+    if (this.anew.isAsking || this.fifo.length || now < this.holdUntil) return;
     this.anew.isAsking = true;
     this.asking += 1;
     this.#push(out, 'ask', askText(this.client.id, this.anew.from), { isScan: true, at: now, isCounted: true });
   }
 
-  #joinAnew(now) { this.anew.step = 'join'; this.anew.client = this.client.sibling(); this.askAt = now; }
+  // An answer of the look has come: there is more, the server couldn't answer now, or all was seen.
+  #scanned(head, letter, bytes, now) {
+    const isMore = letter === IDLE && head.entries >= MOST_ENTRIES, isLater = letter !== IDLE && reasonOf(bytes) === 7;
+    if (isMore) this.anew.from += BigInt(head.entries);
+    if (isLater) this.#hold(now);
+    if (isMore || isLater) this.anew.isAsking = false;
+    else { this.anew.looks = false; this.anew.step = 'join'; this.askAt = now; }
+  }
+
+  // What became of an edit that waits: 'judged', 'open' if it surely wasn't, or 'unsure'. Of the numbers that a copy has hidden those are open that
+  // the server never had from this program, unless the edit is in a save: then another program may have sent the very edit. For the rest it counts
+  // whether the document shows what the edit did.
+  #fate(number, change) {
+    const { found, done, client } = this.anew, entry = found.get(String(number));
+    if (entry !== undefined) return entry === change ? 'judged' : 'open';
+    const saved = BigInt(this.client.savedTo), kept = this.limit === ENDLESS ? 0n : this.limit;
+    if (number > done || (number > this.#mostTried && number > saved && number > kept)) return 'open';
+    return isShown(client, change) ? 'judged' : 'unsure';
+  }
 
   #swap() {
-    const { client: fresh, found, done, drop, state } = this.anew, ids = new Map(), lost = [];
-    let number = BigInt(this.client.acknowledged), made = 0;
+    const { client: fresh, drop, state } = this.anew, ids = new Map(), lost = [], unsure = [], first = BigInt(this.client.acknowledged) + 1n;
     const changes = [...this.client.messages()].map((bytes) => changeOf(textOfBytes(bytes)));
+    const fates = changes.map((change, k) => this.#fate(first + BigInt(k), change));              // before edits that are made again change what is shown
+    let made = 0;
     changes.forEach((change, k) => {
-      number += 1n;
-      if (found.get(String(number)) === change || (state === 'stranger' && number <= done)) return;        // it was judged
-      const code = drop && k === 0 ? this.anew.state : remake(fresh, change, ids);
+      if (fates[k] === 'judged') return;
+      if (fates[k] === 'unsure') { unsure.push({ change }); return; }
+      const code = drop && k === 0 ? state : remake(fresh, change, ids);
       if (code) lost.push({ change, code }); else made += 1;
     });
     this.anew = null;
     this.judged = 0n;
+    this.tried = 0n;
     this.sent = 0n;
     this.isFull = false;
     this.client.become(fresh);
-    this.events.push({ type: 'anew', made, lost, ids });
+    this.events.push({ type: 'anew', made, lost, unsure, ids });
     this.isCaughtUp = true;
     this.#tell('online', '');
     this.events.push({ type: 'caught up' });
@@ -345,5 +383,11 @@ export class Flow {
 }
 
 const ENTRY = 0x65, COPY = 0x63, IDLE = 0x69;
+const UNJUDGED = [3, 4, 8, 9];                   // reasons of a No to an edit that wasn't judged
 const encoder = new TextEncoder();
 const askText = (id, version) => encoder.encode(`["ask",${id},${version}]`);
+const reasonOf = (no) => Number(/^\["no",(\d+)/.exec(textOfBytes(no))?.[1]);
+function headOfCopy(copy) {
+  const [, version, done] = /^\["copy",(\d+),(\d+)/.exec(textOfBytes(copy.subarray(0, 80))) ?? [null, 0, 0];
+  return { version: BigInt(version), done: BigInt(done) };
+}

@@ -1,5 +1,5 @@
 // Edits as texts: the parts of a message, and an edit that is made again out of its text, for the same client or another one.
-import { ClientError } from './client.js';
+import { ClientError, readValue, valueText } from './client.js';
 
 // The members of a JSON list's text, each as its text: numbers of 64 bits stay what they are.
 export function members(list) {
@@ -20,6 +20,18 @@ export function members(list) {
 export const changeOf = (message) => members(message)[3];
 
 const nameOf = (text) => JSON.parse(text).join(':');
+
+// Whether the document that the client shows has what the change did: then the change was judged, or isn't missed.
+export function isShown(client, change) {
+  const [word, id, ...rest] = members(change), what = JSON.parse(word), object = client.object(nameOf(id));
+  if (what === 'delete') return !object;
+  if (what === 'clear') return object?.properties[JSON.parse(rest[0])] === undefined;
+  if (!object) return false;
+  if (what === 'create') return object.kind === JSON.parse(rest[0]);
+  if (what === 'move') { const [parent, position] = members(rest[0]); return object.parent === nameOf(parent) && object.position === JSON.parse(position); }
+  const value = object.properties[JSON.parse(rest[0])];
+  return value !== undefined && valueText(value) === valueText(readValue(rest[1]));
+}
 
 // Makes the change again: in a client that has another id under the ids that `ids` gives for those of objects made again. Answers null, or
 // the code for which it can't be made.

@@ -52,9 +52,12 @@ class Client:
         self._handle = Handle()
         self._shown = Tree()
         self._watchers: dict[int, Watcher] = {}
+        self._saved_to = 0
         self._need(self._calls("new", self._handle) if saved is None else self._calls("load", self._handle, saved, len(saved)))
         if saved is None:
             self.changed()
+        else:
+            self._saved_to = self.last_edit
 
     def watch(self, told: Watcher) -> Callable[[], None]:
         """Calls `told` with "edit" after each edit, with "took" and its bytes after each message that was taken, and with "anew" after
@@ -72,6 +75,7 @@ class Client:
         self._need(self._calls("free", self._handle))
         self._handle.at, self._handle.mark = other._handle.at, other._handle.mark
         other._handle.at, other._handle.mark = None, 0
+        self._saved_to = other._saved_to
         self._shown.touch_all()
         self._tell("anew")
 
@@ -83,7 +87,9 @@ class Client:
 
     def save(self) -> bytes:
         """The client as bytes, of which `load` makes it again: to be kept before an edit is sent."""
-        return self._text(self._calls("save", self._handle))
+        saved = self._text(self._calls("save", self._handle))
+        self._saved_to = self.last_edit
+        return saved
 
     def close(self) -> None:
         """Ends the client, with all that waits."""
@@ -124,6 +130,11 @@ class Client:
     def last_edit(self) -> int:
         """The number of its last edit."""
         return self.acknowledged + self.waiting
+
+    @property
+    def saved_to(self) -> int:
+        """The number of the last edit that stands in a save: another program that loads it sends the same edits up to this one."""
+        return self._saved_to
 
     def create(self, kind: str, parent: ObjectId, after: ObjectId | None = None) -> ObjectId:
         """Creates an object under the parent, after a child of it, or as the first. Its id."""

@@ -9,7 +9,7 @@ from typing import Any
 from ._api import NO_REASONS, REFUSALS, State, What
 from .client import Client
 from .library import ClientError
-from .remake import change_of, members, remake
+from .remake import change_of, is_shown, members, remake
 from .values import ObjectId
 
 MOST_ENTRIES = 64
@@ -18,6 +18,7 @@ MOST_AHEAD = 4  # asks at once where a round trip's news fill more than one answ
 MOST_WAIT = 10  # seconds before what a server couldn't keep is sent again
 PROVEN, PROVEN_AFTER = 3, 2  # asks that must miss an edit that was answered, and for how long
 
+_UNJUDGED = (3, 4, 8, 9)  # reasons of a No to an edit that wasn't judged
 _HELD = (State.DISK_FAILED, State.DISK_FAILED_BEFORE, State.NO_MEMORY)
 
 
@@ -59,10 +60,11 @@ class _Sent:
 @dataclass
 class _Anew:
     state: State
-    step: str
+    looks: bool  # whether the log is still to be looked through
     start: int
     drop: bool
-    client: Client | None = None
+    client: Client = field(default_factory=Client)
+    step: str = "join"
     found: dict[int, str] = field(default_factory=dict)
     done: int = 0
     asking: bool = False
@@ -80,16 +82,21 @@ class Flow:
         self.least_pause, self.most_pause = least_pause, most_pause
         self.limit = ENDLESS  # edits above this number aren't sent yet: they aren't kept
         self.judged = 0  # the greatest number of an edit that was answered by idle
+        self.tried = client.last_edit  # the same of one that may have been judged without an answer: sent over a connection that was lost, or before
         self.state = State.CONNECTING
         self.words = ""
+        self.fifo: list[_Sent] = []
         self.anew: _Anew | None = None
         self.dropping: int | None = None
         self.events: list[Event] = []
         self._reset()
 
     def _reset(self) -> None:
+        for it in self.fifo:
+            if it.what == "edit":
+                self._may_be_judged(it.number)
         self.is_open = False
-        self.fifo: list[_Sent] = []
+        self.fifo = []
         self.edits = self.bytes = self.asking = 0
         self.width, self.top = 1, 0
         self.round = _Round()
@@ -149,8 +156,10 @@ class Flow:
 
     def due(self, now: float) -> float | None:
         """Seconds after which `outgoing` may have more, or None: then something must happen first."""
-        if not self.is_open or (self.anew and self.anew.step == "scan"):
+        if not self.is_open:
             return None
+        if self.anew and self.anew.step == "scan":
+            return None if self.anew.asking or self.fifo else max(0.0, self.hold_until - now)
         if self._hearer().id is None:
             return None if self.fifo else max(0.0, self.hold_until - now)
         waits = [self.ask_at - now] if self._may_ask() else []
@@ -159,7 +168,7 @@ class Flow:
         return max(0.0, min(waits)) if waits else None
 
     def _hearer(self) -> Client:
-        return self.anew.client if self.anew and self.anew.client else self.client
+        return self.anew.client if self.anew else self.client
 
     def _push(self, out: list[bytes], message: bytes, sent: _Sent) -> None:
         sent.size = len(message)
@@ -216,6 +225,8 @@ class Flow:
         if head.void or (self.anew and self.anew.step == "scan"):
             return self._pass(head, letter, message, now)
         client = self._hearer()
+        if letter == b"c" and client is self.client and self._hides_twin(message):
+            return self.begin_anew(State.REPLACED, scan=True)
         try:
             heard = client.receive(message)
         except (ClientError, MemoryError) as fault:
@@ -232,6 +243,8 @@ class Flow:
                 head.ahead = True
             elif heard.what is What.NOT_FOR_ME and client is self.client:
                 self._another(letter, message)
+            if self.anew and self.anew.client is client and letter == b"e":
+                self._find(message)
             return None
         self.fifo.pop(0)
         if heard.what is What.NO:
@@ -283,6 +296,9 @@ class Flow:
             self._caught_up(head, now)
 
     def _caught_up(self, head: _Sent, now: float) -> None:
+        if self.anew and self.anew.looks:
+            self.anew.step = "scan"
+            return None
         if self.anew:
             return self._swap()
         self.is_caught_up = True
@@ -302,13 +318,25 @@ class Flow:
         if times + 1 >= PROVEN and now - since >= PROVEN_AFTER * self.second:
             self.begin_anew(State.STRANGER, scan=True, start=0)
 
+    def _may_be_judged(self, number: int) -> None:
+        """The server may have judged this edit, though it hasn't said so."""
+        self.tried = max(self.tried, number)
+
+    def _most_tried(self) -> int:
+        """The greatest number under which an edit of this program may have been judged."""
+        return max(self.judged, self.tried)
+
+    def _hides_twin(self, message: bytes) -> bool:
+        """Whether a copy counts edits as judged that the server never had from this program, so that another one uses the id. The client would
+        take such a copy, and its own edits of these numbers for judged."""
+        version, done = _head_of_copy(message)
+        return version > self.client.version and done > max(self.client.acknowledged, self._most_tried())
+
     def _another(self, letter: bytes, message: bytes) -> None:
-        """A message for this version that the client can't take: an entry of its own id that isn't its edit, or a copy with other edits of it.
-        Where the number isn't the next one either, the server has another history: the entries before it were passed by."""
+        """A message for this version that the client can't take: an entry of its own id that isn't its edit, or a copy with fewer edits of it
+        than it has heard of. Where the number isn't the next one either, the server has another history: the entries before it were passed by."""
         if letter == b"c":
-            if _done_of(message) < self.client.acknowledged:
-                return self.begin_anew(State.STRANGER)
-            return self.begin_anew(State.REPLACED, scan=True)
+            return self.begin_anew(State.STRANGER)
         number = int(members(members(message.decode())[2])[1])
         if number == self.client.acknowledged + 1:
             return self.begin_anew(State.REPLACED, scan=True)
@@ -325,6 +353,8 @@ class Flow:
         if head.what == "join":
             self._tell(State(name), words)
             return self._hold(now)
+        if reason not in _UNJUDGED:
+            self._may_be_judged(head.number)
         # Whatever was sent behind this edit is answered by gaps now: it is sent again.
         for it in self.fifo:
             it.void = it.void or it.what == "edit"
@@ -352,23 +382,26 @@ class Flow:
         if scan and not ends:
             head.entries += 1
             if letter == b"e":
-                author, number, what, _ = members(members(message.decode())[2])
-                if int(author) == self.client.id:
-                    scan.found[int(number)] = what
+                self._find(message)
             else:
-                scan.done = _done_of(message)
+                scan.done = _head_of_copy(message)[1]
         if not ends:
             return
         self.fifo.pop(0)
         self._left(head)
         if head.what == "edit" and letter == b"i":
             self.judged = max(self.judged, head.number)
-        if scan and letter == b"i" and head.entries >= MOST_ENTRIES:
-            scan.start += head.entries
-            scan.asking = False
-        elif scan:
-            scan.step, scan.client = "join", Client()
-            self.ask_at = now
+        elif head.what == "edit" and _reason_of(message) not in _UNJUDGED:
+            self._may_be_judged(head.number)
+        if scan:
+            self._scanned(scan, head, letter, message, now)
+
+    def _find(self, message: bytes) -> None:
+        """Notes an entry of the id that is given up."""
+        if self.anew is None or not message.startswith(f"[{self.client.id},".encode(), message.find(b",", 9) + 1):  # behind ["entry",VERSION,
+            return
+        _, number, what, _ = members(members(message.decode())[2])
+        self.anew.found[int(number)] = what
 
     def _tell_refusal(self, message: bytes, letter: bytes) -> None:
         if letter != b"e" or b'["refused",' not in message:
@@ -384,14 +417,13 @@ class Flow:
     # Beginning anew.
 
     def begin_anew(self, state: State, scan: bool = False, drop: bool = False, start: int | None = None) -> None:
-        """Goes on as another client: joins, hears what there is, and makes again what waits and was never judged."""
+        """Goes on as another client: joins and hears what there is; then looks through the log, if `scan`, for what was judged of the edits that
+        wait; hears what came meanwhile; and makes again what waits and was never judged."""
         if self.anew or self.client.id is None:
             return  # without an id it has neither edits nor news
         for it in self.fifo:
             it.void = True
-        self.anew = _Anew(state, "scan" if scan else "join", self.client.version if start is None else start, drop)
-        if not scan:
-            self.anew.client = Client()
+        self.anew = _Anew(state, scan, self.client.version if start is None else start, drop)
         self.dropping = None
         self._missing = None
         self.top, self.width = 0, 1
@@ -400,33 +432,62 @@ class Flow:
 
     def _scan(self, out: list[bytes], now: float) -> None:
         assert self.anew is not None
-        if self.anew.asking or self.fifo:
+        if self.anew.asking or self.fifo or now < self.hold_until:
             return
         self.anew.asking = True
         self.asking += 1
         self._push(out, _ask_text(self.client.id, self.anew.start), _Sent("ask", 0, scan=True, at=now, counted=True))
 
+    def _scanned(self, scan: _Anew, head: _Sent, letter: bytes, message: bytes, now: float) -> None:
+        """An answer of the look has come: there is more, the server couldn't answer now, or all was seen."""
+        if letter == b"i" and head.entries >= MOST_ENTRIES:
+            scan.start += head.entries
+            scan.asking = False
+        elif letter == b"n" and _reason_of(message) == 7:
+            self._hold(now)
+            scan.asking = False
+        else:
+            scan.looks, scan.step = False, "join"
+            self.ask_at = now
+
+    def _fate(self, anew: _Anew, number: int, change: str) -> str:
+        """What became of an edit that waits: "judged", "open" if it surely wasn't, or "unsure". Of the numbers that a copy has hidden those are
+        open that the server never had from this program, unless the edit is in a save: then another program may have sent the very edit. For the
+        rest it counts whether the document shows what the edit did."""
+        entry = anew.found.get(number)
+        if entry is not None:
+            return "judged" if entry == change else "open"
+        saved = max(self.client.saved_to, 0 if self.limit == ENDLESS else self.limit)
+        if number > anew.done or number > max(self._most_tried(), saved):
+            return "open"
+        return "judged" if is_shown(anew.client, change) else "unsure"
+
     def _swap(self) -> None:
         anew = self.anew
-        assert anew is not None and anew.client is not None
+        assert anew is not None
         ids: dict[ObjectId, ObjectId] = {}
         lost: list[tuple[str, str]] = []
+        unsure: list[str] = []
         made = 0
         first = self.client.acknowledged + 1
-        for number, message in enumerate(self.client.messages(), first):
-            change = change_of(message)
-            if anew.found.get(number) == change or (anew.state is State.STRANGER and number <= anew.done):
-                continue  # it was judged
+        changes = [change_of(message) for message in self.client.messages()]
+        fates = [self._fate(anew, number, change) for number, change in enumerate(changes, first)]  # before what is made again changes what is shown
+        for number, (change, fate) in enumerate(zip(changes, fates), first):
+            if fate == "judged":
+                continue
+            if fate == "unsure":
+                unsure.append(change)
+                continue
             code = anew.state.value if anew.drop and number == first else remake(anew.client, change, ids)
             if code:
                 lost.append((change, code))
             else:
                 made += 1
         self.anew = None
-        self.judged = self.sent = 0
+        self.judged = self.tried = self.sent = 0
         self.is_full = False
         self.client.become(anew.client)
-        self.events.append(Event("anew", {"made": made, "lost": lost, "ids": ids}))
+        self.events.append(Event("anew", {"made": made, "lost": lost, "unsure": unsure, "ids": ids}))
         self.is_caught_up = True
         self._tell(State.ONLINE, "")
         self.events.append(Event("caught up"))
@@ -452,6 +513,12 @@ def _ask_text(id: int | None, version: int) -> bytes:
     return f'["ask",{id},{version}]'.encode()
 
 
-def _done_of(copy: bytes) -> int:
-    found = re.match(rb'\["copy",\d+,(\d+)', copy)
+def _head_of_copy(copy: bytes) -> tuple[int, int]:
+    """The version of a copy, and how many edits of the client were judged by then."""
+    found = re.match(rb'\["copy",(\d+),(\d+)', copy)
+    return (int(found.group(1)), int(found.group(2))) if found else (0, 0)
+
+
+def _reason_of(no: bytes) -> int:
+    found = re.match(rb'\["no",(\d+)', no)
     return int(found.group(1)) if found else 0

@@ -4,7 +4,7 @@ import json
 
 from .client import Client
 from .library import ClientError
-from .values import ObjectId
+from .values import ObjectId, value_of, value_text
 
 
 def members(text: str) -> list[str]:
@@ -36,6 +36,25 @@ def members(text: str) -> list[str]:
 def change_of(message: bytes) -> str:
     """The change of the text of a client's edit message."""
     return members(message.decode())[3]
+
+
+def is_shown(client: Client, change: str) -> bool:
+    """Whether the document that the client shows has what the change did: then the change was judged, or isn't missed."""
+    what, first, *rest = json.loads(change)
+    shown = client.objects().get(ObjectId(*first))
+    if what == "delete":
+        return shown is None
+    if what == "clear":
+        return shown is None or rest[0] not in shown.properties
+    if shown is None:
+        return False
+    if what == "create":
+        return bool(shown.kind == rest[0])
+    if what == "move":
+        parent, position = rest[0]
+        return shown.parent == ObjectId(*parent) and bool(shown.position == position)
+    name, value = rest
+    return name in shown.properties and value_text(shown.properties[name]) == value_text(value_of(value))
 
 
 def remake(client: Client, change: str, ids: dict[ObjectId, ObjectId] | None = None) -> str | None:
