@@ -242,7 +242,11 @@ export class Flow {
     const [name, words] = NO_REASONS[reason] ?? ['fault', `the server refuses for the reason ${reason}`];
     this.#left0(head);
     if (reason === 1) return this.beginAnew('stranger', { scan: false });
-    if (head.what === 'ask') { this.askAt = now + 1000; if (reason === 7) this.#tell(name, words); else this.#fault(words); return undefined; }
+    if (head.what === 'ask') {
+      this.askAt = now + 1000;
+      if (reason !== 7) this.#fault(words); else if (!this.isFull && this.dropping === null) this.#tell(name, words);
+      return undefined;
+    }
     if (head.what === 'join') { this.#tell(name, words); return this.#hold(now); }
     if (!UNJUDGED.includes(reason)) this.#mayBeJudged(head.number);
     // Whatever was sent behind this edit is answered by gaps now: it is sent again.

@@ -349,7 +349,11 @@ class Flow:
             return self.begin_anew(State.STRANGER)
         if head.what == "ask":
             self.ask_at = now + self.second
-            return self._tell(State(name), words) if reason == 7 else self._fault(words)
+            if reason != 7:
+                self._fault(words)
+            elif not self.is_full and self.dropping is None:
+                self._tell(State(name), words)
+            return None
         if head.what == "join":
             self._tell(State(name), words)
             return self._hold(now)
