@@ -241,7 +241,7 @@ export class Flow {
   #no(head, reason, now) {
     const [name, words] = NO_REASONS[reason] ?? ['fault', `the server refuses for the reason ${reason}`];
     this.#left0(head);
-    if (reason === 1) return this.beginAnew('stranger', { scan: false });
+    if (reason === 1) return this.#unknown();
     if (head.what === 'ask') {
       this.askAt = now + 1000;
       if (reason !== 7) this.#fault(words); else if (!this.isFull && this.dropping === null) this.#tell(name, words);
@@ -257,6 +257,14 @@ export class Flow {
     if (reason === 4) { this.isFull = true; return undefined; }
     if (reason === 8 || reason === 9) { this.dropping = head.number; this.askAt = now; return undefined; }
     return this.#hold(now);
+  }
+
+  // The server doesn't know the id. While this begins anew it is the new one, which joins once more.
+  #unknown() {
+    if (!this.anew) return this.beginAnew('stranger', { scan: false });
+    for (const it of this.fifo) it.isVoid = true;
+    this.anew.client = this.client.sibling();
+    return undefined;
   }
 
   #left0(head) { if (head.what === 'edit') this.#left(head); else if (head.isCounted) this.asking -= 1; }

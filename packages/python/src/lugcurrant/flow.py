@@ -346,7 +346,7 @@ class Flow:
         name, words = NO_REASONS.get(reason, ("fault", f"the server refuses for the reason {reason}"))
         self._left(head)
         if reason == 1:
-            return self.begin_anew(State.STRANGER)
+            return self._unknown()
         if head.what == "ask":
             self.ask_at = now + self.second
             if reason != 7:
@@ -373,6 +373,15 @@ class Flow:
             self.ask_at = now
         else:
             self._hold(now)
+        return None
+
+    def _unknown(self) -> None:
+        """The server doesn't know the id. While this begins anew it is the new one, which joins once more."""
+        if self.anew is None:
+            return self.begin_anew(State.STRANGER)
+        for it in self.fifo:
+            it.void = True
+        self.anew.client = Client()
         return None
 
     def _hold(self, now: float) -> None:
