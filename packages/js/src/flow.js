@@ -167,6 +167,7 @@ export class Flow {
       else if (heard.what === 'ahead') head.isAhead = true;
       else if (heard.what === 'not for me' && client === this.client) this.#another(letter, bytes);
       if (this.anew?.client === client && letter === ENTRY) this.#find(textOfBytes(bytes));
+      else if (this.anew?.client === client && heard.what === 'took') this.anew.looks = this.anew.scans;        // a copy has hidden what came since
       return undefined;
     }
     this.fifo.shift();
@@ -276,7 +277,7 @@ export class Flow {
     const isEnd = letter !== ENTRY && letter !== COPY;
     if (this.anew?.step === 'scan' && !isEnd && head.isScan) {
       head.entries += 1;
-      if (letter === ENTRY) this.#find(textOfBytes(bytes)); else this.anew.done = headOfCopy(bytes).done;
+      if (letter === ENTRY) { this.#find(textOfBytes(bytes)); this.anew.from += 1n; } else { const { version, done } = headOfCopy(bytes); Object.assign(this.anew, { from: version, done }); }
     }
     if (!isEnd) return undefined;
     this.fifo.shift();
@@ -314,7 +315,7 @@ export class Flow {
   beginAnew(state, { scan = false, drop = false, from = BigInt(this.client.version) } = {}) {
     if (this.anew || !this.client.id) return undefined;         // without an id it has neither edits nor news
     for (const it of this.fifo) it.isVoid = true;
-    this.anew = { state, step: 'join', looks: scan, client: this.client.sibling(), found: new Map(), done: 0n, from, drop, isAsking: false };
+    this.anew = { state, step: 'join', scans: scan, looks: scan, client: this.client.sibling(), found: new Map(), done: 0n, from, drop, isAsking: false };
     this.dropping = null;
     this.missing = null;
     this.top = 0n;
@@ -336,10 +337,12 @@ export class Flow {
   // An answer of the look has come: there is more, the server couldn't answer now, or all was seen.
   #scanned(head, letter, bytes, now) {
     const isMore = letter === IDLE && head.entries >= MOST_ENTRIES, isLater = letter !== IDLE && reasonOf(bytes) === 7;
-    if (isMore) this.anew.from += BigInt(head.entries);
     if (isLater) this.#hold(now);
-    if (isMore || isLater) this.anew.isAsking = false;
-    else { this.anew.looks = false; this.anew.step = 'join'; this.askAt = now; }
+    this.anew.isAsking = false;
+    if (isMore || isLater) return;
+    this.anew.looks = false;
+    this.anew.step = 'join';
+    this.askAt = now;
   }
 
   // What became of an edit that waits: 'judged', 'open' if it surely wasn't, or 'unsure'. Of the numbers that a copy has hidden those are open that

@@ -60,9 +60,10 @@ class _Sent:
 @dataclass
 class _Anew:
     state: State
-    looks: bool  # whether the log is still to be looked through
+    scans: bool  # whether the log is to be looked through
     start: int
     drop: bool
+    looks: bool = False  # whether it is still to be
     client: Client = field(default_factory=Client)
     step: str = "join"
     found: dict[int, str] = field(default_factory=dict)
@@ -245,6 +246,8 @@ class Flow:
                 self._another(letter, message)
             if self.anew and self.anew.client is client and letter == b"e":
                 self._find(message)
+            elif self.anew and self.anew.client is client and heard.took:
+                self.anew.looks = self.anew.scans  # a copy has hidden what came since
             return None
         self.fifo.pop(0)
         if heard.what is What.NO:
@@ -396,8 +399,9 @@ class Flow:
             head.entries += 1
             if letter == b"e":
                 self._find(message)
+                scan.start += 1
             else:
-                scan.done = _head_of_copy(message)[1]
+                scan.start, scan.done = _head_of_copy(message)
         if not ends:
             return
         self.fifo.pop(0)
@@ -436,7 +440,7 @@ class Flow:
             return  # without an id it has neither edits nor news
         for it in self.fifo:
             it.void = True
-        self.anew = _Anew(state, scan, self.client.version if start is None else start, drop)
+        self.anew = _Anew(state, scan, self.client.version if start is None else start, drop, looks=scan)
         self.dropping = None
         self._missing = None
         self.top, self.width = 0, 1
@@ -453,13 +457,10 @@ class Flow:
 
     def _scanned(self, scan: _Anew, head: _Sent, letter: bytes, message: bytes, now: float) -> None:
         """An answer of the look has come: there is more, the server couldn't answer now, or all was seen."""
-        if letter == b"i" and head.entries >= MOST_ENTRIES:
-            scan.start += head.entries
-            scan.asking = False
-        elif letter == b"n" and _reason_of(message) == 7:
+        scan.asking = False
+        if letter == b"n" and _reason_of(message) == 7:
             self._hold(now)
-            scan.asking = False
-        else:
+        elif letter != b"i" or head.entries < MOST_ENTRIES:
             scan.looks, scan.step = False, "join"
             self.ask_at = now
 
