@@ -42,7 +42,7 @@ function free(doc, parent, position, except) {
 }
 
 // What the server answers a change, and the document after it.
-function judge(doc, counters, author, change) {
+export function judge(doc, counters, author, change) {
   const [what, id, ...rest] = change, at = word(id);
   if (what !== 'set' && what !== 'clear' && at === '0:0') return ['refused', 1, null];
   if (what === 'create' && (id[0] !== author || id[1] <= (counters.get(author) ?? 0))) return ['refused', 2, null];
@@ -102,6 +102,7 @@ export class FakeServer {
     if (!this.done.has(id)) return ['["no",1]'];
     if (what === 'ask') {
       this.asks += 1;
+      if (this.trouble && this.dice() < 0.15) return ['["no",7]'];
       const version = message[2];
       if (version < this.floor) return [JSON.stringify(['copy', this.version, this.done.get(id), rowsOf(this.doc)]), '["idle"]'];
       return [...this.log.slice(version, version + 64).map((entry, k) => JSON.stringify(['entry', version + k + 1, entry])), '["idle"]'];
@@ -120,7 +121,19 @@ export class FakeServer {
   }
 
   checkpoint() { this.floor = this.version; }
-  save() { return JSON.stringify([this.log, this.floor]); }
+
+  // The document at a version, and the greatest counters of the clients' creations by then.
+  stateAt(version) {
+    const doc = newDoc(), counters = new Map();
+    for (const [author, , change] of this.log.slice(0, version)) if (change !== 'join') judge(doc, counters, author, change);
+    return { doc, counters };
+  }
+
+  // Forgets that the last edit of this client was judged; the log stays as it is.
+  forget(id) { this.done.set(id, this.done.get(id) - 1); }
+  // Forgets that this client has joined.
+  strike(id) { this.done.delete(id); }
+
   // The server of an older log.
   back(version) {
     const log = this.log.slice(0, version);

@@ -1,31 +1,84 @@
 #!/usr/bin/env node
-// Plants mistakes into a copy of flow.js, each of which the random worlds have to find:  wrong.mjs [WORLDS]
+// Plants mistakes into copies of flow.js and remake.js, each of which the random worlds have to find:  wrong.mjs [WORLDS [NAME]]
+// With a part of a name those mistakes alone are planted.
 import { cpSync, mkdtempSync, readFileSync, rmSync, writeFileSync } from 'node:fs';
-import { spawnSync } from 'node:child_process';
-import { tmpdir } from 'node:os';
+import { spawn } from 'node:child_process';
+import { availableParallelism, tmpdir } from 'node:os';
 import { join } from 'node:path';
 import { fileURLToPath } from 'node:url';
 
-const MISTAKES = [
+const FLOW = [
   ['edits of a lost connection count as sent', 'this.sent = 0n;\n    this.isCaughtUp', 'this.isCaughtUp'],
   ['what is behind a No stays as sent', "    this.sent = 0n;\n    if (reason === 3)", '    if (reason === 3)'],
   ['the window is one larger', 'this.edits < this.window', 'this.edits <= this.window'],
   ['an own entry of another is passed by', "? this.beginAnew('replaced', { scan: true }) :", '? undefined :'],
-  ['what was judged is made again', "if (found.get(String(number)) === change ||", 'if ('],
-  ['an edit that is too large stays', "drop && k === 0 ? this.anew.state :", ''],
+  ['what was judged is made again', "return entry === change ? 'judged' : 'open'", "return 'open'"],
+  ['an edit that is too large stays', 'drop && k === 0 ? state :', ''],
+  // The server has other edits of the client than it believes.
+  ['a first gap is waited out', "head.isFirst ? this.beginAnew('stranger', { scan: false }) : undefined", 'head.isFirst ? this.#hold(now) : undefined'],
+  ['a first gap is passed by', "head.isFirst ? this.beginAnew('stranger', { scan: false }) : undefined", 'undefined'],
+  ['a copy with fewer edits is passed by', "if (letter === COPY) return this.beginAnew('stranger')", 'if (letter === COPY) return undefined'],
+  ['a new id that is unknown is asked for on', 'this.anew.client = this.client.sibling();\n    return undefined', 'return undefined'],
+  // Edits that are made again.
+  ['after one that is lost, all are', 'if (code) lost.push', 'if (code || lost.length) lost.push'],
+  ['what is lost is not told', 'if (code) lost.push({ change, code }); else made += 1;', 'made += 1;'],
+  ['the first edit is lost', 'drop && k === 0 ? state', 'k === 0 ? state'],
+  ['what is judged counts on for the new id', 'this.judged = 0n;\n    this.tried', 'this.tried'],
+  // Twins, and copies that hide the log.
+  ['a copy is taken whatever it counts', 'done > known && done > this.#mostTried', 'false'],
+  ['an edit under way over a lost connection counts as never sent', "if (it.what === 'edit') this.#mayBeJudged(it.number);", ''],
+  ['an edit that the disk failed counts as never sent', 'if (!UNJUDGED.includes(reason)) this.#mayBeJudged(head.number);', ''],
+  ['what a copy has hidden is made again', "if (number > done ||", 'if (true ||'],
+  ['what a copy has hidden counts as judged', "? 'judged' : 'unsure'", "? 'judged' : 'judged'"],
+  ['what is unsure is not told', 'unsure.push({ change }); return;', 'return;'],
+  ['what was never sent is unsure', 'number > done || (number > this.#mostTried && number > saved && number > kept)', 'number > done'],
+  ['what stands in a save counts as never sent', ' && number > saved', ''],
+  ['the look ends after one answer', 'const isMore = letter === IDLE && head.entries >= MOST_ENTRIES', 'const isMore = false'],
+  ['the new id joins ahead of the answers', 'if (this.fifo.length || now < this.holdUntil) return;', 'if (now < this.holdUntil) return;'],
+  ['what the new id hears is not looked through', 'if (this.anew?.client === client && letter === ENTRY) this.#find', 'if (false) this.#find'],
+  ['what was tried counts on for the new id', 'this.tried = 0n;', ''],
+  ['the look ends where the server has no memory', 'reasonOf(bytes) === 7;', 'false;'],
+  ['nothing is looked for', 'if (this.anew?.looks) {', 'if (false) {'],
+];
+const REMAKE = [
+  ['an object whose position is taken is lost', "if (!(fault instanceof ClientError) || fault.code !== 'Taken') throw fault;\n        made", 'throw fault;\n        made'],
+  ['a move to a position that is taken is lost', "if (!(fault instanceof ClientError) || fault.code !== 'Taken') throw fault;\n        client.moveLast", 'throw fault;\n        client.moveLast'],
+  ['the ids of objects that were made again are forgotten', 'ids.set(at, made);', ''],
+  ['an object is made again under its old parent', "under = now(nameOf(parent)), wanted = JSON.parse(position);\n      let", "under = nameOf(parent), wanted = JSON.parse(position);\n      let"],
+  ['an object is moved under the old parent', "under = now(nameOf(parent)), wanted = JSON.parse(position);\n      try { client.moveAt", "under = nameOf(parent), wanted = JSON.parse(position);\n      try { client.moveAt"],
+  ['the old object is moved', 'client.moveAt(now(at)', 'client.moveAt(at'],
+  ['the old object is set', 'client.setJson(now(at)', 'client.setJson(at'],
+  ['the old object is cleared', 'client.clear(now(at)', 'client.clear(at'],
+  ['the old object is deleted', 'client.delete(now(at)', 'client.delete(at'],
+  ['a copy shows any object that has the id', "if (what === 'create') return object.kind ===", "if (what === 'create') return true || object.kind ==="],
 ];
 
-const here = fileURLToPath(new URL('..', import.meta.url)), room = mkdtempSync(join(tmpdir(), 'wrong-')), worlds = process.argv[2] ?? '150';
-for (const it of ['src', 'test', 'canvas.wasm', 'package.json']) cpSync(join(here, it), join(room, it), { recursive: true });
-const right = readFileSync(join(here, 'src/flow.js'), 'utf8');
-let missed = 0;
-for (const [name, from, to] of MISTAKES) {
-  if (!right.includes(from)) { console.log(`${name}: the place isn't there`); missed += 1; continue; }
-  writeFileSync(join(room, 'src/flow.js'), right.replace(from, to));
-  const { status, stderr } = spawnSync('node', [join(room, 'test/worlds.mjs'), '1', worlds], { encoding: 'utf8', timeout: 60000 });
-  if (status === 0) missed += 1;
-  console.log(`${name}: ${status === 0 ? 'NOT FOUND' : `found (${stderr.split('\n')[0].replace(/^world (\d+).*?: /, 'world $1: ').slice(0, 110)})`}`);
+const here = fileURLToPath(new URL('..', import.meta.url)), top = mkdtempSync(join(tmpdir(), 'wrong-')), [worlds = '150', wanted = ''] = process.argv.slice(2);
+const mistakes = [...FLOW.map((it) => ['src/flow.js', ...it]), ...REMAKE.map((it) => ['src/remake.js', ...it])].filter(([, name]) => name.includes(wanted));
+
+// What the worlds say of the package with the mistake: null if they don't find it, or don't end in time.
+function found(room) {
+  return new Promise((resolve) => {
+    const run = spawn('node', [join(room, 'test/worlds.mjs'), '1', worlds, '--first'], { stdio: ['ignore', 'ignore', 'pipe'], timeout: 300000 });
+    let said = '';
+    run.stderr.on('data', (bytes) => { said += bytes; });
+    run.on('close', (status) => resolve(status ? said.split('\n')[0].replace(/^world (\d+).*?: /, 'world $1: ').slice(0, 110) : null));
+  });
 }
-rmSync(room, { recursive: true });
-console.log(`${MISTAKES.length} mistakes, ${missed} not found`);
+
+async function plant([file, name, from, to], k) {
+  const right = readFileSync(join(here, file), 'utf8'), room = join(top, String(k));
+  if (right.split(from).length !== 2) { console.log(`${name}: the place isn't there, or not once`); return false; }
+  for (const it of ['src', 'test', 'canvas.wasm', 'package.json']) cpSync(join(here, it), join(room, it), { recursive: true });
+  writeFileSync(join(room, file), right.replace(from, () => to));
+  const what = await found(room);
+  console.log(`${name}: ${what ? `found (${what})` : 'NOT FOUND'}`);
+  return Boolean(what);
+}
+
+let next = 0, missed = 0;
+const worker = async () => { while (next < mistakes.length) { const k = next; next += 1; if (!await plant(mistakes[k], k)) missed += 1; } };
+await Promise.all(Array.from({ length: Math.min(4, availableParallelism()) }, worker));
+rmSync(top, { recursive: true });
+console.log(`${mistakes.length} mistakes, ${missed} not found`);
 process.exit(missed ? 1 : 0);

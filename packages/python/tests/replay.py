@@ -35,8 +35,12 @@ def edit(client, name, args):
     return "edit", None if made is None else str(made)
 
 
+def told(anew):
+    return [anew["made"], [list(it) for it in anew["lost"]], anew["unsure"], [[str(old), str(new)] for old, new in anew["ids"].items()]]
+
+
 def main():
-    flows, counts = {}, {"worlds": 0, "calls": 0, "edits": 0, "ends": 0}
+    flows, anew, counts = {}, {}, {"worlds": 0, "calls": 0, "edits": 0, "anew": 0, "ends": 0}
     for number, line in enumerate(sys.stdin, 1):
         what, n, *rest = json.loads(line)
         if what == "new":
@@ -46,6 +50,12 @@ def main():
             flows[n] = Flow(client, **{OPTIONS[k]: v for k, v in options.items()}, least_pause=5, most_pause=400, second=1000)
         elif what == "forget":
             flows[n].anew = None
+        elif what == "save":
+            assert flows[n].client.save().decode() == rest[0], f"line {number}: another save"
+        elif what == "anew":
+            counts["anew"] += 1
+            found = anew.pop(n)
+            assert found == rest, f"line {number}: {rest} and here {found}"
         elif what in ("edit", "refused"):
             counts["edits"] += 1
             name, args, wanted = rest
@@ -60,8 +70,10 @@ def main():
             counts["calls"] += 1
             args, wanted = rest
             found = call(flows[n], what, args)
-            flows[n].events.clear()
             assert found == wanted, f"line {number}: {line.strip()[:300]}: here {found}"
+            anew.update((n, told(event.detail)) for event in flows[n].events if event.type == "anew")
+            flows[n].events.clear()
+    assert not anew, f"begun anew here alone: {anew}"
     print(counts, "each answer the same")
 
 
