@@ -3,5 +3,5 @@ export { FAULTS, FINAL_STATES, HEARD, KINDS, NO_REASONS, NUMBERS, REFUSALS, STAT
 export { Client, ClientError, Colour, ROOT, compile, readValue, valueText } from './client.js';
 export { Flow } from './flow.js';
 export { Link, warnBeforeClosing } from './link.js';
-export { Kept, lockOfBrowser, shelfOfBrowser } from './keep.js';
-export { changeOf, members, remake } from './remake.js';
+export { Kept, ReplayError, lockOfBrowser, shelfOfBrowser } from './keep.js';
+export { changeOf, isShown, members, remake } from './remake.js';

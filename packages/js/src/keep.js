@@ -7,6 +7,16 @@ import { changeOf, remake } from './remake.js';
 const EDIT = 1, TOOK = 2;
 const LEAST_JOURNAL = 65536;                                   // bytes of a journal before all is kept anew
 
+// What was kept doesn't come to the client that kept it. Of what was kept, counted from 0 for the whole client, number `index` is `kept`, and here it
+// was `made` another edit, or none for the reason `code`. `left` is this and what follows: { what: 'all' | 'edit' | 'took', message }.
+export class ReplayError extends Error {
+  constructor(index, code, made, left) {
+    super(`what was kept can't be replayed: number ${index} is ${left[0].message.slice(0, 200)}, and here ${made ?? code}`);
+    this.name = 'ReplayError';
+    Object.assign(this, { index, kept: left[0].message, code, made, left });
+  }
+}
+
 // A shelf keeps one client: `read()` answers { all, journal: [bytes, ..] }, `put(all)` keeps all and no journal, `add(parts)` keeps more parts, each
 // of them when it answers; `end()` forgets all and lets go, `close()` lets go.
 export class Kept {
@@ -14,26 +24,19 @@ export class Kept {
 
   constructor(shelf) { this.#shelf = shelf; this.fault = null; }
 
-  // The client that was kept, or a new one: of this module, as for Client.load.
-  async load(module = null) {
+  // The client that was kept, or a new one: of this module, as for Client.load. Throws a ReplayError if what was kept doesn't come to that client;
+  // then nothing of it is touched. With `takePrefix` it goes on with what came before that, and `fault` has the error.
+  async load(module = null, { takePrefix = false } = {}) {
     const { all, journal } = await this.#shelf.read();
-    let client = null;
-    if (all) {
-      try { client = await Client.load(module, all); } catch (fault) { if (!(fault instanceof ClientError)) throw fault; this.fault = fault; }
+    this.fault = null;
+    let client;
+    try { client = await replayed(module, all, journal); } catch (fault) {
+      if (!(fault instanceof ReplayError) || !takePrefix) throw fault;
+      this.fault = fault;
+      client = await replayed(module, fault.index ? all : null, journal.slice(0, Math.max(0, fault.index - 1)));
     }
-    if (client) this.#replay(client, journal); else client = await Client.load(module);
     this.watch(client);
     return client;
-  }
-
-  #replay(client, journal) {
-    for (const bytes of journal) {
-      const rest = bytes.subarray(1);
-      if (bytes[0] === TOOK) { client.receive(rest); continue; }
-      const change = changeOf(textOfBytes(rest)), fault = remake(client, change);
-      const again = fault ?? changeOf(textOfBytes(client.editMessage(client.waiting)));
-      if (again !== change) { this.fault = new Error(`a kept edit is another one when it is made again: ${again}`); return; }
-    }
   }
 
   watch(client) {
@@ -61,7 +64,7 @@ export class Kept {
   }
 
   async #flush() {
-    if (!this.#shelf) return;
+    if (!this.#shelf || !this.#client) return;
     const parts = this.#parts;
     this.#parts = [];
     this.#size += parts.reduce((sum, part) => sum + part.length, 0);
@@ -76,6 +79,43 @@ export class Kept {
   // Forgets the client; ends keeping.
   async end() { const shelf = this.#shelf; this.#shelf = null; this.#unwatch?.(); await shelf?.end().catch(() => {}); }
   async close() { await this.flush(); const shelf = this.#shelf; this.#shelf = null; this.#unwatch?.(); await shelf?.close(); }
+}
+
+const WORDS = { [EDIT]: 'edit', [TOOK]: 'took' };
+
+// What was kept from this number on: 0 is the whole client, and the journal is counted from 1.
+function leftOf(all, journal, index) {
+  const left = journal.slice(Math.max(0, index - 1)).map((bytes) => ({ what: WORDS[bytes[0]] ?? 'unknown', message: textOfBytes(bytes.subarray(1)) }));
+  return index ? left : [{ what: 'all', message: textOfBytes(all) }, ...left];
+}
+
+// The client of which all was kept, with what it did since, or a new one.
+async function replayed(module, all, journal) {
+  if (!all) return Client.load(module);
+  let client;
+  try { client = await Client.load(module, all); } catch (fault) {
+    if (!(fault instanceof ClientError)) throw fault;
+    throw new ReplayError(0, fault.code, null, leftOf(all, journal, 0));
+  }
+  journal.forEach((bytes, k) => {
+    const message = textOfBytes(bytes.subarray(1)), { code, made } = doAgain(client, bytes[0], message);
+    if (code || made !== message) throw new ReplayError(k + 1, code, made, leftOf(all, journal, k + 1));
+  });
+  return client;
+}
+
+// Does again what the client did: the edit that it has made then, or the message that it took; or the code for which it can't.
+function doAgain(client, kind, message) {
+  try {
+    if (kind === TOOK) { const { what } = client.receive(message); return what === 'took' ? { code: null, made: message } : { code: what, made: null }; }
+    if (kind !== EDIT) return { code: 'unknown', made: null };
+    const code = remake(client, changeOf(message));
+    return { code, made: code ? null : textOfBytes(client.editMessage(client.waiting)) };
+  } catch (fault) {
+    if (fault instanceof ClientError) return { code: fault.code, made: null };
+    if (fault instanceof SyntaxError || fault instanceof TypeError) return { code: 'NotAMessage', made: null };         // changeOf and remake read it
+    throw fault;
+  }
 }
 
 // ---- in browsers: IndexedDB, and the lock of this name ----

@@ -54,7 +54,7 @@ export function shelfOfFile(path) {
         parts.push(bytes.subarray(at + 4, at + 4 + length));
         at += 4 + length;
       }
-      const [all = null, ...journal] = parts;
+      const [all = bytes.length ? bytes : null, ...journal] = parts;          // no crash cuts the whole client: it is no client then
       return { all, journal };
     },
     async put(bytes) {

@@ -16,7 +16,7 @@ from ._api import FAULTS, NO_REASONS, REFUSALS, State, What
 from ._api import VERSION as __version__
 from .client import Changes, Client, Heard
 from .flow import Event, Flow
-from .keep import FileShelf, Kept, Shelf
+from .keep import FileShelf, Kept, ReplayError, Shelf
 from .library import ClientError, LibraryMissing
 from .shown import Shown
 from .tree import Node
@@ -27,7 +27,7 @@ if TYPE_CHECKING:
 
 __all__ = [
     "Changes", "Client", "ClientError", "Colour", "Event", "FAULTS", "FileShelf", "Flow", "Heard", "Kept", "LibraryMissing", "Link", "LinkEnded",
-    "NO_REASONS", "Node", "ObjectId", "REFUSALS", "ROOT", "Shelf", "Shown", "State", "Value", "What", "__version__",
+    "NO_REASONS", "Node", "ObjectId", "REFUSALS", "ReplayError", "ROOT", "Shelf", "Shown", "State", "Value", "What", "__version__",
 ]  # fmt: skip
 
 

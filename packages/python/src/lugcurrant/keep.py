@@ -14,6 +14,15 @@ _EDIT, _TOOK = b"\x01", b"\x02"
 _LEAST_JOURNAL = 65536
 
 
+class ReplayError(Exception):
+    """What was kept doesn't come to the client that kept it. Of what was kept, counted from 0 for the whole client, number `index` is `kept`, and
+    here it was `made` another edit, or none for the reason `code`. `left` is this and what follows: ("all", "edit" or "took", the message)."""
+
+    def __init__(self, index: int, code: str | None, made: str | None, left: list[tuple[str, str]]) -> None:
+        self.index, self.kept, self.code, self.made, self.left = index, left[0][1], code, made, left
+        super().__init__(f"what was kept can't be replayed: number {index} is {self.kept[:200]}, and here {made or code}")
+
+
 class Shelf(Protocol):
     """Keeps one client. Each call answers once it is kept."""
 
@@ -49,7 +58,7 @@ class FileShelf:
                 break  # cut by a crash: it was never sent
             parts.append(bytes_[at + 4 : at + 4 + length])
             at += 4 + length
-        return parts
+        return parts or ([bytes_] if bytes_ else [])  # no crash cuts the whole client: it is no client then
 
     def put(self, whole: bytes) -> None:
         if self._file:
@@ -91,33 +100,21 @@ class Kept:
         self._client: Client | None = None
         self.fault: Exception | None = None
 
-    def load(self) -> Client:
-        """The client that was kept, or a new one."""
+    def load(self, *, take_prefix: bool = False) -> Client:
+        """The client that was kept, or a new one. Raises ReplayError if what was kept doesn't come to that client; then nothing of it is touched.
+        With `take_prefix` it goes on with what came before that, and `fault` has the error."""
         assert self._shelf is not None
-        whole, *journal = self._shelf.read() or [b""]
-        client = None
-        if whole:
-            try:
-                client = Client.load(whole)
-                self._replay(client, journal)
-            except ClientError as fault:
-                self.fault = fault
-        client = client or Client()
+        parts = self._shelf.read()
+        self.fault = None
+        try:
+            client = _replayed(parts)
+        except ReplayError as fault:
+            if not take_prefix:
+                raise
+            self.fault = fault
+            client = _replayed(parts[: fault.index])
         self.watch(client)
         return client
-
-    def _replay(self, client: Client, journal: list[bytes]) -> None:
-        for part in journal:
-            if part[:1] == _TOOK:
-                client.receive(part[1:])
-                continue
-            change = change_of(part[1:])
-            fault = remake(client, change)
-            message = client.edit_message(client.waiting)
-            again = fault or (change_of(message) if message else "")
-            if again != change:
-                self.fault = ValueError(f"a kept edit is another one when it is made again: {again}")
-                return
 
     def watch(self, client: Client) -> None:
         self._client = client
@@ -163,3 +160,43 @@ class Kept:
         if self._shelf:
             self._shelf.close()
         self._shelf = None
+
+
+_WORDS = {_EDIT: "edit", _TOOK: "took"}
+
+
+def _left(parts: list[bytes], index: int) -> list[tuple[str, str]]:
+    """What was kept from this number on."""
+    left = [(_WORDS.get(part[:1], "unknown"), part[1:].decode(errors="replace")) for part in parts[max(1, index) :]]
+    return left if index else [("all", parts[0].decode(errors="replace")), *left]
+
+
+def _replayed(parts: list[bytes]) -> Client:
+    """The client of which all was kept, with what it did since, or a new one."""
+    if not parts:
+        return Client()
+    try:
+        client = Client.load(parts[0])
+    except ClientError as fault:
+        raise ReplayError(0, fault.code, None, _left(parts, 0)) from None
+    for index, part in enumerate(parts[1:], 1):
+        code, made = _do_again(client, part[:1], part[1:])
+        if code or made != part[1:]:
+            raise ReplayError(index, code, made.decode() if made else None, _left(parts, index))
+    return client
+
+
+def _do_again(client: Client, kind: bytes, message: bytes) -> tuple[str | None, bytes | None]:
+    """Does again what the client did: the edit that it has made then, or the message that it took; or the code for which it can't."""
+    try:
+        if kind == _TOOK:
+            heard = client.receive(message)
+            return (None, message) if heard.took else (heard.what.name.lower().replace("_", " "), None)
+        if kind != _EDIT:
+            return "unknown", None
+        code = remake(client, change_of(message))
+        return code, None if code else client.edit_message(client.waiting)
+    except ClientError as fault:
+        return fault.code, None
+    except (ValueError, IndexError, TypeError):  # change_of and remake read it
+        return "NotAMessage", None
