@@ -16,7 +16,7 @@ const folderOf = (url) => {
 class LinkEvent extends Event { constructor(type, detail) { super(type); this.detail = detail; } }
 
 // Events: 'state'; 'change' after the client took something or made an edit; 'refused' { version, number, edit, id, name, words } for an edit that
-// the server refused; 'anew' { made, lost } where it went on as another client; 'settled' where nothing waits and nothing new is to be had; 'unsent'
+// the server refused; 'anew' { made, lost, unsure } where it went on as another client; 'settled' where nothing waits and nothing new is to be had; 'unsent'
 // when their count is another. `on(name, act)` is addEventListener that gives the detail, and answers a function that ends it.
 export class Link extends EventTarget {
   // How a WebSocket is found where none is given: the package's entry for node or browsers says so.

@@ -65,6 +65,8 @@ export declare class Client {
   readonly waiting: Whole;
   /** The number of its last edit. */
   readonly lastEdit: Whole;
+  /** The number of the last edit that stands in a save: another program that loads it sends the same edits up to this one. */
+  readonly savedTo: Whole;
   /** The bytes of memory that the module has. */
   readonly memory: number;
   /** Those that are in use. */
@@ -121,7 +123,12 @@ export interface Changes { put: CanvasObject[]; gone: ObjectId[] }
 export interface Refusal { version: Whole; number: Whole; edit: string; id: ObjectId; name: RefusalName; words: string }
 /** An edit that couldn't be made again, as its JSON (docs/wire.md), and why. */
 export interface LostEdit { change: string; code: string }
-export interface Anew { made: number; lost: LostEdit[]; ids: ReadonlyMap<ObjectId, ObjectId> }
+/**
+ * An edit that wasn't made again, as it may have been judged: another program used the id, and a checkpoint has hidden whose edit was. The document
+ * doesn't show what it did.
+ */
+export interface UnsureEdit { change: string }
+export interface Anew { made: number; lost: LostEdit[]; unsure: UnsureEdit[]; ids: ReadonlyMap<ObjectId, ObjectId> }
 
 export interface LinkEvents { state: Link; change: boolean; refused: Refusal; anew: Anew; settled: Link; unsent: number }
 
@@ -200,14 +207,30 @@ export interface Shelf {
   close(): Promise<void>;
 }
 
+/** What was kept doesn't come to the client that kept it: what was kept was changed, or belongs to another version of this package. */
+export declare class ReplayError extends Error {
+  /** Which of what was kept: 0 is the whole client, and what it did since is counted from 1. */
+  readonly index: number;
+  /** The edit or message that was kept, and the edit that it comes to, or null. */
+  readonly kept: string;
+  readonly made: string | null;
+  /** Why it can't be done again; null if it comes to another edit. */
+  readonly code: string | null;
+  /** This and what follows. */
+  readonly left: { what: 'all' | 'edit' | 'took' | 'unknown'; message: string }[];
+}
+
 /** Keeps a client: all of it at times, and each edit and message since. */
 export declare class Kept {
   constructor(shelf: Shelf);
   /** Why nothing is kept any more, or not all could be read. */
   readonly fault: Error | null;
   readonly isKeeping: boolean;
-  /** The client that was kept, or a new one. */
-  load(module?: ModuleSource | null): Promise<Client>;
+  /**
+   * The client that was kept, or a new one. Throws a ReplayError if what was kept doesn't come to that client, and touches nothing of it then. With
+   * `takePrefix` it goes on with what came before, `fault` is the error, and the next edit that is kept replaces what was kept.
+   */
+  load(module?: ModuleSource | null, options?: { takePrefix?: boolean }): Promise<Client>;
   watch(client: Client): void;
   flush(): Promise<void>;
   end(): Promise<void>;
@@ -238,4 +261,6 @@ export declare class Flow {
 }
 export declare function changeOf(message: string): string;
 export declare function members(list: string): string[];
+/** Whether the document that the client shows has what the change did. */
+export declare function isShown(client: Client, change: string): boolean;
 export declare function remake(client: Client, change: string, ids?: Map<ObjectId, ObjectId>): FaultCode | null;
