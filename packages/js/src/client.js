@@ -252,6 +252,9 @@ export class Client {
     return answer === DONE;
   }
 
+  // Whether the object is in the view, in the tree or not.
+  isInView(id) { return this.#left(this.#calls.lugcurrant_object(this.#handle, ...numbersOf(id))) !== null; }
+
   // The objects of the tree by their ids. What has changed is read when this is called, and no other object.
   objects() { return this.#shown.update(); }
   object(id) { return this.objects().get(id) ?? null; }

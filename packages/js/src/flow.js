@@ -224,11 +224,28 @@ export class Flow {
   // The greatest number under which an edit of this program may have been judged.
   get #mostTried() { return this.judged > this.tried ? this.judged : this.tried; }
 
-  // Whether a copy counts edits as judged that the server never had from this program, so that another one uses the id. The client would take
-  // such a copy, and its own edits of these numbers for judged.
+  // Whether a copy counts edits as judged that aren't this program's, so that another one uses the id: the server never had them from it, or the
+  // document has an object of theirs. The client would take such a copy, and its own edits of these numbers for judged; and when it creates an object
+  // with the id of the other one, and is refused, it would show neither.
   #hidesTwin(bytes) {
     const { version, done } = headOfCopy(bytes), known = BigInt(this.client.acknowledged);
-    return version > BigInt(this.client.version) && done > known && done > this.#mostTried;
+    return version > BigInt(this.client.version) && done > known && (done > this.#mostTried || this.#hasOthers(textOfBytes(bytes), done));
+  }
+
+  // Whether a copy has an object with the client's id that the client hasn't created by its edits up to the number `done`.
+  #hasOthers(copy, done) {
+    const { client } = this, kinds = new Map(), deleted = new Set();
+    let number = BigInt(client.acknowledged);
+    for (const bytes of client.messages()) {
+      const [what, id, kind] = members(changeOf(textOfBytes(bytes)));
+      number += 1n;
+      if (what === '"create"') kinds.set(id, number <= done ? kind : null);
+      if (what === '"delete"') deleted.add(id);
+    }
+    for (const [, id, kind] of copy.matchAll(new RegExp(`\\[(\\[${client.id},\\d+\\]),("[a-z]+"),\\[`, 'g'))) {
+      if (kinds.has(id) ? kinds.get(id) !== kind : !deleted.has(id) && !client.isInView(JSON.parse(id).join(':'))) return true;
+    }
+    return false;
   }
 
   // A message for this version that the client can't take: an entry of its own id that isn't its edit, or a copy with fewer edits of it than it has

@@ -105,6 +105,8 @@ export declare class Client {
   text(): string;
   /** Whether parents lead from the object to the document's root. */
   isInTree(id: ObjectId): boolean;
+  /** Whether the object is in the view, in the tree or not. */
+  isInView(id: ObjectId): boolean;
   objects(): ReadonlyMap<ObjectId, CanvasObject>;
   object(id: ObjectId): CanvasObject | null;
   children(id: ObjectId): readonly ObjectId[];

@@ -330,10 +330,27 @@ class Flow:
         return max(self.judged, self.tried)
 
     def _hides_twin(self, message: bytes) -> bool:
-        """Whether a copy counts edits as judged that the server never had from this program, so that another one uses the id. The client would
-        take such a copy, and its own edits of these numbers for judged."""
+        """Whether a copy counts edits as judged that aren't this program's, so that another one uses the id: the server never had them from it, or
+        the document has an object of theirs."""
         version, done = _head_of_copy(message)
-        return version > self.client.version and done > max(self.client.acknowledged, self._most_tried())
+        if version <= self.client.version or done <= self.client.acknowledged:
+            return False
+        return done > self._most_tried() or self._has_others(message, done)
+
+    def _has_others(self, copy: bytes, done: int) -> bool:
+        """Whether a copy has an object with the client's id that the client hasn't created by its edits up to the number `done`."""
+        kinds: dict[str, str | None] = {}
+        deleted = set()
+        for number, message in enumerate(self.client.messages(), self.client.acknowledged + 1):
+            what, at, *rest = members(change_of(message))
+            if what == '"create"':
+                kinds[at] = rest[0] if number <= done else None
+            elif what == '"delete"':
+                deleted.add(at)
+        for at, kind in re.findall(r'\[(\[%d,\d+\]),("[a-z]+"),\[' % (self.client.id or 0), copy.decode()):
+            if kinds[at] != kind if at in kinds else at not in deleted and self.client.object(ObjectId(*json.loads(at))) is None:
+                return True
+        return False
 
     def _another(self, letter: bytes, message: bytes) -> None:
         """A message for this version that the client can't take: an entry of its own id that isn't its edit, or a copy with fewer edits of it
