@@ -204,7 +204,7 @@ export class Flow {
     this.isCaughtUp = true;
     this.#misses(head, now);
     const known = BigInt(this.client.acknowledged);
-    if (this.dropping !== null && known >= this.dropping - 1n) this.beginAnew(this.state, { drop: true, scan: false });
+    if (this.dropping !== null && known >= this.dropping - 1n) this.beginAnew(this.state, { drop: true, scan: true });
     this.events.push({ type: 'caught up' });
   }
 

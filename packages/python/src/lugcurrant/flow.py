@@ -307,7 +307,7 @@ class Flow:
         self.is_caught_up = True
         self._misses(head, now)
         if self.dropping is not None and self.client.acknowledged >= self.dropping - 1:
-            self.begin_anew(self.state, drop=True)
+            self.begin_anew(self.state, scan=True, drop=True)
         self.events.append(Event("caught up"))
         return None
 
