@@ -102,7 +102,7 @@ export class FakeServer {
     if (!this.done.has(id)) return ['["no",1]'];
     if (what === 'ask') {
       this.asks += 1;
-      if (this.trouble && this.dice() < 0.15) return ['["no",7]'];
+      if (this.trouble && this.dice() < 0.3) return ['["no",7]'];
       const version = message[2];
       if (version < this.floor) return [JSON.stringify(['copy', this.version, this.done.get(id), rowsOf(this.doc)]), '["idle"]'];
       return [...this.log.slice(version, version + 64).map((entry, k) => JSON.stringify(['entry', version + k + 1, entry])), '["idle"]'];

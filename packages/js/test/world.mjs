@@ -135,6 +135,7 @@ export class World {
     if (!one) return;
     const other = this.players.find((it) => it !== one && it.client.id === one.client.id), isAway = this.dice() < 0.5;
     if (this.kinds.noes) this.server.trouble = 3;
+    if (this.kinds.checkpoints && isAway && this.dice() < 0.5) { this.server.checkpoint(); this.run(this.now + 1000); }
     if (isAway) this.cut(one, 3000);
     for (let k = isAway ? 1 + Math.floor(this.dice() * 4) : 1; k; k -= 1) this.edit(other);
     this.run(this.now + 1.5 * other.delay + this.dice() * 2 * one.delay);
@@ -213,6 +214,7 @@ export class World {
     if (player.link !== link) return;
     this.stat.messages += 1;
     if (isOfEdit) link.edits.shift();
+    if (this.kinds.twins && this.#isOfTwin(player, answer) && this.dice() < 0.5) for (let k = 4; k; k -= 1) this.edit(player);
     const { flow, client, plain } = player, isAnew = flow.anew, had = Number(client.acknowledged), { id } = client;
     flow.hear(Buffer.from(answer), this.now);
     if (!isAnew && player.plainOn) plain.receive(JSON.parse(answer));
@@ -227,6 +229,13 @@ export class World {
     this.pump(player);
   }
 
+  // Whether an answer is the entry of a twin's edit.
+  #isOfTwin({ client, own, flow }, answer) {
+    if (flow.anew || !answer.startsWith('["entry"')) return false;
+    const [, , [author, number, change]] = JSON.parse(answer);
+    return author === client.id && number === Number(client.acknowledged) + 1 && JSON.stringify(change) !== own.get(number);
+  }
+
   #take(player, event, before) {
     if (event.type === 'anew') {
       trace('anew', player.n, event.made, event.lost.map(({ change, code }) => [change, code]), event.unsure.map(({ change }) => change), [...event.ids]);
@@ -236,7 +245,8 @@ export class World {
     assert.notEqual(event.state, 'fault', event.words);
     if (event.state === 'replaced') {
       assert(this.kinds.twins, 'no other program uses an id');
-      if (this.dice() < 0.5) this.at(this.dice() * player.delay / 2, () => this.cut(player, 100, 8000, pick(this.dice, ['looked', 'gone on'])));
+      if (this.kinds.noes) this.server.trouble = 3;
+      if (this.dice() < 0.7) this.at(this.dice() * player.delay / 2, () => this.cut(player, 100, 8000, pick(this.dice, ['looked', 'gone on'])));
     }
     if (event.state === 'stranger') assert(this.kinds.back || this.kinds.behind, 'the server has one history');
   }
@@ -330,10 +340,10 @@ export class World {
     for (let k = 2 + Math.floor(this.dice() * 2); k; k -= 1) await this.player();
     const steps = 20 + Math.floor(this.dice() * 60), middle = Math.floor(steps / 2), backAt = this.kinds.back ? middle : -1;
     for (let k = 0; k < steps; k += 1) {
-      if (this.kinds.twins && k < middle && this.players.length < 6 && this.dice() < 0.15) await this.twin();
+      if (this.kinds.twins && this.players.length < 6 && this.dice() < 0.12) await this.twin();
       const player = pick(this.dice, this.players);
       for (let burst = this.dice() < 0.03 ? 80 : 1; burst; burst -= 1) this.edit(player);
-      if (this.kinds.twins && this.dice() < 0.3) this.race();
+      if (this.kinds.twins && this.dice() < 0.5) this.race();
       if (this.dice() < 0.06) this.cut(pick(this.dice, this.players));
       if (k === backAt) { for (const it of this.players) this.cut(it); this.run(this.now + 500); this.goBack(); }
       if (this.kinds.behind && k >= middle && this.dice() < 0.3) this.fallBehind();
