@@ -185,6 +185,7 @@ export class Flow {
     this.asking -= 1;
     this.trip = this.trip ? 0.8 * this.trip + 0.2 * (now - head.at) : now - head.at;
     this.lately = head.entries;
+    if (head.from > BigInt(this.#hearer.version)) head.isAhead = true;         // the ask before it was answered by a No
     this.#online();
     if (head.entries) head.round.useful += 1;
     if (head.entries >= MOST_ENTRIES) { head.round.isFull = true; this.width = Math.min(2 * this.width, this.mostAsks); this.askAt = now; return; }

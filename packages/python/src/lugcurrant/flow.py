@@ -278,6 +278,7 @@ class Flow:
         self._left(head)
         self.trip = 0.8 * self.trip + 0.2 * (now - head.at) if self.trip else now - head.at
         self.lately = head.entries
+        head.ahead = head.ahead or head.start > self._hearer().version  # the ask before it was answered by a No
         self._online()
         head.round.useful += head.entries > 0
         if head.entries >= MOST_ENTRIES:
