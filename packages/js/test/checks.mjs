@@ -151,9 +151,10 @@ export function checkOnce(world) {
 function checkTimes(world, value, versions) {
   const more = versions.length - (world.lost.has(value) ? 0 : 1);
   if (more <= 0) return;
-  const looked = world.looked.get(value) ?? Infinity, players = new Set(versions.map((version) => world.senders.get(version).n));
-  const late = versions.filter((version) => world.senders.get(version).isLate && version > looked);
-  const isBoth = world.shared.has(value) && players.size === versions.length;
-  assert(isBoth || late.length >= more, `${value} stands ${versions.length} times in the log`);
-  world.stat[isBoth ? 'both' : 'late'] += more;
+  const looked = world.looked.get(value) ?? Infinity, isLate = (version) => world.senders.get(version).isLate && version > looked;
+  const late = Math.min(more, versions.filter(isLate).length), players = versions.filter((version) => !isLate(version)).map((version) => world.senders.get(version).n);
+  const isBoth = world.shared.has(value) && new Set(players).size === players.length;
+  assert(isBoth || late === more, `${value} stands ${versions.length} times in the log`);
+  world.stat.late += late;
+  world.stat.both += more - late;
 }

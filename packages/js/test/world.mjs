@@ -324,7 +324,7 @@ export class World {
   // ---- the run ----
 
   run(until, done = () => false) {
-    for (let k = 0; k < 150000; k += 1) {
+    for (let k = 0; k < 400000; k += 1) {
       const { first } = this.agenda;
       if (!first) return;
       if (first.time > until) { this.now = until; return; }
