@@ -12,6 +12,7 @@ import { Client, ClientError, compile } from '../src/client.js';
 import { Flow } from '../src/flow.js';
 import { changeOf } from '../src/remake.js';
 import { FakeServer, Plain } from './fake.mjs';
+import { Agenda } from './agenda.mjs';
 import { checkAnew, checkCopy, checkOnce } from './checks.mjs';
 import { trace, tracedClient, tracedFlow } from './trace.mjs';
 
@@ -22,32 +23,6 @@ const pick = (dice, list) => list[Math.floor(dice() * list.length)];
 function diceOf(seed) {
   let s = (seed * 2654435761) >>> 0 || 1;
   return () => { s ^= s << 13; s >>>= 0; s ^= s >>> 17; s ^= s << 5; s >>>= 0; return s / 4294967296; };
-}
-
-// What is to be done, as a heap by time and order.
-class Agenda {
-  #heap = []; #order = 0;
-  static #isBefore(a, b) { return a.time < b.time || (a.time === b.time && a.order < b.order); }
-
-  get first() { return this.#heap[0] ?? null; }
-
-  add(time, act) {
-    const heap = this.#heap;
-    let k = heap.push({ time, order: this.#order += 1, act }) - 1;
-    for (let up; k && Agenda.#isBefore(heap[k], heap[up = (k - 1) >> 1]); k = up) [heap[k], heap[up]] = [heap[up], heap[k]];
-  }
-
-  take() {
-    const heap = this.#heap, first = heap[0], last = heap.pop();
-    if (!heap.length) return first;
-    heap[0] = last;
-    for (let k = 0, next; ; k = next) {
-      next = 2 * k + 1;
-      if (next + 1 < heap.length && Agenda.#isBefore(heap[next + 1], heap[next])) next += 1;
-      if (next >= heap.length || !Agenda.#isBefore(heap[next], heap[k])) return first;
-      [heap[k], heap[next]] = [heap[next], heap[k]];
-    }
-  }
 }
 
 export class World {

@@ -24,7 +24,6 @@ const FLOW = [
   ['what is lost is not told', 'if (code) lost.push({ change, code }); else made += 1;', 'made += 1;'],
   ['the first edit is lost', 'drop && k === 0 ? state', 'k === 0 ? state'],
   ['what is judged counts on for the new id', 'this.judged = 0n;\n    this.tried', 'this.tried'],
-  ['an edit is taken out without a look', '{ drop: true, scan: true }', '{ drop: true, scan: false }'],
   // Twins, and copies that hide the log.
   ['a copy is taken whatever it counts', '(done > this.#mostTried || ', '('],
   ['the objects of a copy are not looked at', ' || this.#hasOthers(textOfBytes(bytes), done)', ''],
