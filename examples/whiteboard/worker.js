@@ -15,13 +15,14 @@ async function identityOf(path) {
 
 const [module, identity] = await Promise.all([compile(fetch('canvas.wasm')), identityOf('document')]);
 const shelf = await shelfOfBrowser(identity, { window: self.name === '' ? null : Number(self.name) });
-const kept = shelf && new Kept(shelf), client = kept ? await kept.load(module) : await Client.load(module);
+const kept = shelf && new Kept(shelf), client = kept ? await kept.load(module, { takePrefix: true }) : await Client.load(module);
+if (kept?.fault) console.warn(kept.fault.message);
 let due = false, cost = 0, here = null;
 
 const link = new Link(client, new URL('./', location.href.replace(/^http/, 'ws')), {
   document: identity ?? undefined, kept, state: tellState, changed: soon,
   refused: ({ edit, id, words }) => tell({ told: 'refused', by: 'the server', edit, id, words }),
-  anew: ({ made, lost }) => tell({ told: 'anew', made, lost: lost.length }),
+  anew: ({ made, lost, unsure }) => tell({ told: 'anew', made, lost: lost.length, unsure: unsure.length }),
 });
 link.on('unsent', tellState);
 tell({ told: 'kept', window: shelf?.window ?? null });
