@@ -1,4 +1,4 @@
-// With --trace each call of a flow, and what it answers, is printed as a line of JSON, for python/tests/replay.py.
+// With --trace each call of a flow, and what it answers, is printed as a line of JSON, for python/tests/replay.py and c/tests/replay.py.
 export const isTracing = process.argv.includes('--trace');
 export const trace = (...line) => { if (isTracing) console.log(JSON.stringify(line)); };
 
@@ -7,6 +7,11 @@ const plainOf = (value) => {
   if (Array.isArray(value)) return value.map((it) => (it instanceof Uint8Array ? text(it) : it));
   return value instanceof Uint8Array ? text(value) : value;
 };
+
+// The events that a call has left, in a line after it.
+export function traceEvents(flow, n) {
+  if (isTracing && flow.events.length) trace('events', n, flow.events.map((it) => (it.ids ? { ...it, ids: Object.fromEntries(it.ids) } : it)));
+}
 
 // A flow of which each call is traced.
 export const tracedFlow = (flow, n) => !isTracing ? flow : new Proxy(flow, {

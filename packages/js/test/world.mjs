@@ -14,7 +14,7 @@ import { changeOf } from '../src/remake.js';
 import { FakeServer, Plain } from './fake.mjs';
 import { Agenda } from './agenda.mjs';
 import { checkAnew, checkCopy, checkOnce } from './checks.mjs';
-import { trace, tracedClient, tracedFlow } from './trace.mjs';
+import { trace, traceEvents, tracedClient, tracedFlow } from './trace.mjs';
 
 const module = await compile(readFileSync(new URL('../canvas.wasm', import.meta.url)));
 const text = (bytes) => Buffer.from(bytes).toString();
@@ -192,6 +192,7 @@ export class World {
     if (this.kinds.twins && this.#isOfTwin(player, answer) && this.dice() < 0.5) for (let k = 4; k; k -= 1) this.edit(player);
     const { flow, client, plain } = player, isAnew = flow.anew, had = Number(client.acknowledged), { id } = client;
     flow.hear(Buffer.from(answer), this.now);
+    traceEvents(flow, player.n);
     if (!isAnew && player.plainOn) plain.receive(JSON.parse(answer));
     if (client.id === id && answer.startsWith('["copy"')) checkCopy(this, player, had, reachedTo);
     for (const event of flow.events.splice(0)) this.#take(player, event, { id, had, look: isAnew });
@@ -212,10 +213,7 @@ export class World {
   }
 
   #take(player, event, before) {
-    if (event.type === 'anew') {
-      trace('anew', player.n, event.made, event.lost.map(({ change, code }) => [change, code]), event.unsure.map(({ change }) => change), [...event.ids]);
-      checkAnew(this, player, event, before);
-    }
+    if (event.type === 'anew') checkAnew(this, player, event, before);
     if (event.type !== 'state') return;
     assert.notEqual(event.state, 'fault', event.words);
     if (event.state === 'replaced') {

@@ -5,7 +5,7 @@
 // be judged, made again or told. In the end all show the server's document, nothing waits, and each value that was set stands in the log once: but
 // for those that were told, and for two classes that no client can see, which are counted: `hidden` and `late`.
 import { World } from './world.mjs';
-import { isTracing, trace } from './trace.mjs';
+import { isTracing, trace, traceEvents } from './trace.mjs';
 
 const [first = 1, count = 200] = process.argv.slice(2).filter((word) => !word.startsWith('--')).map(Number), total = {};
 const mostFaults = process.argv.includes('--first') ? 1 : 9;
@@ -16,6 +16,7 @@ for (let seed = first; seed < first + count; seed += 1) {
   try {
     const stat = await world.play();
     for (const { n, client, flow } of world.players) {
+      traceEvents(flow, n);
       trace('end', n, client.text(), Number(client.version), Number(client.acknowledged), Number(client.waiting), flow.unsent, flow.state);
     }
     for (const key in stat) total[key] = key === 'most' ? Math.max(total[key] ?? 0, stat[key]) : (total[key] ?? 0) + stat[key];
