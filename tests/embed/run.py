@@ -11,7 +11,7 @@ folder of its own:
 - places: 3,000 objects, one behind the other and one before the other; positions that are named.
 - shown: what is given as changed, after random edits of two clients, is what differs in the tree.
 - kept: a client that is saved and loaded goes on as the same one, with what waits.
-- page: examples/c/page.c is compiled and run; what it prints is what `lugcurrant show` prints.
+- page: examples/c is compiled with the flow and run; what it prints is what `lugcurrant show` prints.
 - module: `python -m lugcurrant PORT` prints the tree.
 - together: RUNS (5) times 4 Python clients make EDITS (800) random edits, two of them away for a while, and the server is killed and started
   again in their midst. In the end each shows what `lugcurrant show` prints, and nothing waits.
@@ -53,7 +53,7 @@ EDITS = int(WORDS[2]) if len(WORDS) > 2 else 800
 BROKEN = "--broken" in sys.argv[1:]
 LIBRARY = os.path.abspath(os.environ.get("LUGCURRANT_LIBRARY") or TOP / "packages/c/liblugcurrant.so")
 # What examples/c/page.c is compiled of.
-PAGE_SOURCES = ["examples/c/page.c"]
+PAGE_SOURCES = ["examples/c/page.c", "examples/c/socket.c", "packages/c/src/flow.c", "packages/c/src/remake.c"]
 
 
 class Wrong(Exception):
@@ -383,7 +383,7 @@ def compiled(room):
     program = os.path.join(room, "page")
     sources = [str(TOP / source) for source in PAGE_SOURCES]
     include, run_path = f"-I{TOP / 'packages/c/include'}", f"-Wl,-rpath,{os.path.dirname(LIBRARY)}"
-    subprocess.run(["cc", "-std=c11", "-Wall", "-Wextra", "-O2", include, "-o", program, *sources, LIBRARY, run_path], check=True)
+    subprocess.run(["cc", "-std=c11", "-Wall", "-Wextra", "-Werror", "-O2", include, "-o", program, *sources, LIBRARY, run_path], check=True)
     return program
 
 
