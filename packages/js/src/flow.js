@@ -4,7 +4,7 @@
 // Up to `window` edits (and `windowBytes` of them) are under way at once, and behind them an ask. The server reads, answers and reads on, so
 // answers come in the order of what was sent. Where an answer is as full as it may be, more asks go ahead of the answers, each for the
 // version that the one before it leads to.
-import { NO_REASONS, REFUSALS } from './api.js';
+import { NO_REASONS, REFUSALS, STATES } from './api.js';
 import { ClientError, textOfBytes } from './client.js';
 import { changeOf, isShown, members, remake } from './remake.js';
 
@@ -258,7 +258,8 @@ export class Flow {
   }
 
   #no(head, reason, now) {
-    const [name, words] = NO_REASONS[reason] ?? ['fault', `the server refuses for the reason ${reason}`];
+    const [reasonName, words] = NO_REASONS[reason] ?? ['fault', `the server refuses for the reason ${reason}`];
+    const name = reasonName in STATES ? reasonName : 'fault';     // no server that keeps the protocol sends the others here
     this.#left0(head);
     if (reason === 1) return this.#unknown();
     if (head.what === 'ask') {

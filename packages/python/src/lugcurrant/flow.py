@@ -12,6 +12,8 @@ from .library import ClientError
 from .remake import change_of, is_shown, members, remake
 from .values import ObjectId
 
+_STATES = frozenset(state.value for state in State)
+
 MOST_ENTRIES = 64
 ENDLESS = 1 << 62
 MOST_AHEAD = 4  # asks at once where a round trip's news fill more than one answer
@@ -365,6 +367,7 @@ class Flow:
 
     def _no(self, head: _Sent, reason: int, now: float) -> None:
         name, words = NO_REASONS.get(reason, ("fault", f"the server refuses for the reason {reason}"))
+        state = State(name) if name in _STATES else State.FAULT  # no server that keeps the protocol sends the others here
         self._left(head)
         if reason == 1:
             return self._unknown()
@@ -373,10 +376,10 @@ class Flow:
             if reason != 7:
                 self._fault(words)
             elif not self.is_full and self.dropping is None:
-                self._tell(State(name), words)
+                self._tell(state, words)
             return None
         if head.what == "join":
-            self._tell(State(name), words)
+            self._tell(state, words)
             return self._hold(now)
         if reason not in _UNJUDGED:
             self._may_be_judged(head.number)
@@ -386,7 +389,7 @@ class Flow:
         self.sent = 0
         if reason == 3:
             return self.begin_anew(State.STRANGER) if head.first else None
-        self._tell(State(name), words)
+        self._tell(state, words)
         if reason == 4:
             self.is_full = True
         elif reason in (8, 9):
