@@ -61,9 +61,11 @@ await exited(watcher);
 
 const { edits, waits, most, drained } = read('edits'), seen = read('seen'), { lags, missed } = lagsOf(edits, seen);
 const steps = new Set(seen.map(([note, step]) => `${note} ${step}`));
+const median = Math.round(lib.percentile(lags, 0.5)), p95 = Math.round(lib.percentile(lags, 0.95));
+if (mode === 'plain') lib.record(`drag of ${kind} at ${rtt} ms by ${clients}`, { median, p95, waiting: most });
 console.log(JSON.stringify({
   kind, rtt: Number(rtt), n: Number(clients), hz: Number(hz), mode, edits: edits.length,
-  medianMs: Math.round(lib.percentile(lags, 0.5)), p95Ms: Math.round(lib.percentile(lags, 0.95)), maxMs: Math.round(lib.percentile(lags, 1)), missed,
+  medianMs: median, p95Ms: p95, maxMs: Math.round(lib.percentile(lags, 1)), missed,
   stepsSeenPct: Math.round(100 * steps.size / edits.length), mostWaiting: most, drainMs: drained, waits: waits.map(([, count]) => count).join(','),
   upKB: Math.round(stats.up / 1024), downKB: Math.round(stats.down / 1024), serverCpuS: Number(serverCpu.toFixed(2)),
 }));

@@ -1,5 +1,5 @@
 // What the programs of this folder share: clients of both kinds, a server behind the proxy, and figures of a process.
-import { spawn } from 'node:child_process';
+import { execFileSync, spawn } from 'node:child_process';
 import { readFileSync } from 'node:fs';
 import { createRequire } from 'node:module';
 import { fileURLToPath } from 'node:url';
@@ -104,6 +104,11 @@ export function cpuSeconds(pid) {
 export function percentile(list, part) {
   const sorted = [...list].sort((a, b) => a - b);
   return sorted.length ? sorted[Math.min(sorted.length - 1, Math.floor(sorted.length * part))] : NaN;
+}
+
+// Puts a result into the file that LUGCURRANT_RESULTS names, for the figures of pages; nothing without that variable.
+export function record(name, figures) {
+  execFileSync(path('../../tools/figures'), ['--record', name, ...Object.entries(figures).map(([key, value]) => `${key}=${value}`)]);
 }
 
 // A number of the text of /metrics.
