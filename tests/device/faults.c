@@ -20,9 +20,9 @@
 
 static long calls;
 
-static int is_inside(const char *path) {
+static int is_below(const char *path) {
     const char *folder = getenv("FAULT_FOLDER");
-    return folder && path && strncmp(path, folder, strlen(folder)) == 0;
+    return folder && strncmp(path, folder, strlen(folder)) == 0;
 }
 
 static int is_file_inside(int descriptor) {
@@ -31,7 +31,14 @@ static int is_file_inside(int descriptor) {
     ssize_t length = readlink(link, path, sizeof path - 1);
     if (length < 0) return 0;
     path[length] = 0;
-    return is_inside(path);
+    return is_below(path);
+}
+
+// A locked folder's files are reached by its descriptor: /proc/self/fd/3/segment-0000000002.
+static int is_inside(const char *path) {
+    int descriptor;
+    if (path && sscanf(path, "/proc/self/fd/%d/", &descriptor) == 1) return is_file_inside(descriptor);
+    return path && is_below(path);
 }
 
 // Writes the number of calls down.

@@ -4,6 +4,7 @@ use crate::opened::{lock, open, open_folder, open_regular, read_all, sync};
 use canvas_shelf::CreateError;
 use std::alloc::{AllocError, Allocator, Global};
 use std::fs::{File, OpenOptions};
+use std::os::fd::AsRawFd;
 use std::rt::Files;
 use std::{fs, str};
 
@@ -65,6 +66,24 @@ impl FolderPath {
     pub(crate) fn sync<R: Files<File = File>>(&mut self, files: &R) -> Result<(), Fault> {
         let folder = open_folder(files, self.folder()?)?;
         sync(&folder)
+    }
+
+    // Makes the path lead to this open folder, by its descriptor (proc(5), `/proc/pid/fd`): whatever is put at the folder's name from then
+    // on, it is the folder that was opened. It leads there for as long as the folder is open.
+    pub(crate) fn pin(&mut self, alloc: Global, folder: &File) -> Result<(), AllocError> {
+        let number = folder.as_raw_fd();
+        let path = format!(in alloc; "/proc/self/fd/{number}")?;
+        *self = FolderPath::new(alloc, path.as_str())?;
+        Ok(())
+    }
+
+    // A copy of the folder's path.
+    pub(crate) fn copied(&self, alloc: Global) -> Result<String, Fault> {
+        let (folder, _) = self.bytes.split_at(self.base.min(self.bytes.len()));
+        match str::from_utf8(folder) {
+            Ok(path) => Ok(String::from_str(alloc, path)?),
+            Err(_) => Err(Fault::Device),
+        }
     }
 
     // Locks the folder. None where another has its lock.

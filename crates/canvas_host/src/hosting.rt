@@ -153,9 +153,10 @@ where
     ensures { IfErr result (IsPreparingFault serving.clients) }
 {
     let listener = listen(rt, serving.port)?;
-    let (opened, removed) = open_room(files, dir, serving.clients as usize, serving.accept_loss)?;
+    let seats = serving.clients as usize;
+    let (opened, removed, path) = open_room(files, dir, seats, serving.accept_loss)?;
     let OpenRoom { room, meter, notes } = opened;
-    let identity = identity(&files, dir)?;
+    let identity = identity(&files, &path)?;
     let figures = Figures::new(meter, notes);
     let shared = share(rt, listener, identity, figures, Some(removed), serving)?;
     Ok((room, shared))

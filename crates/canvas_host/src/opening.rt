@@ -5,6 +5,7 @@ ghost use Rattle.canvas_host.specs.Rooms.{fault_of_room};
 
 use canvas_board::{Opening, RoomName};
 use canvas_folder::{DirShelf, Removed};
+use canvas_identity::read_identity;
 use canvas_journal::{Journal, Keeper, open};
 use canvas_meter::{Meter, Metered};
 use canvas_places::{Fault, FolderShelf, guard};
@@ -47,27 +48,31 @@ pub(crate) struct OpenRoom<S: Shelf> {
     pub(crate) notes: Notes,
 }
 
-/// Opens the room of a folder's document, with so many seats, and answers it with the files that the folder removes. The folder is made
-/// where it is missing, and locked. If opening it would lose something, nothing is opened, unless that is accepted.
+/// Opens the room of a folder's document, with so many seats. Returns it with the files that the folder removes, and with the path by which
+/// other files of the folder are reached. The folder is made where it is missing, and locked. If opening it would lose something, nothing is
+/// opened, unless that is accepted; nor if its identity isn't one.
 pub(crate) fn open_room(
     files: HostRuntime,
     dir: &str,
     seats: usize,
     accept_loss: bool,
-) -> Result<(OpenRoom<FolderShelf>, Removed), Fault>
+) -> Result<(OpenRoom<FolderShelf>, Removed, String), Fault>
     ensures seats { IfOk result (λ opened. opened.0.room.seats ≡ seats) }
     ensures faults { IfErr result (IsOpeningFault seats) }
 {
     let alloc = files.alloc();
     let mut shelf = DirShelf::new(files, dir)?;
-    if let Err(fault) = guard(&files, dir, &mut shelf, accept_loss) {
+    let path = shelf.folder().path()?;
+    if let Err(fault) = guard(&files, &path, &mut shelf, accept_loss) {
         return Err(fault);
     }
+    // Nothing is written to a folder whose identity can't be read.
+    read_identity(&files, &path)?;
     let removed = shelf.folder().removed().share()?;
-    let shelf = Watched::new(alloc, shelf, SumFiles::new(files, dir)?)?;
+    let shelf = Watched::new(alloc, shelf, SumFiles::new(files, &path)?)?;
     let notes = shelf.notes().share()?;
     let opened = room_of(files, FolderShelf::new(alloc, shelf)?, notes, seats)?;
-    Ok((opened, removed))
+    Ok((opened, removed, path))
 }
 
 /// Opens the room of what a shelf of the system holds, of which nothing is claimed, with so many seats.

@@ -70,8 +70,8 @@ where
     identity_in(files.alloc(), &digits)
 }
 
-/// Keeps an identity in the folder, in place of the one that is there: it is written beside its place and synced, and the folder is synced
-/// once it is in its place.
+/// Keeps an identity in the folder, in place of the one that is there: it is written beside its place, into a file that wasn't there, and
+/// synced; and the folder is synced once it is in its place. A draft that a crash left is removed first, and no link is followed.
 ///
 /// The errors: `Device`, where it can't be written; `Memory`.
 pub fn keep_identity<R: Files<File = File> + AllocGlobal>(
@@ -81,7 +81,8 @@ pub fn keep_identity<R: Files<File = File> + AllocGlobal>(
 ) -> Result<(), IdentityError> {
     let alloc = files.alloc();
     let draft = within(alloc, dir, DRAFT)?;
-    let mut file = fs::create(files, &draft)?;
+    remove_draft(files, &draft)?;
+    let mut file = File::create_new(files, &draft)?;
     file.write_all(text.as_bytes())?;
     file.write_all(b"\n")?;
     file.sync_all()?;
@@ -103,15 +104,27 @@ pub fn remove_identity<R: Files<File = File> + AllocGlobal>(
     Ok(())
 }
 
+// Removes the draft that a crash left, if there is one.
+fn remove_draft<R: Files<File = File>>(files: &R, draft: &str) -> io::Result<()> {
+    match fs::remove_file(files, draft) {
+        Err(error) if error.kind() != ErrorKind::NotFound => Err(error),
+        _ => Ok(()),
+    }
+}
+
 // The path of a file of the folder.
 fn within(alloc: Global, dir: &str, name: &str) -> Result<String, AllocError> {
     format!(in alloc; "{dir}/{name}")
 }
 
-// What the folder's file holds.
+// What the folder's file holds. Anything but a regular file is no text: opening a pipe would wait for its other end.
 fn read<R: Files<File = File> + AllocGlobal>(files: &R, dir: &str) -> io::Result<String> {
     let alloc = files.alloc();
-    let file = fs::open(files, within(alloc, dir, NAME)?)?;
+    let path = within(alloc, dir, NAME)?;
+    if !fs::symlink_metadata(files, &path)?.is_file() {
+        return Err(io::Error::from(ErrorKind::InvalidData));
+    }
+    let file = fs::open(files, &path)?;
     let mut text = String::new(alloc);
     file.take(MOST_BYTES).read_to_string(&mut text)?;
     Ok(text)

@@ -72,7 +72,8 @@ where
     let alloc = net.alloc();
     look_first(&files, dir)?;
     let mut folder = locked(&files, dir)?;
-    let (state, version) = take_in(net, &files, dir, &mut folder, address)?;
+    let path = path_of(&folder)?;
+    let (state, version) = take_in(net, &files, &path, &mut folder, address)?;
     told(alloc, &state, version, output)
 }
 
@@ -167,8 +168,9 @@ where
 {
     is_there(files.alloc(), shelf)?;
     let mut folder = locked(files, dir)?;
-    let found = fill(files, dir, shelf, &mut folder)?;
-    hand_out(files, dir, lease)?;
+    let path = path_of(&folder)?;
+    let found = fill(files, &path, shelf, &mut folder)?;
+    hand_out(files, &path, lease)?;
     Ok(found)
 }
 
@@ -234,6 +236,16 @@ fn locked<D: Files<File = File> + AllocGlobal + Clone + Drop>(
 ) -> Result<DirShelf<OsFolder<D>>, MoveFault> {
     match DirShelf::new(files.clone()?, dir) {
         Ok(shelf) => Ok(shelf),
+        Err(error) => Err(MoveFault::Folder(Fault::from(error))),
+    }
+}
+
+// The path by which the identity of a folder is reached that is locked.
+fn path_of<D: Files<File = File> + AllocGlobal + Clone + Drop>(
+    folder: &DirShelf<OsFolder<D>>,
+) -> Result<String, MoveFault> {
+    match folder.folder().path() {
+        Ok(path) => Ok(path),
         Err(error) => Err(MoveFault::Folder(Fault::from(error))),
     }
 }
