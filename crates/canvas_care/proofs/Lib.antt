@@ -3,5 +3,6 @@ pub mod Reading
 pub mod Ends
 pub mod Openings
 pub mod Lines
+mod Checked
 pub mod OneLine
 pub mod RowLines

@@ -15,9 +15,9 @@ use Rattle.canvas_journal.specs.declared.fault.OpenError.TheVariants as opening
 use Rattle.canvas_lines.specs.declared.fault.Fault as lines
 use Rattle.canvas_lines.specs.declared.fault.Fault.TheVariants as line
 use Rattle.canvas_care.specs.declared.fault.Fault.{Fault}
-use Rattle.canvas_care.specs.declared.fault.Fault.TheVariants.{Stream, Device, InUse, Taken, NoSegment, BadLine, NoDocument, Damaged, TooLarge, Memory}
+use Rattle.canvas_care.specs.declared.fault.Fault.TheVariants.{Stream, Device, InUse, Taken, NoSegment, Gone, Busy, BadLine, NoDocument, Damaged, TooLarge, Memory}
 
--- 2 for an input that makes no document, 3 for want of memory, 4 for a stream or a folder that can't be had, 5 for damage, 6 for a journal
+-- 2 for an input that makes no document, 3 for want of memory, 4 for a stream or a folder that can't be had, 5 for damage and for a document that has gone, 6 for a journal
 -- without room
 abbrev pub status_of : Fault → ℕ
 status_of Stream = 4
@@ -25,6 +25,8 @@ status_of Device = 4
 status_of InUse = 4
 status_of Taken = 4
 status_of NoSegment = 4
+status_of Gone = 5
+status_of Busy = 4
 status_of (BadLine n) = 2
 status_of NoDocument = 2
 status_of (Damaged segment offset) = 5
@@ -38,6 +40,8 @@ sentence Device dir = codes "the folder " ++ dir ++ codes " can't be read and wr
 sentence InUse dir = codes "a server has the folder " ++ dir
 sentence Taken dir = codes "the folder " ++ dir ++ codes " holds a document, or what is left of one: name a new folder"
 sentence NoSegment dir = codes "the folder " ++ dir ++ codes " holds no document"
+sentence Gone dir = codes "no segment of the document in " ++ dir ++ codes " is left, but its identity or sums are: put a backup in its place"
+sentence Busy dir = codes "the folder " ++ dir ++ codes " changes while it is checked: try again while fewer edits are made"
 sentence (BadLine n) dir = codes "line " ++ decimal n ++ codes ": no row, or not the next one, or it stands where none may"
 sentence NoDocument dir = codes "the rows make no document"
 sentence (Damaged segment offset) dir = codes "the document in " ++ dir ++ codes " is damaged in segment " ++ decimal segment ++ codes " at offset " ++ decimal offset ++ codes ": put a backup in its place"

@@ -1,13 +1,13 @@
 -- What is told of a folder before it is opened.
 use Rattle.std.specs.Prelude.{◌≡◌, ℕ, List, map, Option, MatchOption}
-use Rattle.std.specs.List.{AllByRecursion}
 use Rattle.std.specs.Option.{option_map}
 use Rattle.canvas_shelf.specs.Disk.{Content, Segment, seen}
 use Rattle.canvas_journal.specs.Found.{Finds, IsState}
 use Rattle.canvas_journal.specs.Meaning.{Versioned}
-use Rattle.canvas_losses.specs.Losses.{FirstLoss, StandsFor, down_to}
+use Rattle.canvas_losses.specs.Losses.{IsLost, NothingLost}
 use Rattle.canvas_losses.specs.declared.listed.Listed.{Listed}
 use Rattle.canvas_losses.specs.declared.loss.Loss.{Loss}
+use Rattle.canvas_losses.specs.declared.trace.Trace.{Trace}
 use Rattle.canvas_care.specs.Checkpoints.{checkpoint_bytes}
 use Rattle.canvas_care.specs.Taken.{Source, TakesFrom}
 
@@ -19,16 +19,14 @@ content_of = map (λ s. (s.number, s.bytes.items))
 abbrev pub number_of : Option Source → Option ℕ
 number_of = option_map (λ s. s.number)
 
--- no loss stands in these segments, of which that one is taken and this found; or this is the first
-abbrev pub IsFirst : List Listed → Option ℕ → Versioned → Option Loss → Type 0
-IsFirst listed taken s loss =
-    MatchOption loss
-    (AllByRecursion (StandsFor taken (checkpoint_bytes s)) (down_to taken listed))
-    (λ l. FirstLoss taken (checkpoint_bytes s) (down_to taken listed) l)
+-- nothing is lost in these segments, of which that one is taken and this found, where that is left beside them; or this is the first loss
+abbrev pub IsFirst : List Listed → Option ℕ → Versioned → Option Trace → Option Loss → Type 0
+IsFirst listed taken s trace loss =
+    MatchOption loss (NothingLost taken (checkpoint_bytes s) trace listed) (IsLost taken (checkpoint_bytes s) trace listed)
 
--- the first loss of the disk's segments, with some sums, and of what recovery takes and finds
-abbrev pub TellsLoss : List Segment → Option Loss → Type 0
-TellsLoss disk loss =
+-- the first loss of the disk's segments, with some sums, and of what recovery takes and finds, where this is left beside them
+abbrev pub TellsLoss : List Segment → Option Trace → Option Loss → Type 0
+TellsLoss disk trace loss =
     (listed : List Listed) × (source : Option Source) × (s : Versioned)
     × (content_of listed ≡ seen disk) × TakesFrom (seen disk) source × Finds (seen disk) (IsState s)
-    × IsFirst listed (number_of source) s loss
+    × IsFirst listed (number_of source) s trace loss

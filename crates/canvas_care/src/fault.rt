@@ -23,6 +23,10 @@ pub enum Fault {
     Taken,
     /// The folder holds no segment.
     NoSegment,
+    /// No segment of the document is left, but its identity or sums are.
+    Gone,
+    /// A server makes one checkpoint after the other while the folder is checked.
+    Busy,
     /// The first line of the input, counted from 1, that is no row, or whose row doesn't come next, or doesn't stand in the document.
     BadLine(u64),
     /// The rows of the input make no document.
@@ -48,8 +52,13 @@ impl Fault {
         match self {
             Fault::BadLine(_) | Fault::NoDocument => 2,
             Fault::Memory => 3,
-            Fault::Stream | Fault::Device | Fault::InUse | Fault::Taken | Fault::NoSegment => 4,
-            Fault::Damaged { .. } => 5,
+            Fault::Stream
+            | Fault::Device
+            | Fault::InUse
+            | Fault::Taken
+            | Fault::NoSegment
+            | Fault::Busy => 4,
+            Fault::Gone | Fault::Damaged { .. } => 5,
             Fault::TooLarge => 6,
         }
     }
@@ -84,6 +93,14 @@ impl fmt::Display for Told<'_> {
                 "the folder {dir} holds a document, or what is left of one: name a new folder"
             ),
             Fault::NoSegment => write!(f, "the folder {dir} holds no document"),
+            Fault::Gone => write!(
+                f,
+                "no segment of the document in {dir} is left, but its identity or sums are: put a backup in its place"
+            ),
+            Fault::Busy => write!(
+                f,
+                "the folder {dir} changes while it is checked: try again while fewer edits are made"
+            ),
             Fault::BadLine(line) => write!(
                 f,
                 "line {line}: no row, or not the next one, or it stands where none may"

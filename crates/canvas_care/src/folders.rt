@@ -3,34 +3,66 @@ ghost use Rattle.std.specs.Prelude.{OnOk};
 ghost use Rattle.std.specs.Io.KnownBytes.{Appends};
 ghost use Rattle.canvas_care.specs.Begun.{begun_line};
 
+use crate::drafting::plant_whole;
 use crate::fault::Fault;
-use crate::planting::plant;
+use crate::taking::take;
+use crate::traces::trace_in;
 use canvas_folder::{DirShelf, OsFolder};
 use canvas_judge::State;
 use canvas_lines::write_out;
 use canvas_shelf::Shelf;
-use std::fs::{self, File};
+use std::fs::File;
 use std::io::Write;
 use std::rt::Files;
 
 /// The shelf of a folder that holds segments, for reading.
+///
+/// The errors: `NoSegment`, if it holds none, or `Gone`, if what is left beside them says that it did; `Device`; `Memory`.
 pub(crate) fn existing<R: Files<File = File> + AllocGlobal + Clone + Drop>(
     files: R,
     dir: &str,
 ) -> Result<DirShelf<OsFolder<R>>, Fault> {
     let alloc = files.alloc();
-    let mut shelf = DirShelf::existing(files, dir)?;
+    let mut shelf = DirShelf::existing(files.clone()?, dir)?;
     if shelf.list(alloc)?.is_empty() {
-        return Err(Fault::NoSegment);
+        return Err(none_of(&files, dir));
     }
     Ok(shelf)
 }
 
-/// Puts a state and its version into a new folder, as `plant` does, and then writes the version and how many objects there are. The folder
-/// is made where it is missing, and locked meanwhile. No file `identity` is made: whoever serves the folder first gives it one, so that no
-/// client of another document goes on over this one.
+// Why a folder holds no segment: it never did, or they have gone.
+fn none_of<R: Files<File = File> + AllocGlobal + Clone + Drop>(files: &R, dir: &str) -> Fault {
+    match trace_in(files, dir) {
+        Ok(None) => Fault::NoSegment,
+        Ok(Some(_)) => Fault::Gone,
+        Err(fault) => fault,
+    }
+}
+
+/// Fails with `Gone` if recovery takes no segment of the folder's shelf, which isn't damaged, though something is left of a document beside
+/// them.
 ///
-/// The errors: `InUse`, where a server has the folder; `Taken`, where it holds a segment or an identity, and then nothing was written;
+/// The other errors: `Device`, if the folder can't be read; `Memory`.
+pub(crate) fn refuse_gone<R: Files<File = File> + AllocGlobal + Clone + Drop, S: Shelf>(
+    files: &R,
+    dir: &str,
+    shelf: &mut S,
+) -> Result<(), Fault> {
+    if take(files.alloc(), shelf)?.is_some() {
+        return Ok(());
+    }
+    match trace_in(files, dir)? {
+        Some(_) => Err(Fault::Gone),
+        None => Ok(()),
+    }
+}
+
+/// Puts a state and its version into a new folder, as `plant` does, and then writes the version and how many objects there are. The folder
+/// is made where it is missing, and locked meanwhile; a crash leaves the whole document, or nothing that is opened. No file `identity` is made:
+/// whoever serves the folder first gives it one, so that no client of another document goes on over this one.
+///
+/// The errors: `InUse`, where a server has the folder; `Taken`, where it holds a segment, or what is left of a document (`trace_in`), and then
+/// nothing was written;
 /// `Device`, where it can't be made, locked, read or written; `TooLarge`, where the checkpoint can't be written; `Memory`; and `Stream`,
 /// where the output failed, and then the folder is made.
 pub fn begin_folder<R: Files<File = File> + AllocGlobal + Clone + Drop, W: Write>(
@@ -50,19 +82,17 @@ pub fn begin_folder<R: Files<File = File> + AllocGlobal + Clone + Drop, W: Write
     Ok(())
 }
 
-// Puts a state and its version into a folder that holds nothing of a document.
+// Puts a state and its version into a folder that holds nothing of a document, which is locked meanwhile.
 fn fill<R: Files<File = File> + AllocGlobal + Clone + Drop>(
     files: R,
     dir: &str,
     state: &State,
     version: u64,
 ) -> Result<(), Fault> {
-    let alloc = files.alloc();
-    let identity = format!(in alloc; "{dir}/identity")?;
     let mut shelf = DirShelf::new(files.clone()?, dir)?;
-    match fs::exists(&files, &identity) {
-        Ok(false) => plant(alloc, &mut shelf, state, version),
-        Ok(true) => Err(Fault::Taken),
-        Err(_) => Err(Fault::Device),
+    let path = shelf.folder().path()?;
+    if !shelf.list(files.alloc())?.is_empty() || trace_in(&files, &path)?.is_some() {
+        return Err(Fault::Taken);
     }
+    plant_whole(&files, &path, state, version)
 }

@@ -4,6 +4,7 @@
 
 mod checking;
 mod checkpoints;
+mod drafting;
 mod fault;
 mod folders;
 mod importing;
@@ -15,6 +16,7 @@ mod restoring;
 mod rows;
 mod showing;
 mod taking;
+mod traces;
 
 pub use checking::{check, check_shelf};
 pub use fault::{Fault, Told, end, finish};
@@ -27,3 +29,4 @@ pub use planting::plant;
 pub use restoring::{import, import_folder, read_backup};
 pub use rows::{Layout, rows_text};
 pub use showing::{show_rows, show_rows_of, show_tree, show_tree_of};
+pub use traces::trace_in;

@@ -8,7 +8,7 @@ use crate::checkpoints::checkpoint_bytes;
 use crate::fault::Fault;
 use crate::taking::{Taken, take};
 use canvas_journal::look;
-use canvas_losses::{Listed, Loss, loss_of};
+use canvas_losses::{Listed, Loss, Trace, loss_of};
 use canvas_shelf::Shelf;
 use canvas_watch::read_sums;
 use std::alloc::Global;
@@ -46,7 +46,8 @@ impl<R: Files<File = File> + AllocGlobal> SumSource for FolderSums<'_, R> {
 }
 
 /// What stands in the segments of a shelf that no crash leaves, if anything does: the first such loss from the highest segment down to the one
-/// that recovery takes (`canvas_losses::loss_of`). Writes nothing to the shelf.
+/// that recovery takes; or that recovery takes none, though `trace` is left of a document beside them (`canvas_losses::loss_of`, `trace_in`).
+/// Writes nothing to the shelf.
 ///
 /// Whoever opens a folder for writing asks this first: opening takes what it doesn't understand for what a crash left, and removes it.
 ///
@@ -56,8 +57,9 @@ pub fn find_loss<S: Shelf, N: SumSource>(
     alloc: Global,
     shelf: &mut S,
     sums: &N,
+    trace: Option<Trace>,
 ) -> Result<Option<Loss>, Fault>
-    ensures found { IsTrue (S.honest shelf.old) → IfOk result (TellsLoss (S.disk shelf.old)) }
+    ensures found { IsTrue (S.honest shelf.old) → IfOk result (TellsLoss (S.disk shelf.old) trace) }
     ensures disk { IsTrue (S.honest shelf.old) → (S.disk shelf.new ≡ S.disk shelf.old) × (S.past shelf.new ≡ S.past shelf.old) }
     ensures honest { S.honest shelf.new ≡ S.honest shelf.old }
 {
@@ -66,7 +68,7 @@ pub fn find_loss<S: Shelf, N: SumSource>(
     let (state, version) = look(alloc, shelf)?;
     let taken = take(alloc, shelf)?;
     let checkpoint = checkpoint_bytes(alloc, &state, version)?;
-    Ok(loss_of(&listed, taken_number(&taken), &checkpoint))
+    Ok(loss_of(&listed, taken_number(&taken), &checkpoint, trace))
 }
 
 // The number of the segment that is taken, if one is.
@@ -93,8 +95,9 @@ fn read_each<S: Shelf, N: SumSource>(
 {
     let mut listed = Vec::new(alloc);
     for number in listing {
-        let bytes = shelf.read(alloc, *number)?;
+        // In this order: a server may lengthen both, the segment first.
         let sums = sums.sums(*number)?;
+        let bytes = shelf.read(alloc, *number)?;
         let number = *number;
         listed.push(Listed {
             number,

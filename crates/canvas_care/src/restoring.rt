@@ -7,7 +7,7 @@ ghost use Rattle.canvas_care.specs.Begun.{WritesImported};
 ghost use Rattle.canvas_care.specs.Imports.{IsImported, row_texts};
 
 use crate::fault::Fault;
-use crate::folders::{begin_folder, existing};
+use crate::folders::{begin_folder, existing, refuse_gone};
 use crate::importing::{document_of, read_rows};
 use canvas_journal::look;
 use canvas_judge::State;
@@ -57,13 +57,15 @@ fn document_in(alloc: Global, text: &[u8]) -> Result<State, Fault>
 
 /// The state that a backup holds, and its version. Writes nothing to it.
 ///
-/// The errors: `NoSegment`, where the backup holds no segment; `Device`, where it is missing or can't be read; `Damaged`, where it isn't
-/// whole; `Memory`.
+/// The errors: `NoSegment`, where the backup holds no segment; `Gone`, if recovery takes none of its segments, though its identity or sums
+/// are there; `Device`, where it is missing or can't be read; `Damaged`, where it isn't whole; `Memory`.
 pub fn read_backup<R: Files<File = File> + AllocGlobal + Clone + Drop>(
     files: R,
     backup: &str,
 ) -> Result<(State, u64), Fault> {
     let alloc = files.alloc();
-    let mut shelf = existing(files, backup)?;
-    Ok(look(alloc, &mut shelf)?)
+    let mut shelf = existing(files.clone()?, backup)?;
+    let found = look(alloc, &mut shelf)?;
+    refuse_gone(&files, backup, &mut shelf)?;
+    Ok(found)
 }

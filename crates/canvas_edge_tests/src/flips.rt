@@ -17,7 +17,7 @@ const FIRST_END: usize = 86;
 // Checks whether such a segment, with such sums, is what a crash leaves.
 fn is_left(alloc: Global, bytes: &[u8], sums: &[u8]) -> Result<bool, Fail> {
     let mut shelf = OneSegment { bytes };
-    match find_loss(alloc, &mut shelf, &TheseSums { alloc, sums }) {
+    match find_loss(alloc, &mut shelf, &TheseSums { alloc, sums }, None) {
         Ok(loss) => Ok(loss.is_none()),
         Err(Fault::Damaged { .. }) => Ok(false),
         Err(_) => Err(Fail::from("neither a loss nor none")),

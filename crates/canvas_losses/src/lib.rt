@@ -6,7 +6,9 @@ mod listed;
 mod loss;
 mod losses;
 mod parts;
+mod trace;
 
 pub use listed::Listed;
 pub use loss::Loss;
 pub use losses::loss_of;
+pub use trace::Trace;

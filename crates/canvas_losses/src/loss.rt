@@ -1,8 +1,9 @@
 // What no crash leaves.
+use crate::trace::Trace;
 use canvas_sums::SumFault;
 use thiserror::Error;
 
-/// What is found in a segment that no crash leaves, and what opening would lose.
+/// What is found in a folder that no crash leaves, and what opening would lose.
 #[derive(Clone, Copy, Debug, PartialEq, Eq, Error)]
 pub enum Loss {
     /// Its sums don't hold.
@@ -29,5 +30,11 @@ pub enum Loss {
         segment: u32,
         /// Where that record begins.
         offset: usize,
+    },
+    /// Recovery takes no segment, and what is left beside them says that one was synced.
+    #[error("no segment of the document is left, but {trace}")]
+    Gone {
+        /// What is left of the document.
+        trace: Trace,
     },
 }

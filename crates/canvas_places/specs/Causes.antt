@@ -2,7 +2,9 @@
 use Rattle.std.specs.Prelude.{ℕ, List, [], ◌++◌, codes, Option, Some, None}
 use Rattle.std.specs.Fmt.{decimal}
 use Rattle.canvas_losses.specs.declared.loss.Loss.{Loss}
-use Rattle.canvas_losses.specs.declared.loss.Loss.TheVariants.{Sums, NoCheckpoint, NoCutRecord}
+use Rattle.canvas_losses.specs.declared.loss.Loss.TheVariants.{Sums, NoCheckpoint, NoCutRecord, Gone}
+use Rattle.canvas_losses.specs.declared.trace.Trace.{Trace}
+use Rattle.canvas_losses.specs.declared.trace.Trace.TheVariants as trace
 use Rattle.canvas_sums.specs.declared.fault.SumFault.{SumFault}
 use Rattle.canvas_sums.specs.declared.fault.SumFault.TheVariants.{Unreadable, Short, Changed}
 use Rattle.canvas_watch.specs.declared.call.ShelfCall.{ShelfCall}
@@ -16,11 +18,17 @@ sums_text n (Short good named) = codes "segment " ++ decimal n ++ codes " had " 
 sums_text n (Changed good named) =
     codes "segment " ++ decimal n ++ codes " has other bytes between " ++ decimal good ++ codes " and " ++ decimal named ++ codes " than were synced"
 
+-- that the document has gone, of which this is left
+abbrev pub gone_text : Trace → List ℕ
+gone_text trace.Identity = codes "no segment of the document is left, but its identity is"
+gone_text (trace.Sums n) = codes "no segment of the document is left, but sums of segment " ++ decimal n ++ codes " are"
+
 -- what opening a folder would lose
 abbrev pub loss_text : Loss → List ℕ
 loss_text (Sums n fault) = sums_text n fault
 loss_text (NoCheckpoint n at) = codes "segment " ++ decimal n ++ codes " is no checkpoint that a crash cut short, at offset " ++ decimal at
 loss_text (NoCutRecord n at) = codes "segment " ++ decimal n ++ codes " has more behind offset " ++ decimal at ++ codes " than a crash leaves"
+loss_text (Gone trace) = gone_text trace
 
 -- what was done to a segment
 abbrev pub done_to : ℕ → List ℕ → List ℕ

@@ -14,7 +14,6 @@ use Rattle.canvas_shelf.specs.declared.shelf.ShelfError.{ShelfError}
 use Rattle.canvas_shelf.specs.declared.shelf.ShelfError.TheVariants as shelf
 use Rattle.canvas_store.specs.declared.wire.StoreError.{StoreError}
 use Rattle.canvas_store.specs.declared.wire.StoreError.TheVariants as store
-use Rattle.canvas_watch.specs.declared.call.ShelfCall.{ShelfCall}
 use Rattle.canvas_care.specs.declared.fault.Fault as care
 use Rattle.canvas_care.specs.declared.fault.Fault.TheVariants as looked
 use Rattle.canvas_places.specs.Causes.{cause_text, loss_text}
@@ -112,6 +111,8 @@ fault_of_care looked.Device = NoFolder
 fault_of_care looked.InUse = FolderInUse
 fault_of_care looked.Taken = NoFolder
 fault_of_care looked.NoSegment = NoFolder
+fault_of_care looked.Gone = NoFolder
+fault_of_care looked.Busy = NoFolder
 fault_of_care (looked.BadLine n) = NoFolder
 fault_of_care looked.NoDocument = NoFolder
 fault_of_care (looked.Damaged segment offset) = Damaged segment offset

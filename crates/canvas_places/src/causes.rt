@@ -1,5 +1,5 @@
 // What is told of a loss, and of a call that failed, inside a sentence.
-use canvas_losses::Loss;
+use canvas_losses::{Loss, Trace};
 use canvas_sums::SumFault;
 use canvas_watch::ShelfCall;
 use std::fmt;
@@ -39,6 +39,16 @@ impl fmt::Display for Lost {
                 f,
                 "segment {segment} has more behind offset {offset} than a crash leaves"
             ),
+            Loss::Gone { trace } => match trace {
+                Trace::Identity => write!(
+                    f,
+                    "no segment of the document is left, but its identity is"
+                ),
+                Trace::Sums { segment } => write!(
+                    f,
+                    "no segment of the document is left, but sums of segment {segment} are"
+                ),
+            },
         }
     }
 }

@@ -1,34 +1,58 @@
 // What is done before a folder is opened: whether that would lose something, and then a copy of what is there.
-ghost use Rattle.std.specs.Prelude.{◌≡◌, false, IfErr, IsTrue, None, OnOk};
+ghost use Rattle.std.specs.Prelude.{◌≡◌, false, IfErr, IsTrue, None, OnOk, Option};
 ghost use Rattle.canvas_shelf.specs.Disk.{numbers};
 ghost use Rattle.canvas_care.specs.Losing.{TellsLoss};
+ghost use Rattle.canvas_losses.specs.declared.trace.Trace.{Trace};
 ghost use Rattle.canvas_places.specs.Faults.{IsLossFault};
 
 use crate::fault::Fault;
-use canvas_care::{FolderSums, find_loss};
+use canvas_care::{FolderSums, find_loss, trace_in};
+use canvas_identity::{IdentityError, remove_identity};
+use canvas_losses::{Loss, Trace};
 use canvas_shelf::Shelf;
 use std::fs::{self, OpenOptions};
 use std::io::{self, ErrorKind, Write};
 
 /// Looks whether opening a folder would lose something. If that is accepted, the segments are copied to its folder `lost` first; nothing
-/// else is changed.
+/// else is changed, but that the identity of a document that has gone is removed: what is served then is another document.
 ///
-/// The errors: `Lost`, where it isn't accepted; `NotKept`, where the copies can't be made, or stand there already; `NoFolder`, where the folder
-/// can't be read; `Damaged`, for the first record that isn't what it has to be; and `Memory`.
+/// The errors: `Lost`, where it isn't accepted; `NotKept`, where the copies can't be made, or stand there already, or the identity can't be
+/// removed; `NoFolder`, where the folder can't be read; `Damaged`, for the first record that isn't what it has to be; and `Memory`.
 pub fn guard<S: Shelf>(
     files: &HostRuntime,
     dir: &str,
     shelf: &mut S,
     accept_loss: bool,
 ) -> Result<(), Fault>
-    ensures whole { IsTrue (S.honest shelf.old) → OnOk result (accept_loss ≡ false → TellsLoss (S.disk shelf.old) None) }
+    ensures whole { IsTrue (S.honest shelf.old) → OnOk result (accept_loss ≡ false → (trace : Option Trace) × TellsLoss (S.disk shelf.old) trace None) }
     ensures faults { IfErr result IsLossFault }
 {
+    let trace = trace_in(files, dir)?;
     let sums = FolderSums { files, dir };
-    match find_loss(files.alloc(), shelf, &sums)? {
+    match find_loss(files.alloc(), shelf, &sums, trace)? {
         None => Ok(()),
-        Some(_) if accept_loss => keep(files, dir, shelf),
+        Some(loss) if accept_loss => {
+            keep(files, dir, shelf)?;
+            forget(files, dir, loss)
+        }
         Some(loss) => Err(Fault::Lost { loss }),
+    }
+}
+
+// Removes the identity of a document that has gone.
+fn forget(files: &HostRuntime, dir: &str, loss: Loss) -> Result<(), Fault>
+    ensures { IfErr result IsLossFault }
+{
+    let Loss::Gone {
+        trace: Trace::Identity,
+    } = loss
+    else {
+        return Ok(());
+    };
+    match remove_identity(files, dir) {
+        Ok(()) => Ok(()),
+        Err(IdentityError::Memory) => Err(Fault::Memory),
+        Err(_) => Err(Fault::NotKept),
     }
 }
 

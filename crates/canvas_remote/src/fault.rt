@@ -35,6 +35,8 @@ impl fmt::Display for Told<'_> {
                 "the document {name} is there already: choose another name"
             ),
             Fault::NoSegment => write!(f, "there is no document {name}"),
+            Fault::Gone => write!(f, "no segment of the document {name} is left"),
+            Fault::Busy => write!(f, "the document {name} changes while it is checked"),
             Fault::BadLine(line) => write!(
                 f,
                 "line {line}: no row, or not the next one, or it stands where none may"

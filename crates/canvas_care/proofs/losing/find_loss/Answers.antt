@@ -4,22 +4,22 @@ use Rattle.canvas_shelf.specs.Disk.{Segment, seen}
 use Rattle.canvas_journal.specs.Found.{Finds, IsState}
 use Rattle.canvas_journal.specs.Meaning.{Versioned}
 use Rattle.std.specs.Prelude.{MatchOption}
-use Rattle.std.specs.List.{AllByRecursion}
-use Rattle.canvas_losses.specs.Losses.{FirstLoss, StandsFor, down_to}
+use Rattle.canvas_losses.specs.Losses.{IsLost, NothingLost}
 use Rattle.canvas_losses.specs.declared.listed.Listed.{Listed}
 use Rattle.canvas_losses.specs.declared.loss.Loss.{Loss}
+use Rattle.canvas_losses.specs.declared.trace.Trace.{Trace}
 use Rattle.canvas_care.specs.Checkpoints.{checkpoint_bytes}
 use Rattle.canvas_care.specs.Losing.{content_of, number_of}
 use Rattle.canvas_care.specs.Taken.{TakesFrom, source_of}
 use Rattle.canvas_care.proofs.losing.find_loss.Goals as goal
 
 -- what is told of these segments
-abbrev Tells : Option Loss → Option ℕ → List ℕ → List Listed → Type 0
-Tells loss taken checkpoint listed = MatchOption loss (AllByRecursion (StandsFor taken checkpoint) (down_to taken listed)) (λ l. FirstLoss taken checkpoint (down_to taken listed) l)
+abbrev Tells : Option Loss → Option ℕ → List ℕ → Option Trace → List Listed → Type 0
+Tells loss taken checkpoint trace listed = MatchOption loss (NothingLost taken checkpoint trace listed) (IsLost taken checkpoint trace listed)
 
-same_told : (loss : Option Loss) (a b : Option ℕ) (x y : List ℕ) (l m : List Listed) → a ≡ b → x ≡ y → l ≡ m → Tells loss a x l → Tells loss b y m
-same_told loss a b x y l m taken checkpoint listed told =
-    subst (λ (z : List Listed). Tells loss b y z) listed (subst (λ (z : List ℕ). Tells loss b z l) checkpoint (subst (λ (z : Option ℕ). Tells loss z x l) taken told))
+same_told : (loss : Option Loss) (trace : Option Trace) (a b : Option ℕ) (x y : List ℕ) (l m : List Listed) → a ≡ b → x ≡ y → l ≡ m → Tells loss a x trace l → Tells loss b y trace m
+same_told loss trace a b x y l m taken checkpoint listed told =
+    subst (λ (z : List Listed). Tells loss b y trace z) listed (subst (λ (z : List ℕ). Tells loss b z trace l) checkpoint (subst (λ (z : Option ℕ). Tells loss z x trace l) taken told))
 
 pub returns-clause-found : goal.returns-clause-found
 returns-clause-found g c = λ h.
@@ -44,7 +44,7 @@ returns-clause-found g c = λ h.
       content,
       takes,
       finds,
-      same_told c.loss_of.result c.taken_number.result (number_of source) c.deref-3.result.now (checkpoint_bytes s) c.deref-2.result.now c.in_ok-listed.listed.items
+      same_told c.loss_of.result c.args.trace c.taken_number.result (number_of source) c.deref-3.result.now (checkpoint_bytes s) c.deref-2.result.now c.in_ok-listed.listed.items
           c.taken_number.ensures
           (c.deref-3.ensures.value ∙ c.in_ok-checkpoint.ensures)
           c.deref-2.ensures.value
