@@ -8,7 +8,8 @@ own; only the named groups, where some are named.
   keeps a seat or the port. A client that is silent past --idle gives its seat back.
 - pages: health, metrics, document, the page's files, HEAD, what isn't there, paths that lead out of the folder, wrong methods.
 - origins: a page of the same host, of a named one, of a foreign one, and none.
-- identity: /document/ID connects, another ID doesn't; the ID stands in the answer, and stays after a restart.
+- identity: /document/ID connects, another ID doesn't; the ID stands in the answer, and stays after a restart. A folder whose identity is a
+  pipe, or isn't one, is left alone; a link that stands where a new identity is written first isn't followed.
 - kills: 16 clients edit while the server is killed KILLS (40) times; every edit that was answered is there at the end.
 - figures: the whole text of /metrics after a known session: edits judged and refused by each reason, Noes, syncs, a checkpoint.
 - sizes: an edit whose text has --message-bytes is judged, one of a byte more is answered No 8 and changes nothing, and a message above
@@ -28,7 +29,15 @@ own; only the named groups, where some are named.
 - lost: a bit is turned in each byte of a folder's segment, in turn: each time the server ends with status 5, says where, and touches nothing. So
   where a segment is cut below what was synced, and where one that is passed over isn't a checkpoint cut short. With --accept-loss it opens
   the folder once the segments are copied, and never over an earlier copy. What a crash leaves is opened.
+- gone: a folder whose segments are removed or cut to nothing, while its identity or its sums are there, isn't served, shown, checked, moved or
+  restored: status 5, the sentence names what is left, and nothing is written. With --accept-loss it opens as another document. What a crash
+  of the first start leaves is opened.
+- whole: `import` and `restore` are killed at random moments: the folder then has the whole document, or nothing that is opened, and the next
+  one makes it. A folder with sums of an earlier document isn't taken.
+- moved: a folder that is served is moved, and another document is put at its path, or the link that led to it is turned to another one: the
+  server goes on in its own folder, makes its checkpoint there, and neither writes into the other one nor removes anything there.
 - checked: `check` tells segments, whole records, torn rests and damage, and `log` the entries past the checkpoint; neither writes anything.
+- served: 5 checks for each of KILLS of a folder whose server makes many edits and checkpoints meanwhile: none reports damage or a loss.
 - coming: six clients come, edit and go again for SECONDS (30), and the server's memory stays flat.
 
 Prints a line for each group, and exits with 1 where one went wrong. Needs no package."""
@@ -206,7 +215,26 @@ def identity(room):
     server.start()
     require(server.identity() == name, "the identity changes with a restart")
     server.kill()
-    return "the document's own identity, and no other"
+    odd_identities(room)
+    return "the document's own identity, and no other; one that can't be read is left alone"
+
+
+def odd_identities(room):
+    above = os.path.dirname(room)
+    file, other = Path(room, "identity"), Path(above, "other file")
+    file.write_text("no identity\n")
+    before = files_of(room)
+    call("serve", room, "--port", "0", "--quiet", status=5, told=f"the file identity in {room} isn't 32 hex digits")
+    require(files_of(room) == before, "a folder with a bad identity is written to")
+    file.unlink()
+    os.mkfifo(file)
+    call("serve", room, "--port", "0", "--quiet", status=5, told=f"the file identity in {room} isn't 32 hex digits")
+    file.unlink()
+    other.write_text("another's\n")
+    Path(room, "identity.new").symlink_to(other)
+    server = Server(room, "--quiet")
+    require(file.read_text() == server.identity() + "\n" and other.read_text() == "another's\n", "a new identity is written through a link")
+    server.kill()
 
 
 def kills(room):
@@ -687,6 +715,10 @@ def highest(folder):
     return max(name for name in os.listdir(folder) if re.fullmatch(r"segment-\d{10}", name))
 
 
+def segment_name(number):
+    return f"segment-{number:010}"
+
+
 def hurt(folder, at, bit=1):
     """Turns a bit of the byte at this offset of the highest segment."""
     with open(os.path.join(folder, highest(folder)), "r+b") as damaged:
@@ -756,6 +788,122 @@ def lost(room):
     return f"{len(content)} turned bits told, cuts, foreign segments, an accepted loss; what a crash leaves is opened"
 
 
+LEFT = "no segment of the document is left, but its identity is"
+
+
+def refuses(folder, left, *others):
+    """A folder isn't opened, as this is left of its document; what the other commands say has status 5 too. Nothing is written."""
+    before = files_of(folder)
+    call("serve", folder, "--port", "0", "--quiet", status=5, told=f"opening {folder} would lose something: {left}")
+    for command in others:
+        call(*command, status=5, told=f"no segment of the document in {folder} is left, but its identity or sums are")
+    require(files_of(folder) == before, "a folder whose document has gone is written to")
+
+
+def gone(room):
+    drawn(room, 60)
+    segment, above = highest(room), os.path.dirname(room)
+    known = Path(room, "identity").read_text()
+    new = os.path.join(above, "new")
+    removed = copied(room, "removed")
+    os.remove(os.path.join(removed, segment))
+    refuses(removed, LEFT, ("check", removed), ("show", removed), ("log", removed), ("restore", removed, new))
+    empty = copied(room, "empty")
+    os.truncate(os.path.join(empty, segment), 0)
+    os.remove(os.path.join(empty, segment + ".sum"))
+    refuses(empty, LEFT, ("check", empty), ("restore", empty, new))
+    require(not os.path.exists(new), "a document that has gone is restored")
+    summed = copied(room, "summed")
+    for name in (segment, "identity"):
+        os.remove(os.path.join(summed, name))
+    refuses(summed, f"no segment of the document is left, but sums of segment {int(segment[8:])} are", ("check", summed), ("restore", summed, new))
+    require(opens(removed, "--accept-loss") == "version 0\n0:0 document\n", "what is opened of a document that has gone is", shown(removed))
+    require(Path(removed, "identity").read_text() != known, "another document has the identity of the one that has gone")
+    for name, files in (("nothing", ()), ("torn", (segment_name(1),)), ("summing", (segment_name(1), segment_name(1) + ".sum"))):
+        first = os.path.join(above, name)
+        os.mkdir(first)
+        for file in files:
+            Path(first, file).touch()
+        require(opens(first) == "version 0\n0:0 document\n", "a first start that a crash cut short isn't gone on with")
+    return "told with status 5 and left alone; what a crash of a first start leaves is opened"
+
+
+def killed(words, text, pause):
+    """Starts the program, and kills it after so many seconds."""
+    started = subprocess.Popen([PROGRAM, *words], stdin=subprocess.PIPE, stdout=subprocess.DEVNULL, stderr=subprocess.DEVNULL)
+    feeder = threading.Thread(target=lambda: feed(started, text))
+    feeder.start()
+    time.sleep(pause)
+    started.kill()
+    feeder.join()
+    started.wait()
+
+
+def feed(started, text):
+    try:
+        started.communicate(text)
+    except (BrokenPipeError, ValueError):
+        pass
+
+
+def whole(room):
+    above = os.path.dirname(room)
+    lines = ["[[0,0],\"document\",null,[]]"] + [text_of([[1, n], "page", [[0, 0], f"{n:06d}O"], [["text", "x" * 200]]]) for n in range(1, 30001)]
+    text = ("\n".join(lines) + "\n").encode()
+    source = os.path.join(above, "source")
+    begun = time.perf_counter()
+    made = call("import", source, text=text)
+    seconds, found = time.perf_counter() - begun, [0, 0]
+    for turn in range(40):
+        folder = os.path.join(above, f"turn {turn}")
+        words = ("import", folder) if turn % 2 else ("restore", source, folder)
+        killed(words, text if turn % 2 else b"", random.uniform(0.3, 1.1) * seconds)
+        segments = [name for name in os.listdir(folder) if name.startswith("segment-")] if os.path.isdir(folder) else []
+        require(segments in ([], ["segment-0000000001"]), "a killed one leaves", segments)
+        found[bool(segments)] += 1
+        if not segments:
+            require(call(*words, text=text if turn % 2 else b"") == made, "the next one doesn't make the folder")
+            require(os.listdir(folder) == ["segment-0000000001"], "left in the folder is", os.listdir(folder))
+        require(call("check", folder).endswith(b"no loss: a crash may have left it so\n") and shown(folder) == shown(source), "a killed one leaves another document")
+        shutil.rmtree(folder)
+    drawn(room, 60)
+    for name in (highest(room), "identity"):
+        os.remove(os.path.join(room, name))
+    call("restore", source, room, status=4, told=f"the folder {room} holds a document, or what is left of one")
+    return f"40 kills: {found[0]} left nothing that is opened, {found[1]} the whole document"
+
+
+def goes_on(server, mine, other):
+    """Edits past a checkpoint go into the server's own folder `mine`, and leave the other one alone."""
+    before, client = files_of(other), Client(server.port)
+    name = client.join()
+    for number in range(1, 601):
+        require(client.ask("edit", name, number, page(name, number)) == [["idle"]], "an edit isn't answered once its folder was moved")
+    require("lugcurrant_checkpoints_total 0\n" not in server.get("/metrics")[2].decode(), "no checkpoint was made")
+    server.kill()
+    require(files_of(other) == before, "a server writes into another folder, or removes from it")
+    require(f"{name}:600 page" in shown(mine), "the edits aren't in the folder that was served")
+    require(call("check", mine).endswith(b"no loss: a crash may have left it so\n"), "the folder that was moved has lost something")
+
+
+def moved(room):
+    above = os.path.dirname(room)
+    drawn(room, 60)
+    old, link = os.path.join(above, "old"), os.path.join(above, "link")
+    first = copied(room, "first")
+    second = copied(room, "second")
+    server = Server(room, "--quiet")
+    os.rename(room, old)
+    shutil.copytree(first, room)
+    goes_on(server, old, room)
+    os.symlink(first, link)
+    server = Server(link, "--quiet")
+    os.remove(link)
+    os.symlink(second, link)
+    goes_on(server, first, second)
+    return "600 edits and their checkpoint after a rename, and after a link was turned, all in the folder that was served"
+
+
 def checked(room):
     above = os.path.dirname(room)
     drawn(room, 290)
@@ -809,6 +957,39 @@ def checked(room):
     return f"{len(past)} entries past a checkpoint, a torn rest, a cut segment, and {len(texts) - 1} damaged records"
 
 
+def served(room):
+    lines = ["[[0,0],\"document\",null,[]]"] + [text_of([[1, n], "page", [[0, 0], f"{n:06d}O"], [["text", "x" * 500]]]) for n in range(1, 1001)]
+    call("import", room, text=("\n".join(lines) + "\n").encode())
+    server, stop, edits = Server(room, "--quiet"), threading.Event(), []
+
+    def edit():
+        client = Client(server.port)
+        name, number = client.join(), 0
+        while not stop.is_set():
+            number += 1
+            require(client.ask("edit", name, number, ["set", [0, 0], "count", number]) == [["idle"]], "an edit isn't answered")
+        edits.append(number)
+
+    threads = [threading.Thread(target=edit) for _ in range(8)]
+    for thread in threads:
+        thread.start()
+    wrong, busy, begun = [], 0, time.perf_counter()
+    for _ in range(5 * KILLS):
+        done = subprocess.run([PROGRAM, "check", room], capture_output=True, timeout=60)
+        busy += b"changes while it is checked" in done.stderr
+        if done.returncode != 0 and b"changes while it is checked" not in done.stderr:
+            wrong.append(done.stderr)
+    seconds = time.perf_counter() - begun
+    checkpoints = int(re.search(r"lugcurrant_checkpoints_total (\d+)", server.get("/metrics")[2].decode())[1])
+    stop.set()
+    for thread in threads:
+        thread.join()
+    server.kill()
+    require(not wrong, len(wrong), "checks of", 5 * KILLS, "report", wrong[:1])
+    record("checks of a served folder", checks=5 * KILLS, edits=round(sum(edits) / seconds), checkpoints=round(checkpoints / seconds, 1))
+    return f"{5 * KILLS} checks, none wrong, {busy} too busy, at {sum(edits) / seconds:.0f} edits and {checkpoints / seconds:.1f} checkpoints a second"
+
+
 def coming(room):
     server = Server(room, "--clients", "8", "--quiet")
     stop, refused, served = threading.Event(), [0], [0]
@@ -845,6 +1026,6 @@ def coming(room):
     return f"{served[0]} clients in {SECONDS:.0f} s, none refused, memory {before} kB after a third, {after} kB at the end"
 
 
-GROUPS = (reuse, full, quiet, pages, origins, identity, kills, figures, sizes, copies, pieces, large, disk, sentences, rows, restored, lost, checked, coming)
+GROUPS = (reuse, full, quiet, pages, origins, identity, kills, figures, sizes, copies, pieces, large, disk, sentences, rows, restored, whole, lost, gone, moved, checked, served, coming)
 
 sys.exit(try_groups(GROUPS, NAMES))
