@@ -53,7 +53,7 @@ EDITS = int(WORDS[2]) if len(WORDS) > 2 else 800
 BROKEN = "--broken" in sys.argv[1:]
 LIBRARY = os.path.abspath(os.environ.get("LUGCURRANT_LIBRARY") or TOP / "packages/c/liblugcurrant.so")
 # What examples/c/page.c is compiled of.
-PAGE_SOURCES = ["examples/c/page.c", "examples/c/socket.c", "packages/c/src/flow.c", "packages/c/src/remake.c"]
+PAGE_SOURCES = [TOP / "examples/c/page.c", TOP / "examples/c/socket.c", *sorted(TOP.glob("packages/c/src/*.c"))]
 
 
 class Wrong(Exception):
@@ -381,9 +381,8 @@ async def settle(client, port):
 def compiled(room):
     """The program of examples/c/page.c."""
     program = os.path.join(room, "page")
-    sources = [str(TOP / source) for source in PAGE_SOURCES]
     include, run_path = f"-I{TOP / 'packages/c/include'}", f"-Wl,-rpath,{os.path.dirname(LIBRARY)}"
-    subprocess.run(["cc", "-std=c11", "-Wall", "-Wextra", "-Werror", "-O2", include, "-o", program, *sources, LIBRARY, run_path], check=True)
+    subprocess.run(["cc", "-std=c11", "-Wall", "-Wextra", "-Werror", "-O2", include, "-o", program, *PAGE_SOURCES, LIBRARY, run_path], check=True)
     return program
 
 

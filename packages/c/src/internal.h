@@ -1,4 +1,5 @@
-/* What flow.c and remake.c share: lists that grow, parts of JSON texts, and edits that are made again. */
+/* What the sources of the flow share: lists that grow, parts of JSON texts, edits that are made again, the state of a flow, and the calls
+ * from one source to another. */
 #ifndef LUGCURRANT_FLOW_INTERNAL_H
 #define LUGCURRANT_FLOW_INTERNAL_H
 
@@ -105,5 +106,214 @@ uint32_t lugcurrant_json_kind(lugcurrant_span text);
 /* Makes the change of an edit again in another client. `ids` has the objects that were created again, as lugcurrant_flow_new_id by their
  * former ids; a creation adds to it. Returns DONE; why it can't be made; or MEMORY: then nothing has changed. */
 uint32_t lugcurrant_remake(lugcurrant_client *client, lugcurrant_span change, lugcurrant_list *ids);
+
+/* ---- a flow ---- */
+
+enum {
+    MOST_ENTRIES = 64, /* entries in an answer */
+    MOST_EVENTS = 6    /* at least the number of events of one call */
+};
+
+static const double FIRST_WAIT = 1000; /* milliseconds before what a server couldn't keep is sent again, at first */
+
+/* The limit if a program sets none: so many edits no client makes. */
+#define ENDLESS UINT64_MAX
+
+enum { ENTRY = 'e', COPY = 'c', IDLE = 'i' }; /* the third byte of ["entry", ["copy", ["idle" */
+
+enum what { JOIN, EDIT, ASK };
+
+/* A message that was given to send, and what has come of its answer. */
+struct sent {
+    enum what what;
+    size_t size;          /* of an edit: its bytes */
+    uint64_t number;      /* of an edit */
+    bool is_first;        /* an edit that was the first to wait */
+    uint64_t from;        /* of an ask: the version after which it asks */
+    double at;            /* when it was given */
+    uint64_t last_judged; /* the flow's `judged` then */
+    bool is_counted;      /* it is one of `asking` */
+    bool is_scan;         /* its answer is looked through for edits of this id */
+    bool is_void;         /* its answer is of no use any more */
+    uint64_t entries;     /* entries and copies that came */
+    bool took;            /* the client took one of them */
+    bool is_ahead;        /* something before one of them is missing */
+    bool is_copy;
+};
+
+/* An entry of this client's id in the log of the server. */
+struct found {
+    uint64_t number;
+    uint8_t *change;
+    size_t length;
+};
+
+enum step { NOT_ANEW, SCAN, JOIN_ANEW };
+
+/* The edits that are made again in the fresh client, how far that is, and what came of it. */
+struct remaking {
+    lugcurrant_list fates;  /* unsigned char, an enum fate: of the edits that wait, in order */
+    uint64_t next;          /* edits that are done with */
+    uint64_t made;          /* those of them that were made again */
+    lugcurrant_list lost;   /* lugcurrant_flow_edit: those that could not be */
+    lugcurrant_list unsure; /* lugcurrant_flow_edit: those that may have been judged, or not */
+    lugcurrant_list ids;    /* lugcurrant_flow_new_id */
+};
+
+/* A client that begins anew: why, and how far it is. */
+struct anew {
+    enum step step;
+    uint32_t state;
+    uint32_t drop;            /* why the first edit is taken out, or 0 */
+    bool scans;               /* the log is looked through for edits of this id */
+    bool looks;               /* that is still to be done, or again */
+    uint64_t from;            /* the version up to which it is done */
+    bool is_asking;           /* the next part of it is under way */
+    uint64_t done;            /* edits of this id that a copy says to be judged */
+    lugcurrant_list found;    /* struct found, by their numbers */
+    lugcurrant_client fresh;  /* what the client becomes, once it has heard what there is */
+    struct remaking remaking;
+};
+
+/* An event that wasn't taken yet, and the lists that it owns. */
+struct queued {
+    lugcurrant_flow_event event;
+    struct remaking remaking;
+};
+
+struct lugcurrant_flow {
+    lugcurrant_client *client;
+    lugcurrant_flow_options options;
+    uint64_t limit;         /* edits above this number aren't sent */
+    uint64_t judged;        /* the greatest number of an edit that was answered by idle */
+    uint64_t tried;         /* the same of one that may have been judged without an answer */
+    uint64_t saved;         /* the number of the last edit in a save of the client */
+    uint32_t state;
+    const char *words;
+    uint32_t dropping;      /* why an edit must be taken out, or 0 */
+    uint64_t dropped;       /* the number of that edit */
+    struct anew anew;
+    lugcurrant_list events; /* struct queued */
+    struct remaking told;   /* the lists of the event that was taken last */
+    uint8_t *message;       /* the message that was given last, or the text of an edit that is made again */
+    size_t message_room;
+
+    /* What belongs to one connection. */
+    bool is_open;
+    lugcurrant_list fifo;   /* struct sent: what is under way */
+    uint32_t edits;         /* edits under way, and their bytes */
+    size_t bytes;
+    uint32_t asking;        /* asks under way */
+    uint32_t width;         /* how many may be while catching up */
+    uint64_t top;           /* the version that the last ask leads to */
+    uint32_t useful;        /* of the asks that are under way together: how many brought news */
+    bool is_round_full;     /* and whether an answer was full */
+    double ask_at;
+    double asked_at;
+    double pause;
+    double hold_until;      /* no edit and no join is sent before */
+    double hold_for;
+    uint64_t sent;          /* the number of the last edit that was sent */
+    bool is_caught_up;      /* an ask has brought nothing more */
+    double trip;            /* milliseconds from an ask to its answer */
+    uint64_t lately;        /* entries an answer */
+    uint32_t missing;       /* answers that missed an edit that was answered, and since when */
+    double missing_since;
+    bool is_full;           /* the server takes no more edits */
+};
+
+/* The members of ["entry",VERSION,[AUTHOR,NUMBER,WHAT,OUTCOME]] up to WHAT. */
+struct entry {
+    lugcurrant_span text;
+    uint64_t author;
+    uint64_t number;
+    lugcurrant_span change;
+};
+
+static inline double lugcurrant_least_of(double a, double b)
+{
+    return a < b ? a : b;
+}
+
+static inline double lugcurrant_greatest_of(double a, double b)
+{
+    return a > b ? a : b;
+}
+
+/* ---- flow.c ---- */
+
+/* Frees the fresh client and what came of it. If the beginning anew continues, another one joins. */
+void lugcurrant_forget_fresh(struct anew *anew);
+
+/* Ends a beginning anew, whatever it has reached. */
+void lugcurrant_forget_anew(lugcurrant_flow *flow);
+
+/* Adds an event. Its room is reserved already. */
+struct queued *lugcurrant_push_event(lugcurrant_flow *flow, uint32_t type);
+
+/* Sets the state and its words, and adds an event if one of them has changed. The event's room is reserved already. */
+void lugcurrant_set_state(lugcurrant_flow *flow, uint32_t state, const char *words);
+
+/* The server may have judged this edit, though it hasn't said so. */
+void lugcurrant_may_be_judged(lugcurrant_flow *flow, uint64_t number);
+
+/* ---- outgoing.c ---- */
+
+/* Returns the client that hears: the one that is begun anew, if there is one. It has no id until it has joined. */
+lugcurrant_client *lugcurrant_hearer_of(const lugcurrant_flow *flow);
+
+/* Copies what the last call left in the client to `message`. DONE, MEMORY. */
+uint32_t lugcurrant_take_left(lugcurrant_flow *flow, lugcurrant_client *client, size_t *length);
+
+/* Returns how many asks may be under way while few news come. Such asks hear some news twice: few news an answer leave room for that. */
+uint32_t lugcurrant_steady(const lugcurrant_flow *flow);
+
+/* ---- hearing.c ---- */
+
+/* Reads a number of the list's text, or 0 if it has none there. */
+uint64_t lugcurrant_number_at(lugcurrant_span list, size_t index);
+
+/* Reads the reason of ["no",REASON] and returns LUGCURRANT_NO + REASON, or LUGCURRANT_NO if the message is none. */
+uint64_t lugcurrant_no_of(lugcurrant_span message);
+
+/* Reads an entry's members. Returns false if the message hasn't got them. */
+bool lugcurrant_read_entry(lugcurrant_span message, struct entry *entry);
+
+/* Lets no edit and no join be sent for `hold_for` milliseconds, and doubles these, up to MOST_WAIT. */
+void lugcurrant_hold(lugcurrant_flow *flow, double now);
+
+/* ---- anew.c ---- */
+
+/* Marks all that is under way: its answers have no further use. */
+void lugcurrant_void_all(lugcurrant_flow *flow);
+
+/* Continues as another client. It joins and hears what there is. With `scans` it then looks through the log after `from` for what was
+ * judged of the edits that wait, and hears what came while it looked. Then it makes again what waits and was never judged. It looks as late
+ * as it can: the server may still read an edit that was sent over a connection that is lost. Room for an event is reserved already. */
+void lugcurrant_begin_anew(lugcurrant_flow *flow, uint32_t state, bool scans, uint64_t from);
+
+/* Begins anew without the edit that the server can't take, once those before it are judged. */
+void lugcurrant_begin_anew_without(lugcurrant_flow *flow);
+
+/* Checks whether a copy counts edits as judged that aren't this program's, so that another one uses the id: the server never had them from
+ * it, or the document has an object of theirs. The client would take such a copy, and its own edits of these numbers for judged. If it
+ * created an object with the id of the other one, and was refused, it would show neither. DONE, MEMORY. */
+uint32_t lugcurrant_check_twin(lugcurrant_flow *flow, lugcurrant_span copy, bool *is_twin);
+
+/* Keeps an entry if it is an edit of the id that is given up and may be one that waits. DONE, MEMORY. */
+uint32_t lugcurrant_look_at_entry(lugcurrant_flow *flow, lugcurrant_span message);
+
+/* An entry or a copy of the log that is looked through. DONE, MEMORY. */
+uint32_t lugcurrant_look_at_part(lugcurrant_flow *flow, struct sent *head, uint8_t letter, lugcurrant_span message);
+
+/* An answer of the look has come: there is more, the server couldn't answer now, or all was seen. */
+void lugcurrant_end_look(lugcurrant_flow *flow, const struct sent *ask, uint8_t letter, lugcurrant_span message, double now);
+
+/* Makes what waits again in the fresh client. If it is out of memory it keeps what it has made, and continues there when it is called
+ * again: no call shows the fresh client before. DONE, MEMORY. */
+uint32_t lugcurrant_make_again(lugcurrant_flow *flow);
+
+/* The client becomes the fresh one. What waits was made again already. */
+void lugcurrant_become_fresh(lugcurrant_flow *flow);
 
 #endif

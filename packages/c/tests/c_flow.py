@@ -72,9 +72,9 @@ def compiled(room, mode):
     build = ["cc", "-std=c11", "-Wall", "-Wextra", "-Werror", "-g", "-O1", "-fPIC", "-I", str(PACKAGES / "c/include")]
     extra = {"--memory": [f"-D{it}" for it in COUNTED], "--sanitize": ["-fsanitize=address,undefined", "-fno-sanitize-recover=all"]}.get(mode, [])
     parts = []
-    for name in ("flow", "remake"):
-        parts.append(f"{room}/{name}.o")
-        subprocess.run([*build, *extra, "-c", str(PACKAGES / f"c/src/{name}.c"), "-o", parts[-1]], check=True)
+    for source in sorted((PACKAGES / "c/src").glob("*.c")):
+        parts.append(f"{room}/{source.stem}.o")
+        subprocess.run([*build, *extra, "-c", str(source), "-o", parts[-1]], check=True)
     if mode == "--memory":
         parts.append(str(HERE / "failing.c"))
     flags = extra if mode == "--sanitize" else []

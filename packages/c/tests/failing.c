@@ -1,5 +1,5 @@
 /* For replay.py --memory: allocators that fail at a given call, calls of a flow during which they do, and counts of what a flow holds.
- * flow.c and remake.c are compiled to call the counting functions. The shared object of all this is loaded before the C library, so the
+ * The sources of the flow are compiled to call the counting functions. The shared object of all this is loaded before the C library, so the
  * library of the client gets memory here, too. */
 #include <lugcurrant_flow.h>
 
