@@ -30,7 +30,8 @@ export class Flow {
     this.words = '';
     this.isCaughtUp = false;                      // an ask has brought nothing more, since the connection was made
     this.anew = null;                             // why it begins anew: { client, found, drop, from }
-    this.dropping = null;                         // the number of an edit that is to be taken out
+    this.dropping = 0;                            // the reason of the No for which an edit must be taken out, or 0
+    this.dropped = 0n;                            // the number of that edit
     this.events = [];
     this.reset();
   }
@@ -82,7 +83,7 @@ export class Flow {
     if (this.anew?.step === 'scan') this.#scan(out, now);
     else if (!this.#hearer.id) this.#join(out, now);
     else {
-      if (!this.anew && !this.isFull && this.dropping === null) this.#edits(out, now);
+      if (!this.anew && !this.isFull && !this.dropping) this.#edits(out, now);
       this.#ask(out, now);
     }
     return out;
@@ -204,8 +205,7 @@ export class Flow {
     if (this.anew) { this.#swap(); return; }
     this.isCaughtUp = true;
     this.#misses(head, now);
-    const known = BigInt(this.client.acknowledged);
-    if (this.dropping !== null && known >= this.dropping - 1n) this.beginAnew(this.state, { drop: true, scan: true });
+    if (this.dropping && BigInt(this.client.acknowledged) >= this.dropped - 1n) this.#beginAnewWithout();
     this.events.push({ type: 'caught up' });
   }
 
@@ -264,7 +264,7 @@ export class Flow {
     if (reason === 1) return this.#unknown();
     if (head.what === 'ask') {
       this.askAt = now + 1000;
-      if (reason !== 7) this.#fault(words); else if (!this.isFull && this.dropping === null) this.#tell(name, words);
+      if (reason !== 7) this.#fault(words); else if (!this.isFull && !this.dropping) this.#tell(name, words);
       return undefined;
     }
     if (head.what === 'join') { this.#tell(name, words); return this.#hold(now); }
@@ -275,7 +275,7 @@ export class Flow {
     if (reason === 3) return head.isFirst ? this.beginAnew('stranger', { scan: false }) : undefined;
     this.#tell(name, words);
     if (reason === 4) { this.isFull = true; return undefined; }
-    if (reason === 8 || reason === 9) { this.dropping = head.number; this.askAt = now; return undefined; }
+    if (reason === 8 || reason === 9) { this.dropping = reason; this.dropped = head.number; this.askAt = now; return undefined; }
     return this.#hold(now);
   }
 
@@ -335,12 +335,19 @@ export class Flow {
     if (this.anew || !this.client.id) return undefined;         // without an id it has neither edits nor news
     for (const it of this.fifo) it.isVoid = true;
     this.anew = { state, step: 'join', scans: scan, looks: scan, client: this.client.sibling(), found: new Map(), done: 0n, from, drop, isAsking: false };
-    this.dropping = null;
+    this.dropping = 0;
     this.missing = null;
     this.top = 0n;
     this.width = 1;
     this.#tell(state, state === 'replaced' ? 'another program uses this id; it begins anew' : this.state === state ? this.words : 'the server has another history; it begins anew');
     return undefined;
+  }
+
+  // Begins anew without the edit that the server can't take, once those before it are judged. The connection may be another one than that of the
+  // No, so the state is that of its reason again.
+  #beginAnewWithout() {
+    this.#tell(...NO_REASONS[this.dropping]);
+    this.beginAnew(this.state, { drop: true, scan: true });
   }
 
   // On a new connection what was under way is asked for again.
@@ -401,7 +408,7 @@ export class Flow {
   // ---- states ----
 
   #online() {
-    if (this.anew || this.isFull || this.dropping !== null) return;
+    if (this.anew || this.isFull || this.dropping) return;
     if (this.holdFor > 1000 && ['disk failed', 'disk failed before', 'no memory'].includes(this.state)) return;
     this.#tell('online', '');
   }

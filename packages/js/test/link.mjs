@@ -1,8 +1,8 @@
 #!/usr/bin/env node
 // Links against a real server:  node --experimental-websocket link.mjs LUGCURRANT
 //
-// The states of a link, events, twins of one saved client, keeping in a file, a server below a path of a proxy, a page of another origin (if
-// Chromium is installed), an older backup and another document in the folder's place.
+// The states of a link, events, twins of one saved client, keeping in a file, a server below a path of a proxy, an edit that is taken out over
+// another connection, a page of another origin (if Chromium is installed), an older backup and another document in the folder's place.
 import assert from 'node:assert';
 import { cpSync, existsSync, mkdtempSync, readFileSync, rmSync } from 'node:fs';
 import { createServer, request } from 'node:http';
@@ -13,6 +13,7 @@ import { fileURLToPath } from 'node:url';
 import { Client, Kept, Link, ROOT, shelfOfFile } from '../src/node.js';
 import { Server, endAfter } from '../../../tests/web/server.mjs';
 import { Browser, sleep, until } from '../../../tests/web/devtools.mjs';
+import { FakeServer } from './fake.mjs';
 
 endAfter(200);
 const server = await Server.start(process.argv[2], { words: ['--clients', '3'] });
@@ -217,6 +218,39 @@ async function otherOrigin(first) {
   site.close();
 }
 
+// A WebSocket class whose connections lead to a made-up server, and end after a No.
+const socketsTo = (fake) => class {
+  readyState = 0;
+  constructor() { setTimeout(() => { this.readyState = 1; this.onopen(); }); }
+  send(bytes) {
+    for (const answer of this.readyState === 1 ? fake.answer(Buffer.from(bytes).toString()) : []) {
+      setTimeout(() => this.onmessage({ data: Buffer.from(answer) }));
+      if (answer.startsWith('["no",')) this.close();
+    }
+  }
+  close() { this.readyState = 3; setTimeout(() => this.onclose()); }
+};
+
+// The connection ends right after the No to an edit. The edit is lost for the reason of that No, whatever the state is on the next connection.
+async function takenOutLater() {
+  const largest = 200, edits = { 'too large': ['a', 'x'.repeat(largest)], unreadable: ['unread', 1] };
+  for (const [reason, edit] of Object.entries(edits)) {
+    const anew = [], states = [], options = { document: false, WebSocket: socketsTo(new FakeServer({ largest })), anew: (event) => anew.push(event) };
+    const link = await open({ ...options, state: ({ state }) => states.push(state) });
+    await link.ready;
+    const id = link.client.createLast('page', ROOT);
+    await link.settled();
+    link.client.set(id, ...edit);
+    link.client.set(id, 'b', 2);
+    await link.settled();
+    assert.deepEqual(anew.map(({ made, lost, unsure }) => [made, lost.map(({ code }) => code), unsure]), [[1, [reason], []]]);
+    assert.deepEqual(states, ['online', reason, 'online']);
+    assert.deepEqual(link.client.object(id).properties, { b: 2 });
+    tried += 1;
+    await closed(link);
+  }
+}
+
 async function replaceFolder(act) {
   await server.kill();
   rmSync(folder, { recursive: true });
@@ -274,6 +308,7 @@ await twins(first, second, page);
 await closed(second);
 await keptInFile(page);
 await belowPath(first);
+await takenOutLater();
 if (existsSync('/usr/bin/chromium')) await otherOrigin(first);
 await olderBackup(page);
 await anotherDocument(first);

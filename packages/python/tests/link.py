@@ -2,12 +2,14 @@
 """A link against a real server:  link.py LUGCURRANT. Needs the package `websockets`."""
 
 import asyncio
+import json
 import pathlib
 import re
 import subprocess
 import sys
 import tempfile
 
+import websockets
 from lugcurrant import ROOT, Client, ClientError, Colour, FileShelf, Kept, Link, State
 
 
@@ -39,7 +41,52 @@ async def becomes(link: Link, state: State) -> None:
     raise AssertionError(f"{link.state} ({link.words}) in place of {state}")
 
 
+class Refusing:
+    """A made-up server that takes pages and whole numbers, and answers any other edit by the No `no`. It ends the connection then."""
+
+    def __init__(self, no: int) -> None:
+        self.no, self.clients, self.log = no, 0, []
+
+    async def talk(self, socket, path=None) -> None:
+        async for message in socket:
+            for answer in self.answers(*json.loads(message)):
+                await socket.send(json.dumps(answer, separators=(",", ":")).encode())
+                if answer[0] == "no":
+                    return
+
+    def answers(self, what: str, *given) -> list:
+        if what == "join":
+            self.clients += 1
+            self.log.append([0, 0, "join", ["joined", self.clients]])
+            return [["welcome", self.clients]]
+        if what == "ask":
+            return [["entry", version, entry] for version, entry in enumerate(self.log, 1) if version > given[1]] + [["idle"]]
+        _, _, change = given
+        if change[0] == "set" and not isinstance(change[3], int):
+            return [["no", self.no]]
+        self.log.append([*given, ["created", change[3]] if change[0] == "create" else ["wasset"]])
+        return [["idle"]]
+
+
+async def taken_out_later(no: int, reason: State) -> None:
+    """The connection ends right after the No to an edit. The edit is lost for the reason of that No, whatever the state is on the next connection."""
+    anew, states = [], []
+    async with websockets.serve(Refusing(no).talk, "127.0.0.1", 0) as server:
+        url = f"ws://127.0.0.1:{server.sockets[0].getsockname()[1]}/"
+        async with Link(Client(), url, document=False, retry=0.05, anew=anew.append, state=lambda it: states.append(it.state)) as link:
+            page = link.client.create_last("page", ROOT)
+            await link.settled()
+            link.client.set(page, "a", "text")
+            link.client.set(page, "b", 2)
+            await link.settled()
+            assert link.client.object(page).properties == {"b": 2}
+    assert [(it["made"], [code for _, code in it["lost"]], it["unsure"]) for it in anew] == [(1, [reason.value], [])], anew
+    assert states[:2] == [State.ONLINE, reason] and states[-2:] == [State.ONLINE, State.CLOSED], states
+
+
 async def main(program: str) -> None:
+    await taken_out_later(8, State.TOO_LARGE)
+    await taken_out_later(9, State.UNREADABLE)
     folder = pathlib.Path(tempfile.mkdtemp())
     server = Server(program, folder)
     server.run()

@@ -90,7 +90,8 @@ class Flow:
         self.words = ""
         self.fifo: list[_Sent] = []
         self.anew: _Anew | None = None
-        self.dropping: int | None = None
+        self.dropping = 0  # the reason of the No for which an edit must be taken out, or 0
+        self.dropped = 0  # the number of that edit
         self.events: list[Event] = []
         self._reset()
 
@@ -152,7 +153,7 @@ class Flow:
             if not self.fifo and now >= self.hold_until:
                 self._push(out, self._hearer().join_message(), _Sent("join", 0))
         else:
-            if self.anew is None and not self.is_full and self.dropping is None:
+            if self.anew is None and not self.is_full and not self.dropping:
                 self._send_edits(out, now)
             self._ask(out, now)
         return out
@@ -309,8 +310,8 @@ class Flow:
             return self._swap()
         self.is_caught_up = True
         self._misses(head, now)
-        if self.dropping is not None and self.client.acknowledged >= self.dropping - 1:
-            self.begin_anew(self.state, scan=True, drop=True)
+        if self.dropping and self.client.acknowledged >= self.dropped - 1:
+            self._begin_anew_without()
         self.events.append(Event("caught up"))
         return None
 
@@ -375,7 +376,7 @@ class Flow:
             self.ask_at = now + self.second
             if reason != 7:
                 self._fault(words)
-            elif not self.is_full and self.dropping is None:
+            elif not self.is_full and not self.dropping:
                 self._tell(state, words)
             return None
         if head.what == "join":
@@ -393,7 +394,7 @@ class Flow:
         if reason == 4:
             self.is_full = True
         elif reason in (8, 9):
-            self.dropping = head.number
+            self.dropping, self.dropped = reason, head.number
             self.ask_at = now
         else:
             self._hold(now)
@@ -462,11 +463,18 @@ class Flow:
         for it in self.fifo:
             it.void = True
         self.anew = _Anew(state, scan, self.client.version if start is None else start, drop, looks=scan)
-        self.dropping = None
+        self.dropping = 0
         self._missing = None
         self.top, self.width = 0, 1
         words = "another program uses this id; it begins anew" if state is State.REPLACED else self.words if state is self.state else "the server has another history; it begins anew"
         self._tell(state, words)
+
+    def _begin_anew_without(self) -> None:
+        """Begins anew without the edit that the server can't take, once those before it are judged. The connection may be another one than that
+        of the No, so the state is that of its reason again."""
+        name, words = NO_REASONS[self.dropping]
+        self._tell(State(name), words)
+        self.begin_anew(self.state, scan=True, drop=True)
 
     def _scan(self, out: list[bytes], now: float) -> None:
         assert self.anew is not None
@@ -530,7 +538,7 @@ class Flow:
     # States.
 
     def _online(self) -> None:
-        if self.anew or self.is_full or self.dropping is not None or (self.hold_for > self.second and self.state in _HELD):
+        if self.anew or self.is_full or self.dropping or (self.hold_for > self.second and self.state in _HELD):
             return
         self._tell(State.ONLINE, "")
 
