@@ -5,5 +5,11 @@ import { Link } from './link.js';
 export * from './index.js';
 
 let compiled = null;
-Client.defaultModule = () => (compiled ??= compile(fetch(new URL('../canvas.wasm', import.meta.url))));
+Client.defaultModule = () => {
+  compiled ??= compile(fetch(new URL('../canvas.wasm', import.meta.url))).catch((fault) => {
+    compiled = null;                                   // the next call tries again
+    throw fault;
+  });
+  return compiled;
+};
 Link.findWebSocket = async () => globalThis.WebSocket;

@@ -11,8 +11,10 @@ const MODULE = new URL('../canvas.wasm', import.meta.url);
 let compiled = null;
 Client.defaultModule = () => {
   compiled ??= readFile(MODULE).then((bytes) => WebAssembly.compile(bytes), () => {
-    compiled = null;
     throw new Error(`the module canvas.wasm is not in the package (${MODULE.pathname}): packages/wasm/build makes it, and packages/js/build puts it there`);
+  }).catch((fault) => {
+    compiled = null;                                   // the next call tries again
+    throw fault;
   });
   return compiled;
 };

@@ -90,12 +90,11 @@ const second = await open(browser, sites.hashed.origin), heard = await edit(seco
 assert.match(heard.text, /"Own"[^]*"Hashed"/);
 assert.equal(server.show().tree, heard.text);
 
-// esbuild leaves `new URL('../canvas.wasm', import.meta.url)` as it is: an error says which file is missing there, until it is copied.
+// esbuild leaves `new URL('../canvas.wasm', import.meta.url)` as it is: an error says which file is missing there. Once it is copied, the same page
+// loads it.
 const third = await open(browser, sites.beside.origin);
 await assert.rejects(edit(third, server.url, 'Beside', { document }), new RegExp(`the module can not be had: ${sites.beside.origin}/canvas.wasm is answered 404`));
 copyFileSync(join(installed, 'canvas.wasm'), join(beside, 'canvas.wasm'));
-await third.reload();
-assert(await until(() => third.js("typeof window.edit === 'function'")));
 assert.match((await edit(third, server.url, 'Beside', { document })).text, /"Beside"/);
 assert.match(server.show().tree, /"Own"[^]*"Hashed"[^]*"Beside"/);
 assert.deepEqual(first.faults, []);

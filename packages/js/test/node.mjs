@@ -1,7 +1,8 @@
 #!/usr/bin/env node
 // Where the package finds a WebSocket in node:  node node.mjs LUGCURRANT [NODE]     NODE is another node to be tried, this one if left out
 // A program with the package in its node_modules joins a server by the package `ws`, by node's own WebSocket, with or without the option for it, and
-// by the class that it passes; where there is none of these, it ends with the sentence that names the ways.
+// by the class that it passes; where there is none of these, it ends with the sentence that names the ways. A program whose module is missing or cut
+// loads it once it is whole.
 import assert from 'node:assert';
 import { execFileSync, spawnSync } from 'node:child_process';
 import { cpSync, existsSync, mkdirSync, mkdtempSync, rmSync, writeFileSync } from 'node:fs';
@@ -24,6 +25,19 @@ await link.done;
 console.log('settled by', (options.WebSocket ?? await Link.findWebSocket()) === globalThis.WebSocket ? 'own' : 'ws');
 `;
 
+const LOADS_LATER = `
+import { readFileSync, rmSync, writeFileSync } from 'node:fs';
+import { Client } from 'lugcurrant';
+const file = new URL('./node_modules/lugcurrant/canvas.wasm', import.meta.url), whole = readFileSync(file);
+for (const spoil of [() => rmSync(file), () => writeFileSync(file, whole.subarray(0, 1000))]) {
+  spoil();
+  const fault = await Client.load().then(() => null, (given) => given);
+  console.log(fault?.message ?? 'loaded');
+}
+writeFileSync(file, whole);
+console.log((await Client.load()).text());
+`;
+
 endAfter(120);
 const [program, node = process.execPath] = process.argv.slice(2), room = mkdtempSync(join(tmpdir(), 'node-')), package_ = fileURLToPath(new URL('..', import.meta.url));
 process.on('exit', () => rmSync(room, { recursive: true, force: true }));
@@ -37,6 +51,7 @@ function install(name, ...others) {
   for (const it of ['src', 'package.json', 'canvas.wasm']) cpSync(join(package_, it), join(installed, it), { recursive: true });
   for (const [from, to] of others) cpSync(from, join(folder, to), { recursive: true, dereference: true });
   writeFileSync(join(folder, 'program.mjs'), `import { Client, Link, ROOT } from 'lugcurrant';\n${PROGRAM}`);
+  writeFileSync(join(folder, 'later.mjs'), LOADS_LATER);
   return folder;
 }
 
@@ -71,6 +86,9 @@ if (existsSync(WS)) {
   joins(hasOwn ? 'own' : 'ws', install('ws', [WS, 'node_modules/ws']));
   joins('ws', install('passed', [WS, 'passed']), { words: 'pass' });
 } else console.log('skipped: there is no package ws (Debian\'s node-ws has it)');
+
+const later = spawnSync(node, ['later.mjs'], { cwd: plain, encoding: 'utf8', timeout: 30000 });
+assert.match(later.stdout, /^the module canvas\.wasm is not in the package.*\nWebAssembly\.compile.*\n0:0 document\n/, later.stderr);
 await server.end();
 console.log(`${tried} ways in node ${version}, each as it should be`);
 process.exit(0);
