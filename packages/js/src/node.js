@@ -1,6 +1,7 @@
 // The package in node: the module is the file beside the package, a WebSocket that of node or of the package `ws`, and a client is kept in a file.
 import { readFile } from 'node:fs/promises';
 import { closeSync, existsSync, fsyncSync, mkdirSync, openSync, readFileSync, renameSync, unlinkSync, writeSync } from 'node:fs';
+import { createRequire } from 'node:module';
 import { dirname } from 'node:path';
 import { Client } from './client.js';
 import { Link } from './link.js';
@@ -21,10 +22,16 @@ Client.defaultModule = () => {
 
 Link.findWebSocket = async () => {
   if (globalThis.WebSocket) return globalThis.WebSocket;
-  try { return (await import('ws')).WebSocket; } catch {
+  try { return await findWs(); } catch {
     throw new Error('node has no WebSocket here: install the package `ws`, or pass `{ WebSocket }` to Link, or start node with --experimental-websocket');
   }
 };
+
+// The class of the package `ws`. `import` finds what is installed beside the program; only `require` also looks into the folders of NODE_PATH and
+// those that are built into node, for packages of the system.
+async function findWs() {
+  try { return (await import('ws')).WebSocket; } catch { return createRequire(import.meta.url)('ws'); }
+}
 
 // A shelf in a file. Beside it stands the file `.lock` with the number of the process that has it; one of a process that has ended is no lock.
 export function shelfOfFile(path) {

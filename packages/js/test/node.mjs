@@ -1,13 +1,13 @@
 #!/usr/bin/env node
 // Where the package finds a WebSocket in node:  node node.mjs LUGCURRANT [NODE]     NODE is another node to be tried, this one if left out
-// A program with the package in its node_modules joins a server by the package `ws`, by node's own WebSocket, with or without the option for it, and
-// by the class that it passes; where there is none of these, it ends with the sentence that names the ways. A program whose module is missing or cut
-// loads it once it is whole.
+// A program with the package in its node_modules joins a server by the package `ws` of node_modules or NODE_PATH, by node's own WebSocket, with or
+// without the option for it, and by the class that it passes; if there is none of these, it ends with the sentence that names the ways. A program
+// whose module is missing or cut loads it once it is whole.
 import assert from 'node:assert';
 import { execFileSync, spawnSync } from 'node:child_process';
 import { cpSync, existsSync, mkdirSync, mkdtempSync, rmSync, writeFileSync } from 'node:fs';
 import { tmpdir } from 'node:os';
-import { join } from 'node:path';
+import { dirname, join } from 'node:path';
 import { fileURLToPath } from 'node:url';
 import { Server, endAfter } from '../../../tests/web/server.mjs';
 
@@ -55,8 +55,8 @@ function install(name, ...others) {
   return folder;
 }
 
-function run(folder, { options = [], words = 'find', name = 'page' } = {}) {
-  return spawnSync(node, [...options, 'program.mjs', server.url, words, name], { cwd: folder, encoding: 'utf8', timeout: 30000 });
+function run(folder, { options = [], words = 'find', name = 'page', env = {} } = {}) {
+  return spawnSync(node, [...options, 'program.mjs', server.url, words, name], { cwd: folder, env: { ...process.env, ...env }, encoding: 'utf8', timeout: 30000 });
 }
 
 // Checks that the program ends well, by this kind of WebSocket, and that its edit is in the server's folder.
@@ -71,9 +71,9 @@ function joins(by, folder, given = {}) {
 const version = execFileSync(node, ['--version'], { encoding: 'utf8' }).trim();
 const hasOwn = execFileSync(node, ['-p', 'typeof WebSocket'], { encoding: 'utf8' }).trim() === 'function';
 const hasOption = hasOwn || spawnSync(node, [OPTION, '-p', '1']).status === 0;
-const plain = install('plain');
+const plain = install('plain'), hasWs = spawnSync(node, ['-e', "require('ws')"], { cwd: plain }).status === 0;
 
-if (hasOwn) joins('own', plain);
+if (hasOwn || hasWs) joins(hasOwn ? 'own' : 'ws', plain);
 else {
   const { status, stderr } = run(plain);
   assert.notEqual(status, 0);
@@ -84,6 +84,7 @@ if (hasOption) joins('own', plain, { options: [OPTION] });
 else console.log(`skipped: ${version} has no ${OPTION}`);
 if (existsSync(WS)) {
   joins(hasOwn ? 'own' : 'ws', install('ws', [WS, 'node_modules/ws']));
+  joins(hasOwn ? 'own' : 'ws', plain, { env: { NODE_PATH: dirname(WS) } });
   joins('ws', install('passed', [WS, 'passed']), { words: 'pass' });
 } else console.log('skipped: there is no package ws (Debian\'s node-ws has it)');
 
