@@ -81,7 +81,27 @@ async def taken_out_later(no: int, reason: State) -> None:
             await link.settled()
             assert link.client.object(page).properties == {"b": 2}
     assert [(it["made"], [code for _, code in it["lost"]], it["unsure"]) for it in anew] == [(1, [reason.value], [])], anew
-    assert states[:2] == [State.ONLINE, reason] and states[-2:] == [State.ONLINE, State.CLOSED], states
+    assert states == [State.ONLINE, reason, State.ONLINE, State.CLOSED], states
+
+
+async def offline(link: Link) -> None:
+    """A link is offline at once, and reports nothing else until it may connect again. What comes over the old connection isn't taken."""
+    page, states = link.client.children(ROOT)[0], []
+    link._callbacks = (lambda it: states.append(it.state), None, None, None)
+    for pause in (0.5, 0.0, None):
+        link.client.set(page, "offline", str(pause))
+        await asyncio.sleep(0)  # the edit is sent, and its answer is under way
+        version = link.client.version
+        link.offline = True
+        assert link.state is State.OFFLINE
+        if pause is not None:
+            await asyncio.sleep(pause)
+            assert (link.state, link.client.version) == (State.OFFLINE, version)
+        link.offline = False
+        await becomes(link, State.ONLINE)
+        await link.settled()
+    assert states == [State.OFFLINE, State.ONLINE] * 3, states
+    link._callbacks = (None, None, None, None)
 
 
 async def main(program: str) -> None:
@@ -113,6 +133,7 @@ async def main(program: str) -> None:
             await other.ready()
             client.set(page, "name", "late")
             await asyncio.wait_for(listening, 20)
+            await offline(link)
             server.kill()
             await becomes(link, State.NO_SERVER)
             client.set(page, "name", "meanwhile")
@@ -151,7 +172,6 @@ async def main(program: str) -> None:
             mine.set(page, "kept", 1)
             await keeping.settled()
             keeping.offline = True
-            await becomes(keeping, State.OFFLINE)
             mine.set(page, "kept", 2)
             try:
                 FileShelf(folder / "kept")
@@ -160,6 +180,8 @@ async def main(program: str) -> None:
                 assert "already" in str(fault)
             keeping.close()
             await third
+            keeping.offline = True
+            assert keeping.state is State.CLOSED
             shelf.close()
             again = Kept(FileShelf(folder / "kept"))
             same = again.load()

@@ -57,6 +57,7 @@ class Link:
         if kept:
             self._flow.limit = 0
         self._offline = self._closed = False
+        self._dropped = False  # the connection ends for `offline`, even if that is False again by then
         self._wake = asyncio.Event()  # something is to be sent
         self._moved = asyncio.Event()  # the program wants another state
         self._turned = asyncio.Condition()
@@ -87,6 +88,9 @@ class Link:
     @offline.setter
     def offline(self, value: bool) -> None:
         self._offline = value
+        if value and not self._closed and self.state not in FINAL_STATES:
+            self._dropped = True
+            self._tell(State.OFFLINE)
         self._moved.set()
         self._wake.set()
 
@@ -167,7 +171,6 @@ class Link:
             while not self._closed and self.state not in FINAL_STATES:
                 self._moved.clear()
                 if self._offline:
-                    self._tell(State.OFFLINE)
                     await self._turn()
                     await self._moved.wait()
                     continue
@@ -250,12 +253,16 @@ class Link:
         flow = self._flow
         flow.state = State.CONNECTING
         flow.open(time.monotonic())
+        self._dropped = self._offline
         was_online = False
+        words = "the connection has ended; it is tried again"
         heard_at = time.monotonic()
 
         async def read() -> None:
             nonlocal was_online, heard_at
             async for message in socket:
+                if self._dropped:
+                    return
                 heard_at = time.monotonic()
                 flow.hear(message if isinstance(message, bytes) else message.encode(), heard_at)
                 was_online = was_online or flow.state is State.ONLINE
@@ -267,7 +274,7 @@ class Link:
 
         reader = asyncio.create_task(read())
         try:
-            while not reader.done() and not self._closed and not self._offline:
+            while not reader.done() and not self._closed and not self._dropped:
                 self._wake.clear()
                 self._keep()
                 if self._own:
@@ -284,13 +291,13 @@ class Link:
                 if flow.fifo and time.monotonic() - heard_at > self._patience:
                     break
         except Exception as fault:  # the connection is lost
-            self._tell(State.NO_SERVER, f"the connection has ended ({type(fault).__name__}); it is tried again")
+            words = f"the connection has ended ({type(fault).__name__}); it is tried again"
         finally:
             reader.cancel()
             await asyncio.gather(reader, return_exceptions=True)
             flow.lost()
-        if self.state is State.ONLINE and not self._closed and not self._offline:
-            self._tell(State.NO_SERVER, "the connection has ended; it is tried again")
+        if self.state in (State.ONLINE, State.CONNECTING) and not self._closed:
+            self._tell(State.NO_SERVER, words)
         return was_online
 
     # What comes of it.
@@ -338,6 +345,8 @@ class Link:
             self._callbacks[1](own)
 
     def _tell(self, state: State, words: str = "") -> None:
+        if self._offline and state not in FINAL_STATES:
+            state = State.OFFLINE  # what was under way isn't reported
         quiet = state in (State.ONLINE, State.OFFLINE, State.CONNECTING)
         words = "" if quiet else words or SENTENCES[state]
         if (self.state, self.words) == (state, words):
