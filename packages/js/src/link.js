@@ -92,7 +92,7 @@ export class Link extends EventTarget {
   get offline() { return this.#isOffline; }
   set offline(value) {
     this.#isOffline = Boolean(value);
-    if (this.#isOffline) { this.#drop(); this.#tell('offline'); }
+    if (this.#isOffline && !this.#ended && !this.#isOver) { this.#drop(); this.#tell('offline'); }
     this.#sleep?.wake();
   }
 
@@ -112,9 +112,11 @@ export class Link extends EventTarget {
   }
 
   #tell(state, words = STATES[state]) {
+    if (this.#isOffline && !FINAL_STATES.includes(state)) state = 'offline';          // what was under way isn't reported
+    if (['online', 'connecting', 'offline'].includes(state)) words = '';
     if (this.state === state && this.words === words) return;
     this.state = state;
-    this.words = state === 'online' || state === 'connecting' || state === 'offline' ? '' : words;
+    this.words = words;
     this.#fire('state', this);
   }
   #fire(name, detail) { this.dispatchEvent(new LinkEvent(name, detail)); }

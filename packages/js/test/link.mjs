@@ -251,6 +251,24 @@ async function takenOutLater() {
   }
 }
 
+// A program that goes offline when its client begins anew is offline, whatever else came of the same message.
+async function offlineAtOnce() {
+  const largest = 200, states = [], options = { document: false, WebSocket: socketsTo(new FakeServer({ largest })), state: ({ state }) => states.push(state) };
+  const link = await open({ ...options, anew: () => { link.offline = true; } });
+  await link.ready;
+  link.client.set(ROOT, 'a', 'x'.repeat(largest));
+  await becomes(link, 'offline');
+  link.offline = true;
+  await sleep(100);
+  assert.deepEqual(states, ['online', 'too large', 'offline']);
+  link.offline = false;
+  await becomes(link, 'online');
+  await link.settled();
+  await closed(link);
+  link.offline = true;
+  assert.equal(link.state, 'closed');
+}
+
 async function replaceFolder(act) {
   await server.kill();
   rmSync(folder, { recursive: true });
@@ -309,6 +327,7 @@ await closed(second);
 await keptInFile(page);
 await belowPath(first);
 await takenOutLater();
+await offlineAtOnce();
 if (existsSync('/usr/bin/chromium')) await otherOrigin(first);
 await olderBackup(page);
 await anotherDocument(first);
