@@ -597,6 +597,7 @@ worker.onmessage = ({ data }) => {
   if (data.told === 'tree') takeTree(data);
   else if (data.told === 'state') drawState(data);
   else if (data.told === 'kept') { if (data.window !== null) sessionStorage.setItem('window', data.window); }
+  else if (data.told === 'changed') say('What this browser kept was changed: edits that the server did not have may be lost.');
   else if (data.told === 'anew') say(data.lost || data.unsure ? `Begun anew: ${data.made} edits were made again, ${data.lost} could not be, ${data.unsure} may be lost.` : 'Begun anew under another id; nothing was lost.');
   else if (data.told === 'refused') say(`${data.by === 'the server' ? 'Taken back' : 'Not done'}: ${data.words}.`);
   else if (waiters.has(data.token)) { waiters.get(data.token)(data); waiters.delete(data.token); }

@@ -16,7 +16,10 @@ async function identityOf(path) {
 const [module, identity] = await Promise.all([compile(fetch('canvas.wasm')), identityOf('document')]);
 const shelf = await shelfOfBrowser(identity, { window: self.name === '' ? null : Number(self.name) });
 const kept = shelf && new Kept(shelf), client = kept ? await kept.load(module, { takePrefix: true }) : await Client.load(module);
-if (kept?.fault) console.warn(kept.fault.message);
+if (kept?.fault) {
+  console.warn(kept.fault.message);
+  tell({ told: 'changed' });
+}
 let due = false, cost = 0, here = null;
 
 const link = new Link(client, new URL('./', location.href.replace(/^http/, 'ws')), {

@@ -1,7 +1,8 @@
 #!/usr/bin/env node
 // The whiteboard of examples/whiteboard in Chromium or in Firefox:
 //     node --experimental-websocket browsers.mjs LUGCURRANT [--browser chromium|firefox]
-// Two windows join, draw, drag and walk through the list by keys. One is loaded again with an edit that the server doesn't have.
+// Two windows join, draw, drag and walk through the list by keys. One is loaded again with an edit that the server doesn't have, and once more after
+// what it kept was changed. In the end another program edits under its id.
 import assert from 'node:assert';
 import { fileURLToPath } from 'node:url';
 import { parseArgs } from 'node:util';
@@ -46,6 +47,39 @@ async function draw(window, tool, [x, y], [width, height]) {
   const id = await chosenOf(window);
   assert(await until(async () => (await object(window, id))?.properties.size !== undefined));
   return object(window, id);
+}
+
+async function goOffline(window) {
+  await window.click('.switch');
+  await becomes('the window is offline', async () => (await state(window)).state === 'offline');
+}
+
+// Runs in a page: cuts the kept edits that have this word. Returns their number.
+async function cutInPage(word) {
+  const answered = (request) => new Promise((resolve, reject) => { request.onsuccess = () => resolve(request.result); request.onerror = () => reject(request.error); });
+  const base = await answered(indexedDB.open('lugcurrant-2')), transaction = base.transaction('parts', 'readwrite'), store = transaction.objectStore('parts');
+  const done = new Promise((resolve) => { transaction.oncomplete = resolve; });
+  const [keys, values] = await Promise.all([answered(store.getAllKeys()), answered(store.getAll())]), hasWord = (part) => new TextDecoder().decode(part).includes(word);
+  let found = 0;
+  values.forEach((parts, k) => {
+    if (!Array.isArray(parts) || !parts.some(hasWord)) return;
+    found += parts.filter(hasWord).length;
+    store.put(parts.map((part) => (hasWord(part) ? part.slice(0, -4) : part)), keys[k]);
+  });
+  await done;
+  base.close();
+  return found;
+}
+
+// Sends so many sets of a name under the id of a window, as another program with the same saved client. The window must be offline.
+async function editAsTwin(window, object, count) {
+  const { id, acknowledged } = await state(window), socket = new WebSocket(server.url), at = `[${object.replace(':', ',')}]`;
+  let judged = 0;
+  socket.onmessage = async ({ data }) => { assert.equal(await data.text(), '["idle"]'); judged += 1; };
+  await new Promise((resolve, reject) => { Object.assign(socket, { onopen: resolve, onerror: reject }); });
+  for (let k = 1; k <= count; k += 1) socket.send(Buffer.from(`["edit",${id},${Number(acknowledged) + k},["set",${at},"name","twin ${k}"]]`));
+  assert(await until(() => judged === count));
+  socket.close();
 }
 
 const left = await join();
@@ -100,8 +134,7 @@ const locks = await left.js('navigator.locks.query().then(({ held }) => held.map
 assert.equal(locks.filter((name) => /^lugcurrant\/[0-9a-f]{32}\/[01]$/.test(name)).length, 2, `each window has its lock: ${locks}`);
 passed('each window has a lock of its own');
 const { id } = await state(left);
-await left.click('.switch');
-await becomes('the window is offline', async () => (await state(left)).state === 'offline');
+await goOffline(left);
 await left.js(`window.lugcurrant.send(['set', '${box.id}', 'name', 'kept'])`);
 await becomes('its edit waits', async () => (await state(left)).unsent === 1);
 assert.equal((await object(right, box.id)).properties.name, 'Café');
@@ -113,6 +146,29 @@ await becomes('both windows show the same', () => isSettled(left, right));
 const { tree } = server.show();
 assert.equal(tree, await left.js('window.lugcurrant.text()'));
 passed('so does the folder');
+
+// What was kept was changed: the window is the same client with what came before that, and says so.
+await goOffline(left);
+for (const name of ['before', 'changed']) await left.js(`window.lugcurrant.send(['set', '${box.id}', 'name', '${name}'])`);
+await becomes('both edits wait', async () => (await state(left)).unsent === 2);
+await becomes('the second one is kept, and is cut there', () => left.js(`(${cutInPage})('changed')`));
+await left.reload();
+await becomes('the window is loaded again, and joins', () => isOnline(left), 60);
+assert.equal((await state(left)).id, id);
+await becomes('it says that what it kept was changed', () => left.js("document.getElementById('toast').textContent.includes('kept was changed')"));
+await becomes('the other window hears the first one', async () => (await named(right, 'before'))?.id === box.id);
+await becomes('both windows show that', () => isSettled(left, right));
+assert.equal((await object(left, box.id)).properties.name, 'before');
+
+// Another program has edited under the window's id, and a checkpoint hides it: no client can know whether the window's own edit was judged.
+await goOffline(left);
+await left.js(`window.lugcurrant.send(['set', '${box.id}', 'name', 'mine'])`);
+await editAsTwin(left, box.id, 300);
+await left.click('.switch');
+await becomes('the window says what may be lost', () => left.js("document.getElementById('toast').textContent.includes('0 edits were made again, 0 could not be, 1 may be lost')"));
+await becomes('it has another id', async () => ![null, id].includes((await state(left)).id));
+await becomes('both windows show what the other program did', async () => await isSettled(left, right) && Boolean(await named(left, 'twin 300')));
+assert.equal(server.show().tree, await left.js('window.lugcurrant.text()'));
 
 assert.deepEqual([left.faults, right.faults], [[], []]);
 await right.close();
