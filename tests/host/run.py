@@ -25,7 +25,8 @@ own; only the named groups, where some are named.
 - sentences: each fault that can be had has its sentence and its status.
 - rows: what `show --json` and `show --lines` write is imported to the same document; a folder that holds anything of a document isn't imported
   to; of rows that make no document the line is told.
-- restored: a backup's folder is restored with another identity, with which clients of the old document aren't served.
+- restored: a backup's folder is restored with another identity, with which clients of the old document aren't served; one that has lost
+  something only with --accept-loss.
 - lost: a bit is turned in each byte of a folder's segment, in turn: each time the server ends with status 5, says where, and touches nothing. So
   where a segment is cut below what was synced, and where one that is passed over isn't a checkpoint cut short. With --accept-loss it opens
   the folder once the segments are copied, and never over an earlier copy. What a crash leaves is opened.
@@ -704,6 +705,12 @@ def restored(room):
     call("restore", os.path.join(above, "none"), os.path.join(above, "other"), status=4, told="none can't be read")
     os.mkdir(os.path.join(above, "empty"))
     call("restore", os.path.join(above, "empty"), os.path.join(above, "other"), status=4, told="empty holds no document")
+    cut = os.path.join(above, "cut")
+    shutil.copytree(backup, cut)
+    os.truncate(os.path.join(cut, highest(cut)), os.path.getsize(os.path.join(cut, highest(cut))) - 30)
+    call("restore", cut, os.path.join(above, "other"), status=5, told=f"the folder {cut} has lost something, lugcurrant check tells what")
+    require(not os.path.exists(os.path.join(above, "other")), "a backup that has lost something is restored unasked")
+    require(call("restore", "--accept-loss", cut, os.path.join(above, "left")).startswith(b"version "), "an accepted loss isn't restored")
     hurt(backup, 4)
     call("restore", backup, os.path.join(above, "other"), status=5, told=f"the document in {backup} is damaged in segment ")
     require(not os.path.exists(os.path.join(above, "other")), "a restore that fails makes a folder")

@@ -15,7 +15,7 @@ use Rattle.canvas_journal.specs.declared.fault.OpenError.TheVariants as opening
 use Rattle.canvas_lines.specs.declared.fault.Fault as lines
 use Rattle.canvas_lines.specs.declared.fault.Fault.TheVariants as line
 use Rattle.canvas_care.specs.declared.fault.Fault.{Fault}
-use Rattle.canvas_care.specs.declared.fault.Fault.TheVariants.{Stream, Device, InUse, Taken, NoSegment, Gone, Busy, BadLine, NoDocument, Damaged, TooLarge, Memory}
+use Rattle.canvas_care.specs.declared.fault.Fault.TheVariants.{Stream, Device, InUse, Taken, NoSegment, Gone, Lost, Busy, BadLine, NoDocument, Damaged, TooLarge, Memory}
 
 -- 2 for an input that makes no document, 3 for want of memory, 4 for a stream or a folder that can't be had, 5 for damage and for a document that has gone, 6 for a journal
 -- without room
@@ -26,6 +26,7 @@ status_of InUse = 4
 status_of Taken = 4
 status_of NoSegment = 4
 status_of Gone = 5
+status_of Lost = 5
 status_of Busy = 4
 status_of (BadLine n) = 2
 status_of NoDocument = 2
@@ -41,6 +42,7 @@ sentence InUse dir = codes "a server has the folder " ++ dir
 sentence Taken dir = codes "the folder " ++ dir ++ codes " holds a document, or what is left of one: name a new folder"
 sentence NoSegment dir = codes "the folder " ++ dir ++ codes " holds no document"
 sentence Gone dir = codes "no segment of the document in " ++ dir ++ codes " is left, but its identity or sums are: put a backup in its place"
+sentence Lost dir = codes "the folder " ++ dir ++ codes " has lost something, lugcurrant check tells what: choose another backup, or restore what is left with --accept-loss"
 sentence Busy dir = codes "the folder " ++ dir ++ codes " changes while it is checked: try again while fewer edits are made"
 sentence (BadLine n) dir = codes "line " ++ decimal n ++ codes ": no row, or not the next one, or it stands where none may"
 sentence NoDocument dir = codes "the rows make no document"

@@ -25,6 +25,8 @@ pub enum Fault {
     NoSegment,
     /// No segment of the document is left, but its identity or sums are.
     Gone,
+    /// What the folder holds isn't what a crash leaves: something was lost.
+    Lost,
     /// A server makes one checkpoint after the other while the folder is checked.
     Busy,
     /// The first line of the input, counted from 1, that is no row, or whose row doesn't come next, or doesn't stand in the document.
@@ -58,7 +60,7 @@ impl Fault {
             | Fault::Taken
             | Fault::NoSegment
             | Fault::Busy => 4,
-            Fault::Gone | Fault::Damaged { .. } => 5,
+            Fault::Gone | Fault::Lost | Fault::Damaged { .. } => 5,
             Fault::TooLarge => 6,
         }
     }
@@ -96,6 +98,10 @@ impl fmt::Display for Told<'_> {
             Fault::Gone => write!(
                 f,
                 "no segment of the document in {dir} is left, but its identity or sums are: put a backup in its place"
+            ),
+            Fault::Lost => write!(
+                f,
+                "the folder {dir} has lost something, lugcurrant check tells what: choose another backup, or restore what is left with --accept-loss"
             ),
             Fault::Busy => write!(
                 f,

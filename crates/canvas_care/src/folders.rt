@@ -5,7 +5,6 @@ ghost use Rattle.canvas_care.specs.Begun.{begun_line};
 
 use crate::drafting::plant_whole;
 use crate::fault::Fault;
-use crate::taking::take;
 use crate::traces::trace_in;
 use canvas_folder::{DirShelf, OsFolder};
 use canvas_judge::State;
@@ -36,24 +35,6 @@ fn none_of<R: Files<File = File> + AllocGlobal + Clone + Drop>(files: &R, dir: &
         Ok(None) => Fault::NoSegment,
         Ok(Some(_)) => Fault::Gone,
         Err(fault) => fault,
-    }
-}
-
-/// Fails with `Gone` if recovery takes no segment of the folder's shelf, which isn't damaged, though something is left of a document beside
-/// them.
-///
-/// The other errors: `Device`, if the folder can't be read; `Memory`.
-pub(crate) fn refuse_gone<R: Files<File = File> + AllocGlobal + Clone + Drop, S: Shelf>(
-    files: &R,
-    dir: &str,
-    shelf: &mut S,
-) -> Result<(), Fault> {
-    if take(files.alloc(), shelf)?.is_some() {
-        return Ok(());
-    }
-    match trace_in(files, dir)? {
-        Some(_) => Err(Fault::Gone),
-        None => Ok(()),
     }
 }
 

@@ -1,17 +1,22 @@
 // What a new folder is made of: the rows of an input, or a backup.
-ghost use Rattle.std.specs.Prelude.{IfOk, OnOk};
+ghost use Rattle.std.specs.Prelude.{IfOk, IsTrue, None, OnOk};
 ghost use Rattle.std.specs.FinMap as map;
 ghost use Rattle.canvas_journal.specs.Found.{AreRowTexts};
 ghost use Rattle.canvas_lines.specs.Lines.{lines_of};
 ghost use Rattle.canvas_care.specs.Begun.{WritesImported};
 ghost use Rattle.canvas_care.specs.Imports.{IsImported, row_texts};
+ghost use Rattle.canvas_care.specs.Losing.{TellsLoss};
 
 use crate::fault::Fault;
-use crate::folders::{begin_folder, existing, refuse_gone};
+use crate::folders::{begin_folder, existing};
 use crate::importing::{document_of, read_rows};
+use crate::losing::{FolderSums, SumSource, find_loss};
+use crate::traces::trace_in;
 use canvas_journal::look;
 use canvas_judge::State;
 use canvas_lines::read_input;
+use canvas_losses::{Loss, Trace};
+use canvas_shelf::Shelf;
 use std::alloc::Global;
 use std::fs::File;
 use std::io::{Read, Write};
@@ -58,14 +63,40 @@ fn document_in(alloc: Global, text: &[u8]) -> Result<State, Fault>
 /// The state that a backup holds, and its version. Writes nothing to it.
 ///
 /// The errors: `NoSegment`, where the backup holds no segment; `Gone`, if recovery takes none of its segments, though its identity or sums
-/// are there; `Device`, where it is missing or can't be read; `Damaged`, where it isn't whole; `Memory`.
+/// are there; `Lost`, if something else of it is lost (`find_loss`), unless that is accepted; `Device`, where it is missing or can't be read;
+/// `Damaged`, where it isn't whole; `TooLarge`, as `find_loss` finds it; `Memory`.
 pub fn read_backup<R: Files<File = File> + AllocGlobal + Clone + Drop>(
     files: R,
     backup: &str,
+    accept_loss: bool,
 ) -> Result<(State, u64), Fault> {
     let alloc = files.alloc();
     let mut shelf = existing(files.clone()?, backup)?;
     let found = look(alloc, &mut shelf)?;
-    refuse_gone(&files, backup, &mut shelf)?;
-    Ok(found)
+    let trace = trace_in(&files, backup)?;
+    let sums = FolderSums {
+        files: &files,
+        dir: backup,
+    };
+    match refuse_loss(alloc, &mut shelf, &sums, trace) {
+        Err(Fault::Lost) if accept_loss => Ok(found),
+        Err(fault) => Err(fault),
+        Ok(()) => Ok(found),
+    }
+}
+
+// Fails with `Lost` or `Gone` if something is lost of a shelf, beside whose segments this is left of a document.
+fn refuse_loss<S: Shelf, N: SumSource>(
+    alloc: Global,
+    shelf: &mut S,
+    sums: &N,
+    trace: Option<Trace>,
+) -> Result<(), Fault>
+    ensures { IsTrue (S.honest shelf.old) → OnOk result (TellsLoss (S.disk shelf.old) trace None) }
+{
+    match find_loss(alloc, shelf, sums, trace)? {
+        None => Ok(()),
+        Some(Loss::Gone { .. }) => Err(Fault::Gone),
+        Some(_) => Err(Fault::Lost),
+    }
 }

@@ -112,6 +112,7 @@ fault_of_care looked.InUse = FolderInUse
 fault_of_care looked.Taken = NoFolder
 fault_of_care looked.NoSegment = NoFolder
 fault_of_care looked.Gone = NoFolder
+fault_of_care looked.Lost = NoFolder
 fault_of_care looked.Busy = NoFolder
 fault_of_care (looked.BadLine n) = NoFolder
 fault_of_care looked.NoDocument = NoFolder

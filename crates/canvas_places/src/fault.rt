@@ -294,6 +294,7 @@ impl From<canvas_care::Fault> for Fault {
             | canvas_care::Fault::Taken
             | canvas_care::Fault::NoSegment
             | canvas_care::Fault::Gone
+            | canvas_care::Fault::Lost
             | canvas_care::Fault::Busy
             | canvas_care::Fault::BadLine { .. }
             | canvas_care::Fault::NoDocument => Fault::NoFolder,

@@ -5,7 +5,7 @@ use Rattle.std.specs.Io.KnownBytes.{Appends}
 use Rattle.canvas_etcd.specs.declared.error.EtcdError.{EtcdError}
 use Rattle.canvas_etcd.specs.declared.error.EtcdError.TheVariants as etcd
 use Rattle.canvas_care.specs.declared.fault.Fault.{Fault}
-use Rattle.canvas_care.specs.declared.fault.Fault.TheVariants.{Stream, Device, InUse, Taken, NoSegment, Gone, Busy, BadLine, NoDocument, Damaged, TooLarge, Memory}
+use Rattle.canvas_care.specs.declared.fault.Fault.TheVariants.{Stream, Device, InUse, Taken, NoSegment, Gone, Lost, Busy, BadLine, NoDocument, Damaged, TooLarge, Memory}
 use Rattle.canvas_care.specs.Faults.{status_of}
 
 -- the sentence that tells of a fault at the document of this name
@@ -16,6 +16,7 @@ sentence InUse name = codes "another server has the document " ++ name
 sentence Taken name = codes "the document " ++ name ++ codes " is there already: choose another name"
 sentence NoSegment name = codes "there is no document " ++ name
 sentence Gone name = codes "no segment of the document " ++ name ++ codes " is left"
+sentence Lost name = codes "the document " ++ name ++ codes " has lost something"
 sentence Busy name = codes "the document " ++ name ++ codes " changes while it is checked"
 sentence (BadLine n) name = codes "line " ++ decimal n ++ codes ": no row, or not the next one, or it stands where none may"
 sentence NoDocument name = codes "the rows make no document"

@@ -36,6 +36,7 @@ impl fmt::Display for Told<'_> {
             ),
             Fault::NoSegment => write!(f, "there is no document {name}"),
             Fault::Gone => write!(f, "no segment of the document {name} is left"),
+            Fault::Lost => write!(f, "the document {name} has lost something"),
             Fault::Busy => write!(f, "the document {name} changes while it is checked"),
             Fault::BadLine(line) => write!(
                 f,

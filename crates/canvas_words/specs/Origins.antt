@@ -15,7 +15,7 @@ abbrev pub AsksForOrigins : Asked → Type 0
 AsksForOrigins (Serve options) = NamesOrigins options.serving
 AsksForOrigins (Show place layout) = Unit {0}
 AsksForOrigins (Import place) = Unit {0}
-AsksForOrigins (Restore backup dir) = Unit {0}
+AsksForOrigins (Restore backup dir accept_loss) = Unit {0}
 AsksForOrigins (Move dir address is_back) = Unit {0}
 AsksForOrigins (Check place) = Unit {0}
 AsksForOrigins (Log place) = Unit {0}

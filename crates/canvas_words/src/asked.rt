@@ -45,6 +45,8 @@ pub enum Asked {
         backup: String,
         /// The folder to be made.
         dir: String,
+        /// Whether what is left of a backup is restored that has lost something.
+        accept_loss: bool,
     },
     /// To move a document between a folder and an etcd.
     Move {

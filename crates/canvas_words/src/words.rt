@@ -51,6 +51,7 @@ fn command_of(alloc: Global, name: &str, matches: &ArgMatches<'_>) -> Result<Ask
         "restore" => Asked::Restore {
             backup: text_of(alloc, matches, "backup")?,
             dir: text_of(alloc, matches, "dir")?,
+            accept_loss: matches.get_flag("accept-loss"),
         },
         "move" => Asked::Move {
             dir: text_of(alloc, matches, "dir")?,
@@ -339,20 +340,25 @@ fn import_command<'a>(alloc: Global) -> Result<Command<'a>, AllocError> {
 
 // The words of `restore`.
 fn restore_command<'a>(alloc: Global) -> Result<Command<'a>, AllocError> {
-    Command::new(alloc, "restore")
-        .about("Create a folder from a backup, with a new identity, so that clients start over")
-        .arg(folder(
-            alloc,
-            "backup",
-            "BACKUP",
-            "Folder with the backup (not changed)",
-        ))?
-        .arg(folder(
-            alloc,
-            "dir",
-            "DIR",
-            "Folder to create; if it exists, it must not hold a document",
-        ))
+    let restore = Command::new(alloc, "restore").about(
+        "Create a folder from a backup, with a new identity, so that clients start over",
+    );
+    let backup = folder(
+        alloc,
+        "backup",
+        "BACKUP",
+        "Folder with the backup (not changed)",
+    );
+    let dir = folder(
+        alloc,
+        "dir",
+        "DIR",
+        "Folder to create; if it exists, it must not hold a document",
+    );
+    let help = "Restore what is left of a backup that has lost data";
+    let restore = with_arg(Ok(restore), Ok(backup));
+    let restore = with_arg(restore, Ok(dir));
+    with_arg(restore, Ok(flag(alloc, "accept-loss", help)))
 }
 
 // The words of `move`.

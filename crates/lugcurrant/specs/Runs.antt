@@ -50,7 +50,7 @@ Does (Show place layout) status read left written after faults told =
     (left ≡ read) × Shows place layout status written after faults told
 Does (Import place) status read left written after faults told =
     EndsAt place (WritesImported read left written after) status faults told
-Does (Restore backup dir) status read left written after faults told =
+Does (Restore backup dir accept_loss) status read left written after faults told =
     (left ≡ read)
     × (Ends (WritesBegun written after) (string_bytes dir) status faults told ⊎ Ends ⊥ (string_bytes backup) status faults told)
 Does (Move dir address is_back) status read left written after faults told =

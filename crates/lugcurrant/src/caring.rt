@@ -50,18 +50,20 @@ pub(crate) fn run_import<I: Read, W: Write, F: Write>(
     finish(import_folder(files, dir, input, output), dir, faults)
 }
 
-/// Makes a new folder of a backup. A fault of the backup is told with the backup's name.
+/// Makes a new folder of a backup; of one that has lost something only if that is accepted. A fault of the backup is told with the backup's
+/// name.
 pub(crate) fn run_restore<W: Write, F: Write>(
     files: HostRuntime,
     backup: &str,
     dir: &str,
+    accept_loss: bool,
     output: &mut W,
     faults: &mut F,
 ) -> u8
     ensures { Ends (WritesBegun (W.contents output.old) (W.contents output.new)) dir.now result (F.contents faults.old) (F.contents faults.new)
         ⊎ Ends ⊥ backup.now result (F.contents faults.old) (F.contents faults.new) }
 {
-    match read_backup(files, backup) {
+    match read_backup(files, backup, accept_loss) {
         Ok((state, version)) => {
             let done = begin_folder(files, dir, &state, version, output);
             finish(done, dir, faults)

@@ -123,7 +123,11 @@ where
             Place::Folder(dir) => run_import(files, dir, input, output, faults),
             Place::Document(address) => import_remote(rt, address, input, output, faults),
         },
-        Asked::Restore { backup, dir } => run_restore(files, &backup, &dir, output, faults),
+        Asked::Restore {
+            backup,
+            dir,
+            accept_loss,
+        } => run_restore(files, &backup, &dir, accept_loss, output, faults),
         Asked::Move {
             dir,
             address,
