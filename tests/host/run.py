@@ -234,7 +234,8 @@ def odd_identities(room):
     other.write_text("another's\n")
     Path(room, "identity.new").symlink_to(other)
     server = Server(room, "--quiet")
-    require(file.read_text() == server.identity() + "\n" and other.read_text() == "another's\n", "a new identity is written through a link")
+    made = server.identity()
+    require(file.read_text() == made + "\n" and other.read_text() == "another's\n", "a new identity is written through a link")
     server.kill()
 
 
