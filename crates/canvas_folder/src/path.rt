@@ -4,6 +4,7 @@ use crate::opened::{lock, open, open_folder, open_regular, read_all, sync};
 use canvas_shelf::CreateError;
 use std::alloc::{AllocError, Allocator, Global};
 use std::fs::{File, OpenOptions};
+use std::io::Write;
 use std::os::fd::AsRawFd;
 use std::rt::Files;
 use std::{fs, str};
@@ -69,12 +70,17 @@ impl FolderPath {
     }
 
     // Makes the path lead to this open folder, by its descriptor (proc(5), `/proc/pid/fd`): whatever is put at the folder's name from then
-    // on, it is the folder that was opened. It leads there for as long as the folder is open.
-    pub(crate) fn pin(&mut self, alloc: Global, folder: &File) -> Result<(), AllocError> {
+    // on, it is the folder that was opened. It leads there for as long as the folder is open. There is room for it: no memory is asked for.
+    pub(crate) fn pin(&mut self, folder: &File) -> Result<(), Fault> {
         let number = folder.as_raw_fd();
-        let path = format!(in alloc; "/proc/self/fd/{number}")?;
-        *self = FolderPath::new(alloc, path.as_str())?;
-        Ok(())
+        self.bytes.clear();
+        match write!(self.bytes, "/proc/self/fd/{number}/") {
+            Ok(()) => {
+                self.base = self.bytes.len();
+                Ok(())
+            }
+            Err(error) => Err(Fault::from(error)),
+        }
     }
 
     // A copy of the folder's path.
