@@ -10,6 +10,8 @@ pub(crate) enum Fault {
     Memory,
     // This process has no descriptor left, or no process has.
     NoDescriptor,
+    // The disk is full, or what its user may have of it.
+    Full,
     // Anything else.
     Device,
 }
@@ -21,12 +23,13 @@ const ENFILE: i32 = 23;
 
 impl From<io::Error> for Fault {
     fn from(e: io::Error) -> Fault {
-        if e.kind() == ErrorKind::OutOfMemory {
-            return Fault::Memory;
-        }
-        match e.raw_os_error() {
-            Some(EMFILE | ENFILE) => Fault::NoDescriptor,
-            _ => Fault::Device,
+        match e.kind() {
+            ErrorKind::OutOfMemory => Fault::Memory,
+            ErrorKind::StorageFull | ErrorKind::QuotaExceeded => Fault::Full,
+            _ => match e.raw_os_error() {
+                Some(EMFILE | ENFILE) => Fault::NoDescriptor,
+                _ => Fault::Device,
+            },
         }
     }
 }

@@ -16,6 +16,7 @@ mod place;
 mod removed;
 mod segments;
 mod shelf;
+mod space;
 mod state;
 mod written;
 
@@ -28,3 +29,4 @@ pub use opening::make_ready;
 pub use os::OsFolder;
 pub use removed::Removed;
 pub use shelf::DirShelf;
+pub use space::{Refusal, Space};

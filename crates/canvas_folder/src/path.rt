@@ -1,7 +1,6 @@
 // The path of a folder, and what is opened by it.
 use crate::fault::Fault;
 use crate::opened::{lock, open, open_folder, open_regular, read_all, sync};
-use canvas_shelf::CreateError;
 use std::alloc::{AllocError, Allocator, Global};
 use std::fs::{File, OpenOptions};
 use std::io::Write;
@@ -119,27 +118,16 @@ impl FolderPath {
         read_all(file, bytes)
     }
 
-    // Makes a file, open for appending. Answers NotMade where no memory was left for the path, or no descriptor for the file.
+    // Makes a file, open for appending. If memory, a descriptor or disk space ran out, no file was made.
     pub(crate) fn make<R: Files<File = File>>(
         &mut self,
         files: &R,
         name: &[u8],
-    ) -> Result<File, CreateError> {
-        if self.go_to(name).is_err() {
-            return Err(CreateError::NotMade);
-        }
-        let Ok(path) = self.text() else {
-            return Err(CreateError::Device);
-        };
-        match open(
-            files,
-            OpenOptions::new().append(true).create_new(true),
-            path,
-        ) {
-            Ok(file) => Ok(file),
-            Err(Fault::NoDescriptor) => Err(CreateError::NotMade),
-            Err(_) => Err(CreateError::Device),
-        }
+    ) -> Result<File, Fault> {
+        let path = self.file(name)?;
+        let mut how = OpenOptions::new();
+        how.append(true).create_new(true);
+        open(files, &how, path)
     }
 
     // Takes a file off the folder.
