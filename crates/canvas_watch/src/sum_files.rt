@@ -11,19 +11,21 @@ use std::fs::{self, File, OpenOptions};
 use std::io::{self, ErrorKind, Read, Write};
 use std::rt::Files;
 
-// The segment whose sums are written: its number, their file, and the sum so far.
+// The segment whose sums are written: its number, their file, the sum so far, and whether a line was written.
 #[derive(Drop)]
 struct Summing {
     number: u32,
     file: File,
     sum: RunningSum,
+    has_line: bool,
 }
 
 /// The witness that writes the sums of each segment that it saw made: for segment 7 of a folder the file `segment-0000000007.sum`, of
 /// which each sync writes a line (`RunningSum::line`). A retired segment's file is removed.
 ///
 /// Nothing is synced, and no failure is told. If a line can't be written, or only in part, no further line of that segment is: so what
-/// stands there are always the lines of its first syncs, and a part of one more.
+/// stands there are always the lines of its first syncs, and a part of one more. If this value is dropped before the first line of a segment
+/// was written, its file is removed: the folder (`OsFolder`) removes that segment too.
 pub struct SumFiles<R: Files<File = File> + AllocGlobal + Drop> {
     files: R,
     dir: String,
@@ -33,10 +35,13 @@ pub struct SumFiles<R: Files<File = File> + AllocGlobal + Drop> {
 impl<R: Files<File = File> + AllocGlobal + Drop> Drop for SumFiles<R> {
     fn drop(self) {
         let SumFiles {
-            files: _,
-            dir: _,
-            current: _,
+            files,
+            dir,
+            current,
         } = self;
+        if let Some(summing) = current {
+            summing.discard(&files, &dir);
+        }
     }
 }
 
@@ -138,9 +143,17 @@ impl Summing {
         ensures same { self.new.number ≡ self.old.number }
     {
         if self.number == number {
+            self.has_line = true;
             write_line(alloc, &self.sum, &mut self.file)?;
         }
         Ok(())
+    }
+
+    // Removes the file of a segment that was never synced.
+    fn discard<R: Files<File = File> + AllocGlobal>(self, files: &R, dir: &str) {
+        if !self.has_line {
+            let _ = remove_file(files, dir, self.number);
+        }
     }
 }
 
@@ -168,6 +181,7 @@ impl<R: Files<File = File> + AllocGlobal + Drop> Witness for SumFiles<R> {
                 number,
                 file,
                 sum: RunningSum::new(),
+                has_line: false,
             }),
             Err(_) => None,
         };
