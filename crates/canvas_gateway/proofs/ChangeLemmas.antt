@@ -4,7 +4,9 @@ use Rattle.serde_json.specs.Data.{depth, items_depth}
 use Rattle.serde_json.specs.Written.{has_float, items_have_float}
 use Rattle.canvas_gateway.specs.declared.requests.Change.{Change}
 use Rattle.canvas_gateway.specs.declared.requests.Change.TheVariants.{Put, Remove}
-use Rattle.canvas_gateway.specs.Trees.{change_items, change_tree, commit_tree}
+use Rattle.canvas_gateway.specs.declared.requests.Expected.{Expected}
+use Rattle.canvas_gateway.specs.declared.requests.Expected.TheVariants.{Nothing, Value}
+use Rattle.canvas_gateway.specs.Trees.{change_items, change_tree, commit_tree, compare_tree}
 
 no_float : (change : Change) → has_float (change_tree change) ≡ false
 no_float (Put key value lease) = refl
@@ -22,8 +24,16 @@ all_shallow : (changes : List Change) → items_depth (change_items changes) ≤
 all_shallow [] = omega arith
 all_shallow (change ∷ changes) = omega (arith, shallow change, all_shallow changes)
 
-pub commit_has_no_float : (key : List ℕ) (revision : ℕ) (changes : List Change) → has_float (commit_tree key revision changes) ≡ false
-commit_has_no_float key revision changes = rw (no_floats changes) refl
+compare_no_float : (key : List ℕ) (expected : Expected) → has_float (compare_tree key expected) ≡ false
+compare_no_float key Nothing = refl
+compare_no_float key (Value value) = refl
 
-pub commit_is_shallow : (key : List ℕ) (revision : ℕ) (changes : List Change) → depth (commit_tree key revision changes) ≤ 127
-commit_is_shallow key revision changes = omega (arith, all_shallow changes)
+compare_shallow : (key : List ℕ) (expected : Expected) → depth (compare_tree key expected) ≤ 2
+compare_shallow key Nothing = omega arith
+compare_shallow key (Value value) = omega arith
+
+pub commit_has_no_float : (key : List ℕ) (expected : Expected) (changes : List Change) → has_float (commit_tree key expected changes) ≡ false
+commit_has_no_float key expected changes = rw (compare_no_float key expected, no_floats changes) refl
+
+pub commit_is_shallow : (key : List ℕ) (expected : Expected) (changes : List Change) → depth (commit_tree key expected changes) ≤ 127
+commit_is_shallow key expected changes = omega (arith, compare_shallow key expected, all_shallow changes)

@@ -9,7 +9,7 @@ use native.Mathlib.Numerals.{unary_clauses}
 use Rattle.canvas_gateway.specs.Numbers.{are_digits, read_on, whole_of}
 use Rattle.canvas_gateway.specs.Keys.{digits, EachKeyIsOneChunk, chunk_key, segment_key, segments_key, ten_digits}
 
-read_append : (so_far : ℕ) (xs : List ℕ) (b : ℕ) → read_on so_far (xs ++ b ∷ []) ≡ read_on so_far xs * 10 + (b - 48)
+pub read_append : (so_far : ℕ) (xs : List ℕ) (b : ℕ) → read_on so_far (xs ++ b ∷ []) ≡ read_on so_far xs * 10 + (b - 48)
 read_append so_far [] b = refl
 read_append so_far (x ∷ xs) b = read_append (so_far * 10 + (x - 48)) xs b
 

@@ -1,5 +1,5 @@
 -- What an etcd's gateway answers, as JSON trees. Members that are 0, false or empty are left out.
-use Rattle.std.specs.Prelude.{ℕ, Bool, false, List, [], ◌∷◌, codes, Option, Some, None, option_map, option_and_then, map}
+use Rattle.std.specs.Prelude.{ℕ, Bool, true, false, ◌&&◌, ◌||◌, ◌==◌, List, [], ◌∷◌, codes, bytes_eq, Option, Some, None, option_map, option_and_then, map, if◌then◌else◌}
 use Rattle.std.specs.Result.{result_ok}
 use Rattle.base64.specs.Engines.{standard}
 use Rattle.base64.specs.GeneralPurpose.{decode_of}
@@ -9,6 +9,8 @@ use Rattle.serde_json.specs.Find.{get, as_bool, as_str, as_array, as_u64}
 use Rattle.canvas_gateway.specs.Numbers.{whole_of}
 use Rattle.canvas_gateway.specs.declared.answers.Committed.{Committed}
 use Rattle.canvas_gateway.specs.declared.answers.Lease.{Lease}
+use Rattle.canvas_gateway.specs.declared.answers.Refusal.{Refusal}
+use Rattle.canvas_gateway.specs.declared.answers.Refusal.TheVariants.{Rights, Space, Other}
 use Rattle.canvas_gateway.specs.declared.answers.KeyValue.{KeyValue}
 use Rattle.canvas_gateway.specs.declared.answers.Found.{Found}
 
@@ -56,10 +58,6 @@ abbrev pub all_three : {A B C E : Type 0} → (A → B → C → E) → Option A
 all_three f None o p = None
 all_three f (Some a) o p = both (f a) o p
 
--- whether the changes were made, and the revision of the store after them
-abbrev pub committed_in : Data → Option Committed
-committed_in d = both (λ done revision. record { done = done; revision = revision }) (flag_at (codes "succeeded") d) (revision_in d)
-
 -- a lease and the seconds after which it ends, which are 0 where it has ended
 abbrev pub lease_in : Data → Option Lease
 lease_in d = both (λ lease seconds. record { number = lease; seconds = seconds }) (whole_at (codes "ID") d) (whole_at (codes "TTL") d)
@@ -68,9 +66,39 @@ lease_in d = both (λ lease seconds. record { number = lease; seconds = seconds 
 abbrev pub kept_in : Data → Option Lease
 kept_in d = option_and_then lease_in (get (codes "result") d)
 
--- the number of the reason for which a call was refused
-abbrev pub code_in : Data → Option ℕ
-code_in d = option_and_then whole_in (get (codes "code") d)
+-- a lease that was granted has a number
+abbrev pub granted_of : Lease → Option Lease
+granted_of lease = if lease.number == 0 then None else Some lease
+
+abbrev pub granted_in : Data → Option Lease
+granted_in d = option_and_then granted_of (lease_in d)
+
+-- a text under this name
+abbrev pub text_at : List ℕ → Data → Option (List ℕ)
+text_at name d = or_absent [] as_str (get name d)
+
+-- etcd's message where a user is wanted
+unfoldable pub no_user : List ℕ
+no_user = codes "etcdserver: user name is empty"
+
+-- that where its quota of space is used up
+unfoldable pub no_space : List ℕ
+no_space = codes "etcdserver: mvcc: database space exceeded"
+
+-- gRPC's numbers and the message for a wanted user or a denied permission
+abbrev pub is_of_rights : ℕ → List ℕ → Bool
+is_of_rights code message = (code == 7 || code == 16) || (code == 3 && bytes_eq message no_user)
+
+-- those for a quota of space that is used up
+abbrev pub is_of_space : ℕ → List ℕ → Bool
+is_of_space code message = code == 8 && bytes_eq message no_space
+
+-- the reason for which a call was refused, by such a number and a message
+abbrev pub refusal_of : ℕ → List ℕ → Refusal
+refusal_of code message = if is_of_rights code message then Rights else if is_of_space code message then Space else Other
+
+abbrev pub refusal_in : Data → Option Refusal
+refusal_in d = both refusal_of (option_and_then whole_in (get (codes "code") d)) (text_at (codes "message") d)
 
 -- a key, its value, and the revision at which it was written last
 pub record Pair : Type 0 where
@@ -93,6 +121,37 @@ each_in f (item d ds) = both (λ a rest. a ∷ rest) (f d) (each_in f ds)
 abbrev pub items_at : List ℕ → Data → Option Items
 items_at name d = or_absent no_items as_array (get name d)
 
+-- the first of some members
+abbrev pub first_of : Items → Option Data
+first_of no_items = None
+first_of (item d ds) = Some d
+
+-- the first member of an array under this name
+abbrev pub first_at : List ℕ → Data → Option Data
+first_at name d = option_and_then first_of (items_at name d)
+
+-- the keys that were read in place of changes
+abbrev pub instead_in : Data → Option (List Pair)
+instead_in d =
+    option_and_then (λ range. option_and_then (each_in pair_in) (items_at (codes "kvs") range))
+    (option_and_then (get (codes "response_range")) (first_at (codes "responses") d))
+
+-- whether changes were made, and the keys that were read in their place where they weren't
+pub record Outcome : Type 0 where
+  pub done : Bool
+  pub found : List Pair
+
+abbrev pub refused_with : List Pair → Outcome
+refused_with pairs = record { done = false; found = pairs }
+
+-- what is said by whether they were made
+abbrev pub outcome_in : Data → Bool → Option Outcome
+outcome_in d true = Some (record { done = true; found = [] })
+outcome_in d false = option_map refused_with (instead_in d)
+
+abbrev pub committed_in : Data → Option Outcome
+committed_in d = option_and_then (outcome_in d) (flag_at (codes "succeeded") d)
+
 -- the keys that were found, in their order, whether there are more of them, and the revision of the store
 pub record Range : Type 0 where
   pub pairs : List Pair
@@ -112,3 +171,7 @@ seen_pair pair = record { key = pair.key.items; value = pair.value.items; revisi
 -- what contracts see of the keys that were found
 abbrev pub seen_range : Found → Range
 seen_range found = record { pairs = map seen_pair found.pairs.items; more = found.more; revision = found.revision }
+
+-- what contracts see of whether changes were made
+abbrev pub seen_committed : Committed → Outcome
+seen_committed committed = record { done = committed.done; found = map seen_pair committed.found.items }

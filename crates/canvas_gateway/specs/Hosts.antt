@@ -1,7 +1,7 @@
 -- Hosts as requests name them.
-use Rattle.std.specs.Prelude.{◌≡◌, ℕ, Bool, ◌&&◌, ◌||◌, ◌==◌, nat_lt, nat_le, List, ◌++◌, length, codes}
+use Rattle.std.specs.Prelude.{◌≡◌, ◌⊎◌, ℕ, ◌<◌, ◌≤◌, Bool, true, ◌&&◌, ◌||◌, ◌==◌, nat_lt, nat_le, List, ◌++◌, length, take, drop, slice_index, codes}
 use Rattle.std.specs.List.{list_all}
-use Rattle.std.specs.Char.{is_ascii_alphanumeric}
+use Rattle.std.specs.Char.{is_ascii_alphanumeric, is_ascii_whitespace}
 
 -- a letter, a digit, `-`, `.`, `:`, `[` or `]`
 abbrev pub is_host_byte : ℕ → Bool
@@ -11,6 +11,24 @@ is_host_byte b = is_ascii_alphanumeric b || (b == 45 || (b == 46 || (b == 58 || 
 abbrev pub is_host : List ℕ → Bool
 is_host host = (nat_lt 0 (length host) && nat_le (length host) 255) && list_all is_host_byte host
 
--- the URL is `http://` and the host
+-- the text, or the text and a slash
+abbrev pub WithSlash : List ℕ → List ℕ → Type 0
+WithSlash text long = (long ≡ text) ⊎ (long ≡ text ++ codes "/")
+
+-- the bytes in front of this one are blanks
+abbrev pub IsBlankBelow : List ℕ → ℕ → Type 0
+IsBlankBelow text n = (i : ℕ) → i < n → is_ascii_whitespace (slice_index text i) ≡ true
+
+-- the bytes from this one on are blanks
+abbrev pub IsBlankFrom : List ℕ → ℕ → Type 0
+IsBlankFrom text n = (i : ℕ) → n ≤ i → i < length text → is_ascii_whitespace (slice_index text i) ≡ true
+
+-- the text stands in the long one behind this many blanks, and only blanks follow
+pub record StandsAfter (blanks : ℕ) (text long : List ℕ) : Type 0 where
+  pub front : IsBlankBelow long blanks
+  pub middle : text ≡ take (length text) (drop blanks long)
+  pub back : IsBlankFrom (drop blanks long) (length text)
+
+-- between blanks, the URL is `http://` and the host, and a slash or none
 abbrev pub IsUrlOf : List ℕ → List ℕ → Type 0
-IsUrlOf host url = url ≡ codes "http://" ++ host
+IsUrlOf host url = (blanks : ℕ) × (rest : List ℕ) × StandsAfter blanks (codes "http://" ++ rest) url × WithSlash host rest

@@ -1,6 +1,6 @@
 -- The keys of a document in the store.
-use Rattle.std.specs.Prelude.{◌≡◌, ℕ, zero, suc, ◌+◌, ◌/◌, ◌%◌, ◌^◌, ◌<◌, Bool, ◌&&◌, ◌||◌, ◌==◌, nat_lt, nat_le, List, [], ◌∷◌, ◌++◌, length, codes}
-use Rattle.std.specs.List.{list_all}
+use Rattle.std.specs.Prelude.{◌≡◌, ℕ, zero, suc, ◌+◌, ◌/◌, ◌%◌, ◌^◌, ◌<◌, Bool, not, ◌&&◌, ◌||◌, ◌==◌, nat_eq, nat_lt, nat_le, List, [], ◌∷◌, ◌++◌, length, codes}
+use Rattle.std.specs.List.{list_all, starts_with}
 use Rattle.std.specs.Char.{is_ascii_alphanumeric}
 
 -- the last so many decimal digits of a number, the highest first
@@ -16,9 +16,9 @@ ten_digits n = digits 10 n
 abbrev pub is_name_byte : ℕ → Bool
 is_name_byte b = is_ascii_alphanumeric b || (b == 45 || (b == 46 || b == 95))
 
--- a document's name: 1 to 64 such bytes
+-- a document's name: 1 to 64 such bytes, the first no `-`
 abbrev pub is_name : List ℕ → Bool
-is_name name = (nat_lt 0 (length name) && nat_le (length name) 64) && list_all is_name_byte name
+is_name name = (nat_lt 0 (length name) && (nat_le (length name) 64 && not (starts_with nat_eq name (codes "-")))) && list_all is_name_byte name
 
 -- what the keys of a document begin with
 abbrev pub document_keys : List ℕ → List ℕ

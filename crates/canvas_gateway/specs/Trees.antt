@@ -6,6 +6,8 @@ use Rattle.serde_json.specs.Data.{Data, boolean, number, unsigned, string, array
 use Rattle.serde_json.specs.View.{items_of}
 use Rattle.canvas_gateway.specs.declared.requests.Change.{Change}
 use Rattle.canvas_gateway.specs.declared.requests.Change.TheVariants.{Put, Remove}
+use Rattle.canvas_gateway.specs.declared.requests.Expected.{Expected}
+use Rattle.canvas_gateway.specs.declared.requests.Expected.TheVariants.{Nothing, Value}
 use Rattle.canvas_gateway.specs.declared.requests.Leaf.{Leaf}
 use Rattle.canvas_gateway.specs.declared.requests.Leaf.TheVariants.{Bytes, Text, Whole, Flag}
 
@@ -34,13 +36,30 @@ range_tree from to limit keys_only revision =
     (member (codes "range_end") (base64_text to)
     (member (codes "revision") (whole revision) no_members)))))
 
--- that a key was written last at this revision, or that it isn't there where the revision is 0
-abbrev pub compare_tree : List ℕ → ℕ → Data
-compare_tree key revision =
+-- that a key isn't there: it was written last at revision 0
+abbrev pub absent_tree : List ℕ → Data
+absent_tree key =
     object (member (codes "key") (base64_text key)
-    (member (codes "mod_revision") (whole revision)
+    (member (codes "mod_revision") (whole 0)
     (member (codes "result") (string (codes "EQUAL"))
     (member (codes "target") (string (codes "MOD")) no_members))))
+
+-- that a key has this value
+abbrev pub equal_tree : List ℕ → List ℕ → Data
+equal_tree key value =
+    object (member (codes "key") (base64_text key)
+    (member (codes "result") (string (codes "EQUAL"))
+    (member (codes "target") (string (codes "VALUE"))
+    (member (codes "value") (base64_text value) no_members))))
+
+-- that a key holds what is expected
+abbrev pub compare_tree : List ℕ → Expected → Data
+compare_tree key Nothing = absent_tree key
+compare_tree key (Value value) = equal_tree key value.now
+
+-- that a key is read
+abbrev pub read_tree : List ℕ → Data
+read_tree key = object (member (codes "request_range") (object (member (codes "key") (base64_text key) no_members)) no_members)
 
 -- that a key gets a value, and goes with a lease where that isn't 0
 abbrev pub put_tree : List ℕ → List ℕ → ℕ → Data
@@ -66,11 +85,12 @@ change_tree (Remove keys) = remove_tree keys.now.from.items keys.now.to.items
 abbrev pub change_items : List Change → Items
 change_items changes = items_of (map change_tree changes)
 
--- changes that are made together, where a key was written last at this revision
-abbrev pub commit_tree : List ℕ → ℕ → List Change → Data
-commit_tree key revision changes =
-    object (member (codes "compare") (array (item (compare_tree key revision) no_items))
-    (member (codes "success") (array (change_items changes)) no_members))
+-- changes that are made together, where a key holds what is expected, and else the key that is read in their place
+abbrev pub commit_tree : List ℕ → Expected → List Change → Data
+commit_tree key expected changes =
+    object (member (codes "compare") (array (item (compare_tree key expected) no_items))
+    (member (codes "failure") (array (item (read_tree key) no_items))
+    (member (codes "success") (array (change_items changes)) no_members)))
 
 -- a new lease of so many seconds, whose number etcd chooses
 abbrev pub grant_tree : ℕ → Data

@@ -1,10 +1,10 @@
 // What an etcd's gateway answers.
-ghost use Rattle.std.specs.Prelude.{◌≡◌, IfErr, IfOk, Some, [], codes, map, option_map};
+ghost use Rattle.std.specs.Prelude.{◌≡◌, IfErr, IfOk, Some, [], bytes_eq, codes, map, option_map};
 ghost use Rattle.std.specs.Result.{result_ok};
 ghost use Rattle.base64.specs.Engines.{standard};
 ghost use Rattle.base64.specs.GeneralPurpose.{decode_of};
 ghost use Rattle.serde_json.specs.View.{items_view, view};
-ghost use Rattle.canvas_gateway.specs.Answers.{bytes_at, bytes_in, code_in, committed_in, each_in, flag_at, items_at, kept_in, lease_in, pair_in, range_in, revision_in, seen_pair, seen_range, whole_at, whole_in};
+ghost use Rattle.canvas_gateway.specs.Answers.{bytes_at, bytes_in, committed_in, each_in, first_at, flag_at, granted_in, instead_in, is_of_rights, is_of_space, items_at, kept_in, lease_in, no_space, no_user, pair_in, range_in, refusal_in, refusal_of, revision_in, seen_committed, seen_pair, seen_range, text_at, whole_at, whole_in};
 ghost use Rattle.canvas_gateway.specs.Faults.{IsAnswerError, IsJson, IsNotJson, IsUnread, Spells};
 
 use crate::error::GatewayError;
@@ -15,12 +15,23 @@ use serde_json::Value as Json;
 use std::alloc::Global;
 
 /// Whether changes were made.
-#[derive(Clone, Copy, Debug, PartialEq, Eq)]
+#[derive(Debug, Drop)]
 pub struct Committed {
     /// Whether they were.
     pub done: bool,
-    /// The revision of the store: that of the changes, where they were made.
-    pub revision: u64,
+    /// The keys that were read in their place, where they weren't.
+    pub found: Vec<KeyValue>,
+}
+
+/// Why a call was refused.
+#[derive(Clone, Copy, Debug, PartialEq, Eq)]
+pub enum Refusal {
+    /// A user and a password are wanted, or the permission is denied.
+    Rights,
+    /// The quota of space is used up.
+    Space,
+    /// Something else.
+    Other,
 }
 
 /// A lease.
@@ -66,28 +77,28 @@ pub fn read_found(alloc: Global, body: &[u8]) -> Result<Found, GatewayError>
     found_in(alloc, &json)
 }
 
-/// Checks whether the changes were made, as this body of an answer says.
+/// Checks whether the changes were made, as this body of an answer says, and which keys were read in their place where they weren't.
 ///
 /// `NotJson` where it isn't JSON, `NotAnAnswer` where its tree is no answer to a request for changes. `Memory` can be answered in place of
 /// each of these.
 pub fn read_committed(alloc: Global, body: &[u8]) -> Result<Committed, GatewayError>
-    ensures ok { IfOk result (Spells committed_in body.now) }
+    ensures ok { IfOk result (λ committed. Spells committed_in body.now (seen_committed committed)) }
     ensures fault { IfErr result (IsAnswerError committed_in body.now) }
 {
     let json = parse(alloc, body)?;
-    committed_in(&json).ok_or(GatewayError::NotAnAnswer)
+    committed_in(alloc, &json)
 }
 
 /// The lease that was granted, as this body of an answer says.
 ///
-/// `NotJson` where it isn't JSON, `NotAnAnswer` where its tree is no answer to a request for a lease. `Memory` can be answered in place of
-/// each of these.
+/// `NotJson` where it isn't JSON, `NotAnAnswer` where its tree is no answer to a request for a lease, or names no lease. `Memory` can be
+/// answered in place of each of these.
 pub fn read_granted(alloc: Global, body: &[u8]) -> Result<Lease, GatewayError>
-    ensures ok { IfOk result (Spells lease_in body.now) }
-    ensures fault { IfErr result (IsAnswerError lease_in body.now) }
+    ensures ok { IfOk result (Spells granted_in body.now) }
+    ensures fault { IfErr result (IsAnswerError granted_in body.now) }
 {
     let json = parse(alloc, body)?;
-    lease_in(&json).ok_or(GatewayError::NotAnAnswer)
+    granted_in(&json).ok_or(GatewayError::NotAnAnswer)
 }
 
 /// The lease that was kept alive, as this body of an answer says. It has ended where its seconds are 0.
@@ -102,15 +113,16 @@ pub fn read_kept(alloc: Global, body: &[u8]) -> Result<Lease, GatewayError>
     kept_in(&json).ok_or(GatewayError::NotAnAnswer)
 }
 
-/// Why a call was refused, by the number that gRPC has for it, as this body of an answer says whose status isn't 200.
+/// Why a call was refused, as this body of an answer says whose status isn't 200.
 ///
-/// `NotJson` where it isn't JSON, `NotAnAnswer` where it has no such number. `Memory` can be answered in place of each of these.
-pub fn read_refused(alloc: Global, body: &[u8]) -> Result<u64, GatewayError>
-    ensures ok { IfOk result (Spells code_in body.now) }
-    ensures fault { IfErr result (IsAnswerError code_in body.now) }
+/// `NotJson` where it isn't JSON, `NotAnAnswer` where it has no number of gRPC's for the reason, or a message that is no text. `Memory` can be
+/// answered in place of each of these.
+pub fn read_refused(alloc: Global, body: &[u8]) -> Result<Refusal, GatewayError>
+    ensures ok { IfOk result (Spells refusal_in body.now) }
+    ensures fault { IfErr result (IsAnswerError refusal_in body.now) }
 {
     let json = parse(alloc, body)?;
-    code_in(&json).ok_or(GatewayError::NotAnAnswer)
+    refusal_in(&json).ok_or(GatewayError::NotAnAnswer)
 }
 
 // The tree of which the bytes are JSON.
@@ -128,13 +140,57 @@ fn parse(alloc: Global, bytes: &[u8]) -> Result<Json, GatewayError>
     }
 }
 
-// Checks whether changes were made, by a tree.
-fn committed_in(json: &Json) -> Option<Committed>
-    ensures { result ≡ committed_in (view json.now) }
+// Whether changes were made, by a tree.
+fn committed_in(alloc: Global, json: &Json) -> Result<Committed, GatewayError>
+    ensures ok { IfOk result (λ committed. committed_in (view json.now) ≡ Some (seen_committed committed)) }
+    ensures fault { IfErr result (IsUnread (committed_in (view json.now))) }
 {
-    let done = flag_at(json, "succeeded")?;
-    let revision = revision_in(json)?;
-    Some(Committed { done, revision })
+    match flag_at(json, "succeeded") {
+        None => Err(GatewayError::NotAnAnswer),
+        Some(true) => Ok(Committed {
+            done: true,
+            found: Vec::new(alloc),
+        }),
+        Some(false) => Ok(Committed {
+            done: false,
+            found: instead_in(alloc, json)?,
+        }),
+    }
+}
+
+// The keys that were read in place of changes, by a tree.
+fn instead_in(alloc: Global, json: &Json) -> Result<Vec<KeyValue>, GatewayError>
+    ensures ok { IfOk result (λ pairs. instead_in (view json.now) ≡ Some (map seen_pair pairs.items)) }
+    ensures fault { IfErr result (IsUnread (instead_in (view json.now))) }
+{
+    let Some(answer) = first_at(json, "responses") else {
+        return Err(GatewayError::NotAnAnswer);
+    };
+    let Some(range) = answer.get("response_range") else {
+        return Err(GatewayError::NotAnAnswer);
+    };
+    let Some(items) = items_at(range, "kvs") else {
+        return Err(GatewayError::NotAnAnswer);
+    };
+    pairs_in(alloc, items)
+}
+
+// The first member of the array under this name.
+fn first_at<'a>(json: &'a Json, name: &str) -> Option<&'a Json>
+    ensures { option_map (λ first. view first.now) result ≡ first_at name.now (view json.now) }
+{
+    items_at(json, name)?.first()
+}
+
+// A lease that was granted, by a tree.
+fn granted_in(json: &Json) -> Option<Lease>
+    ensures { result ≡ granted_in (view json.now) }
+{
+    let lease = lease_in(json)?;
+    if lease.number == 0 {
+        return None;
+    }
+    Some(lease)
 }
 
 // A lease, by a tree.
@@ -154,10 +210,65 @@ fn kept_in(json: &Json) -> Option<Lease>
 }
 
 // Why a call was refused, by a tree.
-fn code_in(json: &Json) -> Option<u64>
-    ensures { result ≡ code_in (view json.now) }
+fn refusal_in(json: &Json) -> Option<Refusal>
+    ensures { result ≡ refusal_in (view json.now) }
 {
-    json.get("code").and_then(whole_in)
+    let code = json.get("code").and_then(whole_in)?;
+    let message = text_at(json, "message")?;
+    Some(refusal_of(code, message))
+}
+
+// The reason that has this number and this message.
+fn refusal_of(code: u64, message: &str) -> Refusal
+    ensures { result ≡ refusal_of code message.now }
+{
+    if is_of_rights(code, message) {
+        Refusal::Rights
+    } else if is_of_space(code, message) {
+        Refusal::Space
+    } else {
+        Refusal::Other
+    }
+}
+
+// Checks whether this number and this message want a user, or deny the permission.
+fn is_of_rights(code: u64, message: &str) -> bool
+    ensures { result ≡ is_of_rights code message.now }
+{
+    code == 7 || code == 16 || code == 3 && tells_no_user(message)
+}
+
+// Checks whether this number and this message tell that there is no space.
+fn is_of_space(code: u64, message: &str) -> bool
+    ensures { result ≡ is_of_space code message.now }
+{
+    code == 8 && tells_no_space(message)
+}
+
+// Checks whether a message tells that a user is wanted.
+#[tactic(auto, unfolding(crate::specs::Answers::no_user))]
+fn tells_no_user(message: &str) -> bool
+    ensures { result ≡ bytes_eq message.now no_user }
+{
+    message == "etcdserver: user name is empty"
+}
+
+// Checks whether a message tells that there is no space.
+#[tactic(auto, unfolding(crate::specs::Answers::no_space))]
+fn tells_no_space(message: &str) -> bool
+    ensures { result ≡ bytes_eq message.now no_space }
+{
+    message == "etcdserver: mvcc: database space exceeded"
+}
+
+// The text under this name.
+fn text_at<'a>(json: &'a Json, name: &str) -> Option<&'a str>
+    ensures { option_map (λ text. text.now) result ≡ text_at name.now (view json.now) }
+{
+    match json.get(name) {
+        None => Some(""),
+        Some(member) => member.as_str(),
+    }
 }
 
 // The revision of the store, by a tree.

@@ -1,7 +1,7 @@
 // Hosts as requests name them.
 ghost use Rattle.std.specs.Prelude.{◌≡◌, ◌↔◌, IfOk, IfSome, IsSome, map, string_bytes, true};
 ghost use Rattle.std.specs.List.{list_all};
-ghost use Rattle.canvas_gateway.specs.Hosts.{IsUrlOf, is_host, is_host_byte};
+ghost use Rattle.canvas_gateway.specs.Hosts.{IsUrlOf, WithSlash, is_host, is_host_byte};
 
 use std::alloc::{AllocError, Global};
 
@@ -35,19 +35,39 @@ impl Host {
     }
 }
 
-/// The host of a URL as `http://127.0.0.1:2379`. `None` where it is none: with another scheme, a path, or a byte that may not stand in a host.
+/// The host of a URL as `http://127.0.0.1:2379`, which may have blanks around it, and one `/` at its end. `None` where it is none: with another
+/// scheme, a path, or a byte that may not stand in a host.
 ///
 /// Errors: out of memory.
 pub fn host_of(alloc: Global, url: &str) -> Result<Option<Host>, AllocError>
     ensures { IfOk result (λ found. IfSome found (λ host. IsUrlOf (string_bytes host.text) url.now)) }
 {
-    let Some(rest) = url.as_bytes().strip_prefix(b"http://") else {
+    let Some(bytes) = host_in(url.as_bytes()) else {
         return Ok(None);
     };
-    let Ok(text) = str::from_utf8(rest) else {
+    let Ok(text) = str::from_utf8(bytes) else {
         return Ok(None);
     };
     Ok(Host::new(String::from_str(alloc, text)?))
+}
+
+// What stands for the host in a URL.
+fn host_in(url: &[u8]) -> Option<&[u8]>
+    ensures { IfSome result (λ host. IsUrlOf host.now url.now) }
+{
+    let text = url.trim_ascii();
+    let rest = text.strip_prefix(b"http://")?;
+    Some(without_slash(rest))
+}
+
+// The same bytes without a slash at their end.
+fn without_slash(text: &[u8]) -> &[u8]
+    ensures { WithSlash result.now text.now }
+{
+    match text.strip_suffix(b"/") {
+        Some(rest) => rest,
+        None => text,
+    }
 }
 
 /// The same hosts once more. Errors: out of memory.

@@ -30,12 +30,12 @@ pub struct Place {
     pub chunk: u64,
 }
 
-/// Checks whether a document may have this name in the store: 1 to 64 bytes, each a letter or digit of ASCII, `-`, `.` or `_`. So no
-/// document's keys lie among another's.
+/// Checks whether a document may have this name in the store: 1 to 64 bytes, each a letter or digit of ASCII, `-`, `.` or `_`, and the
+/// first no `-`. So no document's keys lie among another's, and no name is taken for an option.
 pub fn is_name(name: &[u8]) -> bool
     ensures { result ≡ is_name name.now }
 {
-    !name.is_empty() && name.len() <= 64 && are_name_bytes(name)
+    !name.is_empty() && name.len() <= 64 && !name.starts_with(b"-") && are_name_bytes(name)
 }
 
 // Checks whether each byte may stand in a name.

@@ -10,13 +10,14 @@ mod head;
 mod host;
 mod keys;
 mod numbers;
+mod owner;
 mod posts;
 mod reader;
 mod requests;
 
 pub use answers::{
-    Committed, Found, KeyValue, Lease, read_committed, read_found, read_granted, read_kept,
-    read_refused,
+    Committed, Found, KeyValue, Lease, Refusal, read_committed, read_found, read_granted,
+    read_kept, read_refused,
 };
 pub use error::GatewayError;
 pub use head::MAX_HEAD;
@@ -25,6 +26,9 @@ pub use keys::{
     Keys, Place, all_chunks, chunk_key, chunks_of, every_chunk_key, identity_key, is_name, one_key,
     owner_key, place_of,
 };
+pub use owner::{every_owner_value, owner_value};
 pub use posts::Call;
 pub use reader::{Answer, AnswerReader};
-pub use requests::{Change, ask_commit, ask_grant, ask_keep_alive, ask_range, ask_revoke};
+pub use requests::{
+    Change, Expected, ask_commit, ask_grant, ask_keep_alive, ask_range, ask_revoke,
+};

@@ -4,7 +4,7 @@ ghost use Rattle.std.specs.List.{fold};
 ghost use Rattle.serde_json.specs.Data.{array, item, member, no_items, no_members, object, put};
 ghost use Rattle.serde_json.specs.View.{members_view, view};
 ghost use Rattle.canvas_gateway.specs.Posts.{Asks};
-ghost use Rattle.canvas_gateway.specs.Trees.{base64_text, change_items, change_tree, commit_tree, compare_tree, grant_tree, lease_tree, leaf_tree, put_tree, range_tree, remove_tree};
+ghost use Rattle.canvas_gateway.specs.Trees.{absent_tree, base64_text, change_items, change_tree, commit_tree, compare_tree, equal_tree, grant_tree, lease_tree, leaf_tree, put_tree, range_tree, read_tree, remove_tree};
 
 use crate::host::Host;
 use crate::keys::Keys;
@@ -29,6 +29,15 @@ pub enum Change<'a> {
     Remove(&'a Keys),
 }
 
+/// What a key must hold, for changes to be made.
+#[derive(Clone, Copy, Debug)]
+pub enum Expected<'a> {
+    /// Nothing: it isn't there.
+    Nothing,
+    /// This value.
+    Value(&'a [u8]),
+}
+
 /// A request for the keys that are there, in their order, with their values or without. If `limit` isn't 0, for that many of them at
 /// most.
 ///
@@ -47,20 +56,20 @@ pub fn ask_range(
     post_tree(alloc, host, Call::Range, tree)
 }
 
-/// A request for changes that are made together, where `key` was written last at this revision (where it isn't there, if that is 0). No
-/// two of them may be of one key.
+/// A request for changes that are made together, where `key` holds what is expected; where it doesn't, for `key` with its value in their
+/// place. No two of the changes may be of one key.
 ///
 /// Errors: out of memory.
 pub fn ask_commit(
     alloc: Global,
     host: &Host,
     key: &[u8],
-    revision: u64,
+    expected: Expected<'_>,
     changes: &[Change<'_>],
 ) -> Result<Vec<u8>, AllocError>
-    ensures { IfOk result (λ bytes. Asks bytes.items (string_bytes host.now.text) Call.Commit (commit_tree key.now revision changes.now)) }
+    ensures { IfOk result (λ bytes. Asks bytes.items (string_bytes host.now.text) Call.Commit (commit_tree key.now expected.entry changes.now)) }
 {
-    let tree = commit_tree(alloc, key, revision, changes)?;
+    let tree = commit_tree(alloc, key, expected, changes)?;
     post_tree(alloc, host, Call::Commit, tree)
 }
 
@@ -145,13 +154,14 @@ fn lease_tree(alloc: Global, lease: u64) -> Result<Json, AllocError>
 fn commit_tree(
     alloc: Global,
     key: &[u8],
-    revision: u64,
+    expected: Expected<'_>,
     changes: &[Change<'_>],
 ) -> Result<Json, AllocError>
-    ensures { IfOk result (λ j. view j ≡ commit_tree key.now revision changes.now) }
+    ensures { IfOk result (λ j. view j ≡ commit_tree key.now expected.entry changes.now) }
 {
     let mut members = Map::new(alloc);
-    put_compare(alloc, &mut members, key, revision)?;
+    put_compare(alloc, &mut members, key, expected)?;
+    put_failure(alloc, &mut members, key)?;
     put_changes(alloc, &mut members, changes)?;
     Ok(Json::Object(members))
 }
@@ -161,13 +171,22 @@ fn put_compare(
     alloc: Global,
     members: &mut Map<String, Json>,
     key: &[u8],
-    revision: u64,
+    expected: Expected<'_>,
 ) -> Result<(), AllocError>
-    ensures { OnOk result (members_view members.new.entries ≡ put (codes "compare") (array (item (compare_tree key.now revision) no_items)) (members_view members.old.entries)) }
+    ensures { OnOk result (members_view members.new.entries ≡ put (codes "compare") (array (item (compare_tree key.now expected.entry) no_items)) (members_view members.old.entries)) }
 {
-    let compare = compare_tree(alloc, key, revision)?;
+    let compare = compare_tree(alloc, key, expected)?;
     let compares = Json::from(vec![in alloc; compare]?);
     put(members, alloc, "compare", compares)
+}
+
+// Puts an array of what is asked in place of the changes among the members.
+fn put_failure(alloc: Global, members: &mut Map<String, Json>, key: &[u8]) -> Result<(), AllocError>
+    ensures { OnOk result (members_view members.new.entries ≡ put (codes "failure") (array (item (read_tree key.now) no_items)) (members_view members.old.entries)) }
+{
+    let read = read_tree(alloc, key)?;
+    let reads = Json::from(vec![in alloc; read]?);
+    put(members, alloc, "failure", reads)
 }
 
 // Puts the changes among the members.
@@ -183,16 +202,46 @@ fn put_changes(
 }
 
 // The tree of a comparison.
-fn compare_tree(alloc: Global, key: &[u8], revision: u64) -> Result<Json, AllocError>
-    ensures { IfOk result (λ j. view j ≡ compare_tree key.now revision) }
+fn compare_tree(alloc: Global, key: &[u8], expected: Expected<'_>) -> Result<Json, AllocError>
+    ensures { IfOk result (λ j. view j ≡ compare_tree key.now expected.entry) }
+{
+    match expected {
+        Expected::Nothing => absent_tree(alloc, key),
+        Expected::Value(value) => equal_tree(alloc, key, value),
+    }
+}
+
+// The tree of the comparison that a key isn't there.
+fn absent_tree(alloc: Global, key: &[u8]) -> Result<Json, AllocError>
+    ensures { IfOk result (λ j. view j ≡ absent_tree key.now) }
 {
     let members = [
         ("key", Leaf::Bytes(key)),
-        ("mod_revision", Leaf::Whole(revision)),
+        ("mod_revision", Leaf::Whole(0)),
         ("result", Leaf::Text("EQUAL")),
         ("target", Leaf::Text("MOD")),
     ];
     object_of(alloc, &members)
+}
+
+// The tree of the comparison that a key has this value.
+fn equal_tree<'a>(alloc: Global, key: &'a [u8], value: &'a [u8]) -> Result<Json, AllocError>
+    ensures { IfOk result (λ j. view j ≡ equal_tree key.now value.now) }
+{
+    let members = [
+        ("key", Leaf::Bytes(key)),
+        ("result", Leaf::Text("EQUAL")),
+        ("target", Leaf::Text("VALUE")),
+        ("value", Leaf::Bytes(value)),
+    ];
+    object_of(alloc, &members)
+}
+
+// The tree of a key that is read.
+fn read_tree(alloc: Global, key: &[u8]) -> Result<Json, AllocError>
+    ensures { IfOk result (λ j. view j ≡ read_tree key.now) }
+{
+    object_under(alloc, "request_range", &[("key", Leaf::Bytes(key))])
 }
 
 // The tree of changes.
