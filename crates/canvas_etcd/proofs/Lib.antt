@@ -7,3 +7,4 @@ pub mod Safety
 pub mod Readiness
 pub mod Committing
 pub mod Fresh
+pub mod Turning

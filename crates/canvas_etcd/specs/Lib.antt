@@ -5,3 +5,4 @@ pub mod Safe
 pub mod Rows
 pub mod Shelves
 pub mod Laws
+pub mod Turns

@@ -11,6 +11,7 @@ mod segments;
 mod shelf;
 mod state;
 mod store;
+mod turn;
 mod writing;
 
 pub use change::Change;
@@ -20,3 +21,7 @@ pub use laws::{
 };
 pub use shelf::EtcdShelf;
 pub use store::{CHUNK, Standing, Store};
+pub use turn::{
+    Mark, Turn, every_late_one_changes_nothing, every_put_back_is_refused,
+    every_repeat_is_done_once, every_told_one_was_done,
+};
