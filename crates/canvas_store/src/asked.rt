@@ -1,18 +1,20 @@
-// What is asked of an etcd.
+// What is asked of an etcd, and what it tells.
 use canvas_gateway::{
-    Change, Host, Keys, ask_commit, ask_grant, ask_keep_alive, ask_range, ask_revoke,
+    Change, Committed, Expected, Found, GatewayError, Host, Keys, Lease, ask_commit, ask_grant,
+    ask_keep_alive, ask_range, ask_revoke, read_committed, read_found, read_granted, read_kept,
 };
 use std::alloc::{AllocError, Global};
 
-// What is asked of an etcd, by whichever endpoint.
+// What is asked of an etcd, by whichever endpoint. Each may be asked again where no answer came: a grant leaves a lease that ends by
+// itself, and changes that were made are refused, since they have made the owner's key another.
 #[derive(Clone, Copy)]
 pub(crate) enum Asked<'a> {
     // So many of these keys, as they stood at this revision.
     Names(&'a Keys, u64, u64),
     // The same with their values.
     Values(&'a Keys, u64, u64),
-    // These changes, where this key was written last at this revision.
-    Commit(&'a [u8], u64, &'a [Change<'a>]),
+    // These changes, where this key holds what is expected.
+    Commit(&'a [u8], Expected<'a>, &'a [Change<'a>]),
     // A lease of so many seconds.
     Grant(u64),
     // That this lease goes on.
@@ -21,10 +23,26 @@ pub(crate) enum Asked<'a> {
     Revoke(u64),
 }
 
+// What an etcd tells who asks it.
+#[derive(Drop)]
+pub(crate) enum Told {
+    // The keys that were found.
+    Found(Found),
+    // Whether changes were made.
+    Committed(Committed),
+    // A lease that was granted or goes on.
+    Lease(Lease),
+    // That it was done.
+    Nothing,
+}
+
 impl<'a> Asked<'a> {
-    // Checks whether it may be asked again where no answer came: it changes nothing, or nothing more by being done twice.
-    pub(crate) fn repeats(&self) -> bool {
-        !matches!(self, Asked::Commit(..))
+    // How often all endpoints are asked in turn, while there is time. Changes are waited for: who makes them ends where they fail.
+    pub(crate) fn rounds(&self) -> u32 {
+        match self {
+            Asked::Commit(..) => 40,
+            _ => 2,
+        }
     }
 
     // The request, as bytes.
@@ -36,12 +54,23 @@ impl<'a> Asked<'a> {
             Asked::Values(keys, limit, revision) => {
                 ask_range(alloc, host, keys, limit, false, revision)
             }
-            Asked::Commit(key, revision, changes) => {
-                ask_commit(alloc, host, key, revision, changes)
+            Asked::Commit(key, expected, changes) => {
+                ask_commit(alloc, host, key, expected, changes)
             }
             Asked::Grant(seconds) => ask_grant(alloc, host, seconds),
             Asked::KeepAlive(lease) => ask_keep_alive(alloc, host, lease),
             Asked::Revoke(lease) => ask_revoke(alloc, host, lease),
         }
+    }
+
+    // What the body of an answer tells.
+    pub(crate) fn read(&self, alloc: Global, body: &[u8]) -> Result<Told, GatewayError> {
+        Ok(match self {
+            Asked::Names(..) | Asked::Values(..) => Told::Found(read_found(alloc, body)?),
+            Asked::Commit(..) => Told::Committed(read_committed(alloc, body)?),
+            Asked::Grant(_) => Told::Lease(read_granted(alloc, body)?),
+            Asked::KeepAlive(_) => Told::Lease(read_kept(alloc, body)?),
+            Asked::Revoke(_) => Told::Nothing,
+        })
     }
 }

@@ -2,11 +2,19 @@
 #![tactic(auto)]
 
 mod asked;
+mod causes;
+mod chunks;
+mod deadline;
 mod document;
+mod error;
+mod exchange;
 mod lease;
+mod owner;
 mod store;
+mod turns;
 mod wire;
 
+pub use causes::Causes;
+pub use error::StoreError;
 pub use lease::Lease;
 pub use store::EtcdStore;
-pub use wire::StoreError;

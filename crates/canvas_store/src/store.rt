@@ -2,43 +2,55 @@
 ghost use Rattle.std.specs.Prelude.{◌≡◌, [], false, None, IsErr, IfOk};
 ghost use Rattle.canvas_shelf.specs.Moments.{CountsFailure};
 
+use crate::causes::Causes;
 use crate::document::Document;
+use crate::error::StoreError;
 use crate::lease::Lease;
-use crate::wire::StoreError;
 use canvas_etcd::{Change, Standing, Store};
 use canvas_gateway::Host;
 use canvas_shelf::{DeviceFailed, ShelfError};
 use std::alloc::{AllocError, Allocator, Global};
 use std::marker::Model;
 use std::net::{Net, TcpStream};
+use std::random::RandomSource;
+use std::time::Clock;
 
 /// A document's segments in an etcd, by its gateway (JSON over HTTP/1.1, without TLS). No contract says what a network does, so it claims
 /// nothing. Contracts see it as how many of its calls have failed.
 ///
-/// The endpoints are members of one etcd. If one takes no connection within 2 seconds, or is silent for 5, the next one is asked; a
-/// transaction alone is never asked twice once it was sent, since it may have been done.
+/// The endpoints are members of one etcd, and which is asked first is a matter of chance. One has at most 5 seconds to take a connection
+/// and a request and to answer it; then the next one is asked. A call takes 9 seconds at most, beside what the system takes to find the
+/// address of a host's name. Within these, a transaction is asked again and again.
 ///
 /// Who owns a document holds the key `lugcurrant/NAME/owner`, which goes with a lease of so many seconds as it was
 /// made with. Keep that alive by [`Self::lease`].
-/// The number of an owner is the revision at which that key was written: etcd's revisions only rise. Each transaction compares it.
-/// Reading a segment asks afterwards whether the key still has it. A store that never took over reads what stood at the revision at which
+/// The number of an owner is that of its lease. The key's value is that number and the number of the owner's last transaction: each
+/// transaction compares it with what the one before wrote, and writes its own. So none is done twice; one whose answer was lost is asked
+/// again, and told as done if the key says so; and a key that was deleted or put back is noticed by the next one.
+/// Reading a segment asks afterwards what the key says. A store that never took over reads what stood at the revision at which
 /// it looked, so an etcd that forgets old revisions must keep them for as long as that takes.
-pub struct EtcdStore<R: Net<Stream = TcpStream> + AllocGlobal + Clone + Drop> {
+pub struct EtcdStore<
+    R: Net<Stream = TcpStream> + Clock + RandomSource + AllocGlobal + Clone + Drop,
+> {
     // On the heap, so that who holds a store holds little.
     document: Box<Document<R>>,
+    causes: Causes,
     failures: u64,
 }
 
-impl<R: Net<Stream = TcpStream> + AllocGlobal + Clone + Drop> Drop for EtcdStore<R> {
+impl<R: Net<Stream = TcpStream> + Clock + RandomSource + AllocGlobal + Clone + Drop> Drop
+    for EtcdStore<R> {
     fn drop(self) {
         let EtcdStore {
             document: _,
+            causes: _,
             failures: _,
         } = self;
     }
 }
 
-impl<R: Net<Stream = TcpStream> + AllocGlobal + Clone + Drop> Model for EtcdStore<R> {
+impl<R: Net<Stream = TcpStream> + Clock + RandomSource + AllocGlobal + Clone + Drop> Model
+    for EtcdStore<R> {
     ghost use Rattle.std.specs.Prelude.{ℕ};
     ghost use Rattle.std.specs.Coded.{codes};
 
@@ -49,7 +61,7 @@ impl<R: Net<Stream = TcpStream> + AllocGlobal + Clone + Drop> Model for EtcdStor
     ghost view = { λ s. s.failures };
 }
 
-impl<R: Net<Stream = TcpStream> + AllocGlobal + Clone + Drop> EtcdStore<R> {
+impl<R: Net<Stream = TcpStream> + Clock + RandomSource + AllocGlobal + Clone + Drop> EtcdStore<R> {
     /// The store of the document of this name, which `is_name` of `canvas_gateway` allows, by these endpoints. If it takes the document
     /// over, its lease ends after so many seconds in which nobody keeps it alive. Nothing is asked yet.
     ///
@@ -63,10 +75,12 @@ impl<R: Net<Stream = TcpStream> + AllocGlobal + Clone + Drop> EtcdStore<R> {
         ensures failures { IfOk result (λ s. ⟦<EtcdStore<R> as Store>⟧.failure_count s ≡ 0) }
     {
         let alloc = net.alloc();
+        let causes = Causes::new(alloc)?;
         let document = Document::new(net, hosts, name, lease_seconds)?;
         match Box::new(alloc, document) {
             Ok(document) => Ok(EtcdStore {
                 document,
+                causes,
                 failures: 0,
             }),
             Err(_) => Err(AllocError),
@@ -80,19 +94,25 @@ impl<R: Net<Stream = TcpStream> + AllocGlobal + Clone + Drop> EtcdStore<R> {
         self.document.lease()
     }
 
+    /// Why its calls failed, for who is told no more than that they did. Errors: out of memory.
+    pub fn causes(&self) -> Result<Causes, AllocError> {
+        self.causes.share()
+    }
+
     /// Checks whether somebody owns the document now.
     ///
-    /// `Unreachable` or `Unanswered` where no endpoint told. `Memory` if memory runs out.
+    /// `Unreachable`, `Unanswered`, `Refused` or `TlsWanted` where no endpoint told. `Memory` if memory runs out.
     pub fn is_owned(&mut self) -> Result<bool, StoreError>
         ensures { self.new ≡ self.old }
     {
-        Ok(self.document.owner_now()? != 0)
+        self.document.is_owned()
     }
 
-    // Counts a failure.
-    fn fail(&mut self) -> DeviceFailed
+    // Counts a failure, and notes its cause.
+    fn fail(&mut self, cause: StoreError) -> DeviceFailed
         ensures { CountsFailure self.old self.new (Unit {0}) }
     {
+        self.causes.note(cause);
         self.failures = self.failures.saturating_add(1);
         DeviceFailed
     }
@@ -103,7 +123,7 @@ impl<R: Net<Stream = TcpStream> + AllocGlobal + Clone + Drop> EtcdStore<R> {
     {
         match done {
             Ok(value) => Ok(value),
-            Err(_) => Err(self.fail()),
+            Err(error) => Err(self.fail(error)),
         }
     }
 
@@ -114,13 +134,14 @@ impl<R: Net<Stream = TcpStream> + AllocGlobal + Clone + Drop> EtcdStore<R> {
         if error == StoreError::Memory {
             ShelfError::Memory
         } else {
-            self.fail();
+            self.fail(error);
             ShelfError::Device
         }
     }
 }
 
-impl<R: Net<Stream = TcpStream> + AllocGlobal + Clone + Drop> Store for EtcdStore<R> {
+impl<R: Net<Stream = TcpStream> + Clock + RandomSource + AllocGlobal + Clone + Drop> Store
+    for EtcdStore<R> {
     ghost use Rattle.std.proofs.lemmas.Bool.{false≢true};
     ghost use Rattle.canvas_etcd.specs.Stores.{Stored};
 

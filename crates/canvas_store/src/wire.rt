@@ -1,103 +1,62 @@
-// Requests to an etcd's endpoints, and their answers.
-ghost use Rattle.std.specs.Prelude.{◌≤◌, IfOk, length};
-
-use crate::asked::Asked;
+// Requests to an etcd's endpoints.
+use crate::asked::{Asked, Told};
+use crate::deadline::{Deadline, share_of};
+use crate::error::{StoreError, error_of, is_final, more_telling};
+use crate::exchange::{Received, connect, exchange, is_open, speaks_tls};
 use canvas_gateway::{
-    Answer, AnswerReader, Change, Committed, Found, GatewayError, Host, Keys, copy_hosts,
-    owner_key, read_committed, read_found, read_granted,
+    Answer, Change, Committed, Expected, Found, Host, Keys, Lease, copy_hosts, read_refused,
 };
-use std::alloc::{AllocError, AllocFailed, Global};
-use std::io;
-use std::io::{ErrorKind, Read, Write};
-use std::net::{Net, TcpStream, ToSocketAddrs};
-use std::time::Duration;
-use thiserror::Error;
+use std::alloc::{AllocError, Global};
+use std::net::{Net, TcpStream};
+use std::random::RandomSource;
+use std::thread::sleep;
+use std::time::{Clock, Duration};
 
-// The most bytes of an answer's body: several times a page of chunks in base64.
-const MAX_BODY: u64 = 16777216;
+// The most seconds that a call takes, over all endpoints: less than a server's lease lasts.
+const CALL_SECONDS: u64 = 9;
 
-// How long an endpoint may take to take a connection, in seconds.
-const CONNECT_SECONDS: u64 = 2;
+// How long it rests between two rounds over the endpoints.
+const REST_MILLIS: u64 = 250;
 
-// How long it may be silent while it reads a request or answers, in seconds.
-const SILENCE_SECONDS: u64 = 5;
-
-/// Why a store's call has no answer.
-#[derive(Clone, Copy, Debug, PartialEq, Eq, Error)]
-pub enum StoreError {
-    /// No endpoint took a connection: nothing was asked.
-    #[error("no endpoint can be reached")]
-    Unreachable,
-    /// It was asked and no answer came, or none that can be used, or it was refused. Changes may have been made, and may be made yet.
-    #[error("no answer came")]
-    Unanswered,
-    /// Another owns the document.
-    #[error("another owns the document")]
-    Lost,
-    /// Memory ran out.
-    #[error("out of memory")]
-    Memory,
-}
-
-impl From<AllocError> for StoreError {
-    fn from(_error: AllocError) -> StoreError {
-        StoreError::Memory
-    }
-}
-
-impl<T: Drop> From<AllocFailed<T>> for StoreError {
-    fn from(_error: AllocFailed<T>) -> StoreError {
-        StoreError::Memory
-    }
-}
-
-impl From<GatewayError> for StoreError {
-    fn from(error: GatewayError) -> StoreError {
-        match error {
-            GatewayError::Memory => StoreError::Memory,
-            _ => StoreError::Unanswered,
-        }
-    }
-}
-
-impl From<io::Error> for StoreError {
-    fn from(error: io::Error) -> StoreError {
-        if error.kind() == ErrorKind::OutOfMemory {
-            StoreError::Memory
-        } else {
-            StoreError::Unanswered
-        }
-    }
-}
+// How long an endpoint may take to tell that it speaks TLS. One that doesn't may say nothing.
+const TLS_MILLIS: u64 = 300;
 
 // The endpoints of an etcd, and a connection to one of them.
-pub(crate) struct Wire<R: Net<Stream = TcpStream> + AllocGlobal + Clone + Drop> {
+pub(crate) struct Wire<
+    R: Net<Stream = TcpStream> + Clock + RandomSource + AllocGlobal + Clone + Drop,
+> {
     net: R,
     hosts: Vec<Host>,
     // Which endpoint is asked first.
     at: usize,
     stream: Option<TcpStream>,
+    // Whether an endpoint has ever answered.
+    has_answered: bool,
 }
 
-impl<R: Net<Stream = TcpStream> + AllocGlobal + Clone + Drop> Drop for Wire<R> {
+impl<R: Net<Stream = TcpStream> + Clock + RandomSource + AllocGlobal + Clone + Drop> Drop
+    for Wire<R> {
     fn drop(self) {
         let Wire {
             net: _,
             hosts: _,
             at: _,
             stream: _,
+            has_answered: _,
         } = self;
     }
 }
 
-impl<R: Net<Stream = TcpStream> + AllocGlobal + Clone + Drop> Wire<R> {
-    // None is connected yet.
+impl<R: Net<Stream = TcpStream> + Clock + RandomSource + AllocGlobal + Clone + Drop> Wire<R> {
+    // None is connected yet. Which is asked first is a matter of chance, so that not all servers hang on one.
     pub(crate) fn new(net: R, hosts: Vec<Host>) -> Self {
+        let at = chosen(&net, hosts.len());
         Wire {
             net,
             hosts,
-            at: 0,
+            at,
             stream: None,
+            has_answered: false,
         }
     }
 
@@ -108,26 +67,75 @@ impl<R: Net<Stream = TcpStream> + AllocGlobal + Clone + Drop> Wire<R> {
     // The same endpoints, by a connection of its own.
     pub(crate) fn another(&self) -> Result<Wire<R>, AllocError> {
         let hosts = copy_hosts(self.net.alloc(), &self.hosts)?;
-        Ok(Wire::new(self.net.clone()?, hosts))
+        Ok(Wire {
+            net: self.net.clone()?,
+            hosts,
+            at: self.at,
+            stream: None,
+            has_answered: self.has_answered,
+        })
     }
 
-    // The body of the answer, by the first endpoint that gives one. What may not be asked twice is asked of one endpoint alone.
-    pub(crate) fn ask(&mut self, asked: &Asked<'_>) -> Result<Vec<u8>, StoreError> {
-        let mut last = StoreError::Unreachable;
-        for _ in 0..self.hosts.len() {
-            match self.ask_here(asked) {
-                Ok(body) => return Ok(body),
-                Err(StoreError::Memory) => return Err(StoreError::Memory),
-                Err(error) => {
-                    self.turn();
-                    last = error;
-                }
+    // The moment after so long.
+    pub(crate) fn after(&self, limit: Duration) -> Result<Deadline, StoreError> {
+        Deadline::after(&self.net, limit)
+    }
+
+    // What the first endpoint tells that answers.
+    pub(crate) fn ask(&mut self, asked: &Asked<'_>) -> Result<Told, StoreError> {
+        let until = self.after(Duration::from_secs(CALL_SECONDS))?;
+        self.ask_until(asked, until)
+    }
+
+    // The same, until this moment at most.
+    pub(crate) fn ask_until(
+        &mut self,
+        asked: &Asked<'_>,
+        until: Deadline,
+    ) -> Result<Told, StoreError> {
+        let mut worst = StoreError::Unreachable;
+        for round in 0..asked.rounds() {
+            if round > 0 && !self.rest(asked, until) {
+                break;
             }
-            if last != StoreError::Unreachable && !asked.repeats() {
-                return Err(last);
+            match self.ask_all(asked, until) {
+                Err(error) if !is_final(error) => worst = more_telling(worst, error),
+                done => return done,
             }
         }
-        Err(last)
+        Err(worst)
+    }
+
+    // Rests before another round, if it is one for changes. Tells whether there is time for that.
+    fn rest(&self, asked: &Asked<'_>, until: Deadline) -> bool {
+        let rest = Duration::from_millis(REST_MILLIS);
+        match until.left(&self.net) {
+            Ok(left) if matches!(asked, Asked::Commit(..)) => {
+                sleep(&self.net, rest.min(left));
+                true
+            }
+            Ok(_) => true,
+            Err(_) => false,
+        }
+    }
+
+    // Asks each endpoint once, until one answers.
+    fn ask_all(&mut self, asked: &Asked<'_>, until: Deadline) -> Result<Told, StoreError> {
+        let mut worst = StoreError::Unreachable;
+        let count = u32::try_from(self.hosts.len()).unwrap_or(u32::MAX);
+        for asked_before in 0..count {
+            let left = match until.left(&self.net) {
+                Ok(left) => left,
+                Err(_) => break,
+            };
+            let share = share_of(left, count - asked_before);
+            match self.ask_here(asked, share) {
+                Err(error) if !is_final(error) => worst = more_telling(worst, error),
+                done => return done,
+            }
+            self.turn();
+        }
+        Err(worst)
     }
 
     // The next endpoint is asked from now on.
@@ -139,179 +147,146 @@ impl<R: Net<Stream = TcpStream> + AllocGlobal + Clone + Drop> Wire<R> {
         }
     }
 
-    // The body of this endpoint's answer.
-    fn ask_here(&mut self, asked: &Asked<'_>) -> Result<Vec<u8>, StoreError> {
-        let host = host_at(&self.hosts, self.at)?;
-        let request = asked.write(self.net.alloc(), host)?;
-        self.send(&request)
-    }
-
-    // The same of a request's bytes.
-    fn send(&mut self, request: &[u8]) -> Result<Vec<u8>, StoreError> {
-        let mut stream = self.connection()?;
-        let answer = exchange(self.net.alloc(), &mut stream, request)?;
-        self.stream = Some(stream);
-        body_of(answer)
-    }
-
-    // The connection to this endpoint, or a new one where it has ended.
-    fn connection(&mut self) -> Result<TcpStream, StoreError> {
-        let host = host_at(&self.hosts, self.at)?;
-        match self.stream.take() {
-            Some(stream) if is_open(&stream) => Ok(stream),
-            _ => connect(&self.net, host.text.as_str()),
+    // What this endpoint tells.
+    fn ask_here(&mut self, asked: &Asked<'_>, limit: Duration) -> Result<Told, StoreError> {
+        let alloc = self.net.alloc();
+        let until = Deadline::after(&self.net, limit)?;
+        let request = asked.write(alloc, host_at(&self.hosts, self.at)?)?;
+        match self.send(&request, until)? {
+            Received::Answer(answer) => {
+                self.has_answered = true;
+                Ok(asked.read(alloc, &body_of(alloc, answer)?)?)
+            }
+            Received::Nothing if self.has_answered => Err(StoreError::Unanswered),
+            Received::Nothing => Err(self.why_nothing()),
         }
     }
 
-    // A lease of so many seconds.
-    pub(crate) fn grant(&mut self, seconds: u64) -> Result<u64, StoreError> {
-        let body = self.ask(&Asked::Grant(seconds))?;
-        Ok(read_granted(self.alloc(), &body)?.number)
+    // Sends a request's bytes, and tells what comes.
+    fn send(&mut self, request: &[u8], until: Deadline) -> Result<Received, StoreError> {
+        let mut stream = self.connection(until)?;
+        let received = exchange(&self.net, &mut stream, request, until)?;
+        self.stream = Some(stream);
+        Ok(received)
     }
 
-    // Makes changes, where the key of the owner of the document of this name was written at this revision.
+    // The connection to this endpoint, or a new one where it has ended.
+    fn connection(&mut self, until: Deadline) -> Result<TcpStream, StoreError> {
+        let host = host_at(&self.hosts, self.at)?;
+        match self.stream.take() {
+            Some(stream) if is_open(&stream) => Ok(stream),
+            _ => connect(&self.net, host.text.as_str(), until),
+        }
+    }
+
+    // Why this endpoint ends connections without a byte.
+    fn why_nothing(&self) -> StoreError {
+        match self.speaks_tls() {
+            Ok(true) => StoreError::TlsWanted,
+            _ => StoreError::Unanswered,
+        }
+    }
+
+    // Checks whether this endpoint speaks TLS.
+    fn speaks_tls(&self) -> Result<bool, StoreError> {
+        let until = self.after(Duration::from_millis(TLS_MILLIS))?;
+        let host = host_at(&self.hosts, self.at)?;
+        speaks_tls(&self.net, host.text.as_str(), until)
+    }
+
+    // The number of a new lease of so many seconds.
+    pub(crate) fn grant(&mut self, seconds: u64) -> Result<u64, StoreError> {
+        match self.ask(&Asked::Grant(seconds))? {
+            Told::Lease(lease) => Ok(lease.number),
+            _ => Err(StoreError::Unanswered),
+        }
+    }
+
+    // A lease that goes on, until this moment.
+    pub(crate) fn keep_alive(&mut self, lease: u64, until: Deadline) -> Result<Lease, StoreError> {
+        match self.ask_until(&Asked::KeepAlive(lease), until)? {
+            Told::Lease(lease) => Ok(lease),
+            _ => Err(StoreError::Unanswered),
+        }
+    }
+
+    // Whether changes were made, where a key holds what is expected.
     pub(crate) fn commit(
         &mut self,
-        name: &[u8],
-        owner: u64,
-        changes: &[Change<'_>],
-    ) -> Result<Committed, StoreError> {
-        let key = owner_key(self.alloc(), name)?;
-        self.commit_under(&key, owner, changes)
-    }
-
-    // The same by the key of the owner.
-    fn commit_under(
-        &mut self,
         key: &[u8],
-        owner: u64,
+        expected: Expected<'_>,
         changes: &[Change<'_>],
     ) -> Result<Committed, StoreError> {
-        let body = self.ask(&Asked::Commit(key, owner, changes))?;
-        Ok(read_committed(self.alloc(), &body)?)
+        match self.ask(&Asked::Commit(key, expected, changes))? {
+            Told::Committed(committed) => Ok(committed),
+            _ => Err(StoreError::Unanswered),
+        }
     }
 
-    // These keys with their values, so many at most, as they stood at this revision.
+    // These keys, so many at most, as they stood at this revision, without their values.
+    pub(crate) fn names(
+        &mut self,
+        keys: &Keys,
+        most: u64,
+        revision: u64,
+    ) -> Result<Found, StoreError> {
+        self.find(&Asked::Names(keys, most, revision))
+    }
+
+    // The same with their values.
     pub(crate) fn values(
         &mut self,
         keys: &Keys,
         most: u64,
         revision: u64,
     ) -> Result<Found, StoreError> {
-        let body = self.ask(&Asked::Values(keys, most, revision))?;
-        Ok(read_found(self.alloc(), &body)?)
+        self.find(&Asked::Values(keys, most, revision))
+    }
+
+    // The same as they stand now, until this moment.
+    pub(crate) fn values_until(
+        &mut self,
+        keys: &Keys,
+        most: u64,
+        until: Deadline,
+    ) -> Result<Found, StoreError> {
+        found_in(self.ask_until(&Asked::Values(keys, most, 0), until)?)
+    }
+
+    // The keys that are asked for.
+    fn find(&mut self, asked: &Asked<'_>) -> Result<Found, StoreError> {
+        found_in(self.ask(asked)?)
     }
 }
 
-// `Lost`, where the changes weren't made.
-pub(crate) fn require_done(committed: Committed) -> Result<(), StoreError> {
-    if committed.done {
-        Ok(())
-    } else {
-        Err(StoreError::Lost)
+// The keys that were found.
+fn found_in(told: Told) -> Result<Found, StoreError> {
+    match told {
+        Told::Found(found) => Ok(found),
+        _ => Err(StoreError::Unanswered),
     }
 }
 
-// Sends a request on this connection, and answers what comes.
-fn exchange(alloc: Global, stream: &mut TcpStream, request: &[u8]) -> Result<Answer, StoreError> {
-    stream.write_all(request)?;
-    receive(alloc, stream)
+// One of so many, by chance.
+fn chosen<R: RandomSource>(source: &R, count: usize) -> usize {
+    let mut bits = [0u8; 4];
+    if source.fill_bytes(&mut bits).is_err() {
+        return 0;
+    }
+    let number = u32::from_le_bytes(bits) as usize;
+    number.checked_rem(count).unwrap_or(0)
 }
 
-// The body of an answer that says that all is well.
-fn body_of(answer: Answer) -> Result<Vec<u8>, StoreError> {
+// The body of an answer that says that all is well, or why it says otherwise.
+fn body_of(alloc: Global, answer: Answer) -> Result<Vec<u8>, StoreError> {
     if answer.status == 200 {
-        Ok(answer.body)
-    } else {
-        Err(StoreError::Unanswered)
+        return Ok(answer.body);
     }
-}
-
-// A connection to an endpoint, by its first address that takes one in time.
-fn connect<R: Net<Stream = TcpStream>>(net: &R, host: &str) -> Result<TcpStream, StoreError> {
-    let Ok(addresses) = host.to_socket_addrs(net) else {
-        return Err(StoreError::Unreachable);
-    };
-    for address in addresses {
-        let limit = Duration::from_secs(CONNECT_SECONDS);
-        if let Ok(stream) = TcpStream::connect_timeout(net, &address, limit) {
-            return prepared(stream);
-        }
-    }
-    Err(StoreError::Unreachable)
-}
-
-// The connection, once it bears no long silence.
-fn prepared(stream: TcpStream) -> Result<TcpStream, StoreError> {
-    prepare(&stream)?;
-    Ok(stream)
-}
-
-// Bounds how long the other side may be silent, and lets each piece go at once.
-fn prepare(stream: &TcpStream) -> io::Result<()> {
-    let silence = Some(Duration::from_secs(SILENCE_SECONDS));
-    stream.set_read_timeout(silence)?;
-    stream.set_write_timeout(silence)?;
-    stream.set_nodelay(true)
+    let refusal = read_refused(alloc, &answer.body)?;
+    Err(error_of(refusal))
 }
 
 // The endpoint of this number.
 fn host_at(hosts: &[Host], at: usize) -> Result<&Host, StoreError> {
     hosts.get(at).ok_or(StoreError::Unreachable)
-}
-
-// Checks whether the other side still holds the connection, and has sent nothing unasked.
-fn is_open(stream: &TcpStream) -> bool {
-    let mut byte = [0u8; 1];
-    let waiting = match stream.set_nonblocking(true) {
-        Ok(()) => stream.peek(&mut byte),
-        Err(error) => Err(error),
-    };
-    let still = matches!(waiting, Err(error) if error.kind() == ErrorKind::WouldBlock);
-    still && stream.set_nonblocking(false).is_ok()
-}
-
-// The answer that comes on this connection, and nothing after it.
-fn receive(alloc: Global, stream: &mut TcpStream) -> Result<Answer, StoreError> {
-    let mut reader = AnswerReader::new(alloc, MAX_BODY);
-    let mut waiting: Vec<u8> = Vec::new(alloc);
-    for _ in 0..u64::MAX {
-        read_next(stream, &mut waiting)?;
-        let taken = take_all(&mut reader, &waiting)?;
-        waiting.drain(..taken);
-        if reader.is_whole() {
-            break;
-        }
-    }
-    match reader.into_answer() {
-        Some(answer) if waiting.is_empty() => Ok(answer),
-        _ => Err(StoreError::Unanswered),
-    }
-}
-
-// Puts what comes next behind what waits.
-fn read_next(stream: &mut TcpStream, waiting: &mut Vec<u8>) -> Result<(), StoreError> {
-    let mut piece = [0u8; 16384];
-    let count = stream.read(&mut piece)?;
-    if count == 0 {
-        return Err(StoreError::Unanswered);
-    }
-    waiting.extend_from_slice(&piece[..count])?;
-    Ok(())
-}
-
-// Takes as much as there is, and answers how much that was.
-fn take_all(reader: &mut AnswerReader, bytes: &[u8]) -> Result<usize, GatewayError>
-    ensures { IfOk result (λ taken. taken ≤ length bytes.now) }
-{
-    let mut at = 0;
-    for _ in 0..bytes.len() {
-        let (_, rest) = bytes.split_at(at);
-        let count = reader.take(rest)?;
-        if count == 0 {
-            break;
-        }
-        at += count;
-    }
-    Ok(at)
 }

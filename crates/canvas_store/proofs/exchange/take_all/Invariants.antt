@@ -1,5 +1,5 @@
 use Rattle.std.proofs.Common.{◌≤◌, length}
-use Rattle.canvas_store.proofs.wire.take_all.Given as goal
+use Rattle.canvas_store.proofs.exchange.take_all.Given as goal
 
 -- no more was taken than there is
 abbrev pub invariant-loop : goal.invariant-loop
