@@ -1,5 +1,7 @@
 pub mod Left
 pub mod Reading
+mod Standing
+mod Refusing
 pub mod Ends
 pub mod Openings
 pub mod Lines

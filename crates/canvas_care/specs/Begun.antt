@@ -17,3 +17,7 @@ WritesBegun before after = (s : Versioned) × Appends before after (begun_line s
 -- the rows of a document were read, and its line was written
 abbrev pub WritesImported : Option (List ℕ) → Option (List ℕ) → Option (List ℕ) → Option (List ℕ) → Type 0
 WritesImported read left before after = (s : Versioned) × IsImported read left s × Appends before after (begun_line s)
+
+-- the same, and this holds of the document
+abbrev pub ImportsTo : (Versioned → Type 0) → Option (List ℕ) → Option (List ℕ) → Option (List ℕ) → Option (List ℕ) → Type 0
+ImportsTo P read left before after = (s : Versioned) × IsImported read left s × P s × Appends before after (begun_line s)

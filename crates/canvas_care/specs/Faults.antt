@@ -15,9 +15,11 @@ use Rattle.canvas_journal.specs.declared.fault.OpenError.TheVariants as opening
 use Rattle.canvas_lines.specs.declared.fault.Fault as lines
 use Rattle.canvas_lines.specs.declared.fault.Fault.TheVariants as line
 use Rattle.canvas_care.specs.declared.fault.Fault.{Fault}
-use Rattle.canvas_care.specs.declared.fault.Fault.TheVariants.{Stream, Device, InUse, Taken, NoSegment, Gone, Lost, Busy, BadLine, NoDocument, Damaged, TooLarge, Memory}
+use Rattle.canvas_care.specs.declared.fault.Fault.TheVariants.{Stream, Device, InUse, Taken, NoSegment, Gone, Lost, Identity, Busy, BadLine, NoDocument, Damaged, TooLarge, Memory}
+use Rattle.canvas_care.specs.declared.row_fault.RowFault.TheVariants.{NotARow}
+use Rattle.canvas_care.specs.RowFaults.{row_sentence}
 
--- 2 for an input that makes no document, 3 for want of memory, 4 for a stream or a folder that can't be had, 5 for damage and for a document that has gone, 6 for a journal
+-- 2 for an input that makes no document, 3 for want of memory, 4 for a stream or a folder that can't be had, 5 for damage, a document that has gone and an identity that is none, 6 for a journal
 -- without room
 abbrev pub status_of : Fault → ℕ
 status_of Stream = 4
@@ -27,8 +29,9 @@ status_of Taken = 4
 status_of NoSegment = 4
 status_of Gone = 5
 status_of Lost = 5
+status_of Identity = 5
 status_of Busy = 4
-status_of (BadLine n) = 2
+status_of (BadLine n fault) = 2
 status_of NoDocument = 2
 status_of (Damaged segment offset) = 5
 status_of TooLarge = 6
@@ -43,8 +46,9 @@ sentence Taken dir = codes "the folder " ++ dir ++ codes " holds a document, or 
 sentence NoSegment dir = codes "the folder " ++ dir ++ codes " holds no document"
 sentence Gone dir = codes "no segment of the document in " ++ dir ++ codes " is left, but its identity or sums are: put a backup in its place"
 sentence Lost dir = codes "the folder " ++ dir ++ codes " has lost something, lugcurrant check tells what: choose another backup, or restore what is left with --accept-loss"
+sentence Identity dir = codes "the file identity in " ++ dir ++ codes " isn't 32 hex digits, or not those that identity.sum names: put the one of a backup in its place, or delete both"
 sentence Busy dir = codes "the folder " ++ dir ++ codes " changes while it is checked: try again while fewer edits are made"
-sentence (BadLine n) dir = codes "line " ++ decimal n ++ codes ": no row, or not the next one, or it stands where none may"
+sentence (BadLine n fault) dir = codes "line " ++ decimal n ++ codes ": " ++ row_sentence fault
 sentence NoDocument dir = codes "the rows make no document"
 sentence (Damaged segment offset) dir = codes "the document in " ++ dir ++ codes " is damaged in segment " ++ decimal segment ++ codes " at offset " ++ decimal offset ++ codes ": put a backup in its place"
 sentence TooLarge dir = codes "the document in " ++ dir ++ codes " is too large for a checkpoint"
@@ -88,6 +92,6 @@ fault_of_folder folder.Memory = Memory
 
 -- the fault that a line or a stream is
 abbrev pub fault_of_lines : lines.Fault → Fault
-fault_of_lines (line.BadLine n) = BadLine n
+fault_of_lines (line.BadLine n) = BadLine n NotARow
 fault_of_lines line.Memory = Memory
 fault_of_lines line.Stream = Stream

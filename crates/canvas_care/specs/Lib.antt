@@ -3,6 +3,7 @@ pub mod Checkpoints
 pub mod Texts
 pub mod Shown
 pub mod Imports
+pub mod RowFaults
 pub mod Begun
 pub mod Back
 pub mod Taken

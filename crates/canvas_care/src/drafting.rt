@@ -13,9 +13,12 @@ const DRAFT: &str = ".new";
 
 const SEGMENT: &str = "segment-0000000001";
 
+// The sum of an identity that isn't there any more.
+const IDENTITY_SUM: &str = "identity.sum";
+
 /// Puts a state and its version into the folder of this path, which holds nothing of a document, as its first segment. The segment is made
 /// and synced in a hidden folder there, and then renamed: so a crash leaves all of it, or nothing that is opened. What an earlier one left is
-/// removed first, and so are sums under the segment's name.
+/// removed first, and so are sums under the segment's name, and the sum of an identity.
 ///
 /// The errors: `TooLarge`, if the checkpoint can't be written; `InUse`, if another makes a draft there; `Device`; `Memory`.
 pub(crate) fn plant_whole<R: Files<File = File> + AllocGlobal + Clone + Drop>(
@@ -76,6 +79,7 @@ fn put_in_place<R: Files<File = File> + AllocGlobal>(
     let alloc = files.alloc();
     let place = within(alloc, path, SEGMENT)?;
     removed(fs::remove_file(files, &sums_of(alloc, &place)?))?;
+    removed(fs::remove_file(files, &within(alloc, path, IDENTITY_SUM)?))?;
     fs::rename(files, within(alloc, draft, SEGMENT)?, &place)?;
     fs::open(files, path)?.sync_all()?;
     // What stays of it does no harm: nothing opens it, and the next draft removes it.

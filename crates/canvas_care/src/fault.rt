@@ -2,6 +2,7 @@
 ghost use Rattle.std.specs.Prelude.{◌≡◌, MatchResult};
 ghost use Rattle.canvas_care.specs.Faults.{IsEnd, status_of};
 
+use crate::row_fault::RowFault;
 use canvas_folder::FolderError;
 use canvas_journal::OpenError;
 use canvas_lines::Fault as LineFault;
@@ -27,11 +28,18 @@ pub enum Fault {
     Gone,
     /// What the folder holds isn't what a crash leaves: something was lost.
     Lost,
+    /// The file `identity` of the folder holds no identity, or another than its sum names; or the document in an etcd has none that is one.
+    Identity,
     /// A server makes one checkpoint after the other while the folder is checked.
     Busy,
-    /// The first line of the input, counted from 1, that is no row, or whose row doesn't come next, or doesn't stand in the document.
-    BadLine(u64),
-    /// The rows of the input make no document.
+    /// A line of the input isn't taken.
+    BadLine {
+        /// Which, counted from 1.
+        line: u64,
+        /// Why.
+        fault: RowFault,
+    },
+    /// The input has no rows.
     NoDocument,
     /// A record of the journal isn't what it has to be.
     Damaged {
@@ -52,7 +60,7 @@ impl Fault {
         ensures { result ≡ status_of self.now }
     {
         match self {
-            Fault::BadLine(_) | Fault::NoDocument => 2,
+            Fault::BadLine { .. } | Fault::NoDocument => 2,
             Fault::Memory => 3,
             Fault::Stream
             | Fault::Device
@@ -60,7 +68,7 @@ impl Fault {
             | Fault::Taken
             | Fault::NoSegment
             | Fault::Busy => 4,
-            Fault::Gone | Fault::Lost | Fault::Damaged { .. } => 5,
+            Fault::Gone | Fault::Lost | Fault::Identity | Fault::Damaged { .. } => 5,
             Fault::TooLarge => 6,
         }
     }
@@ -103,14 +111,15 @@ impl fmt::Display for Told<'_> {
                 f,
                 "the folder {dir} has lost something, lugcurrant check tells what: choose another backup, or restore what is left with --accept-loss"
             ),
+            Fault::Identity => write!(
+                f,
+                "the file identity in {dir} isn't 32 hex digits, or not those that identity.sum names: put the one of a backup in its place, or delete both"
+            ),
             Fault::Busy => write!(
                 f,
                 "the folder {dir} changes while it is checked: try again while fewer edits are made"
             ),
-            Fault::BadLine(line) => write!(
-                f,
-                "line {line}: no row, or not the next one, or it stands where none may"
-            ),
+            Fault::BadLine { line, fault } => write!(f, "line {line}: {fault}"),
             Fault::NoDocument => write!(f, "the rows make no document"),
             Fault::Damaged { segment, offset } => write!(
                 f,
@@ -247,7 +256,10 @@ impl From<LineFault> for Fault {
 
     fn from(error: LineFault) -> Fault {
         match error {
-            LineFault::BadLine(line) => Fault::BadLine(line),
+            LineFault::BadLine(line) => Fault::BadLine {
+                line,
+                fault: RowFault::NotARow,
+            },
             LineFault::Memory => Fault::Memory,
             LineFault::Stream => Fault::Stream,
         }

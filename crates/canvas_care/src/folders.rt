@@ -1,6 +1,7 @@
 // Folders of the system that hold a document, and new ones.
-ghost use Rattle.std.specs.Prelude.{OnOk};
+ghost use Rattle.std.specs.Prelude.{◌≡◌, Bool, IsTrue, OnOk, false};
 ghost use Rattle.std.specs.Io.KnownBytes.{Appends};
+ghost use Rattle.canvas_journal.specs.Meaning.{Versioned};
 ghost use Rattle.canvas_care.specs.Begun.{begun_line};
 
 use crate::drafting::plant_whole;
@@ -10,6 +11,7 @@ use canvas_folder::{DirShelf, OsFolder};
 use canvas_judge::State;
 use canvas_lines::write_out;
 use canvas_shelf::Shelf;
+use std::alloc::Global;
 use std::fs::File;
 use std::io::Write;
 use std::rt::Files;
@@ -38,6 +40,69 @@ fn none_of<R: Files<File = File> + AllocGlobal + Clone + Drop>(files: &R, dir: &
     }
 }
 
+/// A place for a new document.
+///
+/// Contracts see it as `holds`, what is found there from then on, and say so of an honest one alone.
+pub trait Ground {
+    /// What is found there.
+    ghost holds: { Self → Versioned → Type 0 };
+
+    /// It holds what it was given.
+    ghost honest: { Self → Bool };
+
+    /// Puts a state and its version there, beside nothing of another document.
+    ///
+    /// The errors: those of `begin_folder` but for `Stream`.
+    fn put(&mut self, state: &State, version: u64) -> Result<(), Fault>
+        ensures holds { IsTrue (honest self.old) → OnOk result (holds self.new (state.now, version)) }
+        ensures honest { honest self.new ≡ honest self.old };
+}
+
+/// Puts a state and its version there, and then writes the version and how many objects there are.
+///
+/// The errors: those of `put`; and `Stream`, if the output failed, and then the document is there.
+pub fn begin_on<G: Ground, W: Write>(
+    alloc: Global,
+    ground: &mut G,
+    state: &State,
+    version: u64,
+    output: &mut W,
+) -> Result<(), Fault>
+    ensures holds { IsTrue (G.honest ground.old) → OnOk result (G.holds ground.new (state.now, version)) }
+    ensures line { OnOk result (Appends (W.contents output.old) (W.contents output.new) (begun_line (state.now, version))) }
+{
+    let count = state.doc().len();
+    let line = format!(in alloc; "version {version}, objects {count}\n")?;
+    ground.put(state, version)?;
+    write_out(output, line.as_bytes())?;
+    Ok(())
+}
+
+/// A new folder of the system, which is made if it is missing, and locked while it is filled. Nothing is claimed of what it holds.
+#[derive(Drop)]
+pub(crate) struct NewFolder<'a, R: Files<File = File> + AllocGlobal + Clone + Drop> {
+    /// What makes files.
+    pub(crate) files: R,
+    /// The folder.
+    pub(crate) dir: &'a str,
+}
+
+impl<R: Files<File = File> + AllocGlobal + Clone + Drop> Ground for NewFolder<'_, R> {
+    ghost holds = { λ g s. Unit {0} };
+
+    ghost honest = { λ g. false };
+
+    fn put(&mut self, state: &State, version: u64) -> Result<(), Fault> {
+        let files = &self.files;
+        let mut shelf = DirShelf::new(files.clone()?, self.dir)?;
+        let path = shelf.folder().path()?;
+        if !shelf.list(files.alloc())?.is_empty() || trace_in(files, &path)?.is_some() {
+            return Err(Fault::Taken);
+        }
+        plant_whole(files, &path, state, version)
+    }
+}
+
 /// Puts a state and its version into a new folder, as `plant` does, and then writes the version and how many objects there are. The folder
 /// is made where it is missing, and locked meanwhile; a crash leaves the whole document, or nothing that is opened. No file `identity` is made:
 /// whoever serves the folder first gives it one, so that no client of another document goes on over this one.
@@ -56,24 +121,5 @@ pub fn begin_folder<R: Files<File = File> + AllocGlobal + Clone + Drop, W: Write
     ensures { OnOk result (Appends (W.contents output.old) (W.contents output.new) (begun_line (state.now, version))) }
 {
     let alloc = files.alloc();
-    let count = state.doc().len();
-    let line = format!(in alloc; "version {version}, objects {count}\n")?;
-    fill(files, dir, state, version)?;
-    write_out(output, line.as_bytes())?;
-    Ok(())
-}
-
-// Puts a state and its version into a folder that holds nothing of a document, which is locked meanwhile.
-fn fill<R: Files<File = File> + AllocGlobal + Clone + Drop>(
-    files: R,
-    dir: &str,
-    state: &State,
-    version: u64,
-) -> Result<(), Fault> {
-    let mut shelf = DirShelf::new(files.clone()?, dir)?;
-    let path = shelf.folder().path()?;
-    if !shelf.list(files.alloc())?.is_empty() || trace_in(&files, &path)?.is_some() {
-        return Err(Fault::Taken);
-    }
-    plant_whole(&files, &path, state, version)
+    begin_on(alloc, &mut NewFolder { files, dir }, state, version, output)
 }

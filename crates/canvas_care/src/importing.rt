@@ -1,22 +1,20 @@
-// A document from rows.
-ghost use Rattle.std.specs.Prelude.{◌≡◌, ◌++◌, ◌∷◌, [], IfOk, MatchOption, None, OnOk, Some};
-ghost use Rattle.std.specs.FinMap as map;
+// The rows of an input.
+ghost use Rattle.std.specs.Prelude.{◌≡◌, ◌++◌, ◌∷◌, [], IfErr, IfOk, MatchOption, None, OnOk, Some};
 ghost use Rattle.canvas_journal.specs.Found.{AreRowTexts};
 ghost use Rattle.canvas_journal.specs.Meaning.{Row};
 ghost use Rattle.canvas_lines.specs.Lines.{lines_of};
-ghost use Rattle.canvas_wire.specs.Text.{SpellsRow};
+ghost use Rattle.canvas_wire.specs.Text.{IsRowError, SpellsRow};
 ghost use Rattle.canvas_care.specs.Imports.{ends_in_comma, is_bracket_or_none, is_frame, row_part, row_texts, without_comma};
+ghost use Rattle.canvas_care.specs.RowFaults.{IsLineFault, IsReadFault, IsTextFault, last_id};
 
 use crate::fault::Fault;
-use canvas_doc::{Doc, ObjId, Object};
-use canvas_judge::{Counts, State};
+use crate::row_fault::RowFault;
+use crate::row_ids::{id_fault, tree_fault};
+use canvas_doc::{ObjId, Object};
 use canvas_lines::lines::split_line;
-use canvas_model::DEPTH_LIMIT;
 use canvas_wire::{WireError, decode_row};
+use serde_json::Value as Json;
 use std::alloc::{AllocError, Global};
-
-/// The greatest client that an object of an import may have: a state has the counts of each client up to it.
-const LAST_CLIENT: u32 = 1 << 24;
 
 /// Rows, and the lines that they were read from.
 #[derive(Drop)]
@@ -30,9 +28,10 @@ pub struct Rows {
 /// The rows that the lines of an input are. Empty lines are passed over, and those that are `[` or `]` alone; a comma at the end of a line
 /// is taken off. So what `rows_text` writes is read in either layout, and so is a JSON text a line.
 ///
-/// The errors: `BadLine`, for the first line that is no row, or whose id isn't above that of the row before; `Memory`.
+/// The errors: `BadLine`, for the first line that is no row, or can't come there by its id, and why (up to `TooDeepValue`); `Memory`.
 pub fn read_rows(alloc: Global, input: &[u8]) -> Result<Rows, Fault>
-    ensures { IfOk result (λ read. AreRowTexts (row_texts (lines_of input.now)) read.rows.items) }
+    ensures rows { IfOk result (λ read. AreRowTexts (row_texts (lines_of input.now)) read.rows.items) }
+    ensures faults { IfErr result (IsReadFault input.now) }
 {
     let mut read = Rows {
         rows: Vec::new(alloc),
@@ -100,110 +99,74 @@ fn ends_in_comma(line: &[u8]) -> bool
 }
 
 // Adds the row that a line's text is.
-fn add_row(alloc: Global, read: &mut Rows, number: u64, text: &[u8]) -> Result<(), Fault>
-    ensures { OnOk result ((row : Row) × SpellsRow text.now row × (read.new.rows.items ≡ read.old.rows.items ++ row ∷ [])) }
+fn add_row(alloc: Global, read: &mut Rows, line: u64, text: &[u8]) -> Result<(), Fault>
+    ensures ok { OnOk result ((row : Row) × SpellsRow text.now row × (read.new.rows.items ≡ read.old.rows.items ++ row ∷ [])) }
+    ensures fault { IfErr result (IsLineFault line (last_id read.old.rows.items) text.now) }
 {
-    let row = match decode_row(alloc, alloc, text) {
-        Ok(row) => row,
-        Err(WireError::Memory) => return Err(Fault::Memory),
-        Err(_) => return Err(Fault::BadLine(number)),
-    };
-    if row.0.client > LAST_CLIENT || !follows(&read.rows, row.0) {
-        return Err(Fault::BadLine(number));
-    }
+    let row = row_of(alloc, line, last_id(&read.rows), text)?;
     read.rows.push(row)?;
-    read.lines.push(number)?;
+    read.lines.push(line)?;
     Ok(())
 }
 
-// Checks whether an id may come behind these rows: the root's first, and then each above the one before.
-fn follows(rows: &[(ObjId, Object)], id: ObjId) -> bool {
-    match rows.last() {
-        Some(last) => last.0 < id,
-        None => id == ObjId::ROOT,
-    }
-}
-
-/// The state of the document that these rows are. Its clients have made the objects, and no edit of theirs was judged.
-///
-/// The errors: `BadLine`, for the first row whose parent isn't there or may not have it, that stands where another does, or deeper than 100;
-/// `NoDocument`, where the rows make none; `Memory`.
-pub fn document_of(alloc: Global, read: Rows) -> Result<State, Fault>
-    ensures { IfOk result (λ state. map.entries state.doc ≡ read.rows.items) }
+// The id of the last of these rows.
+fn last_id(rows: &[(ObjId, Object)]) -> Option<ObjId>
+    ensures { result ≡ last_id rows.now }
 {
-    let Rows { rows, lines } = read;
-    let clients = counts_of(alloc, &rows)?;
-    let made = Doc::from_objects(rows)?;
-    let Some(doc) = made else {
-        return Err(Fault::NoDocument);
+    match rows.last() {
+        Some(row) => Some(row.0),
+        None => None,
+    }
+}
+
+// The row that the text of the line of this number is, which comes after one with that id.
+fn row_of(
+    alloc: Global,
+    line: u64,
+    last: Option<ObjId>,
+    text: &[u8],
+) -> Result<(ObjId, Object), Fault>
+    ensures ok { IfOk result (SpellsRow text.now) }
+    ensures fault { IfErr result (IsLineFault line last text.now) }
+{
+    match decode_row(alloc, alloc, text) {
+        Ok(row) => match id_fault(last, row.0) {
+            Some(fault) => Err(Fault::BadLine { line, fault }),
+            None => Ok(row),
+        },
+        Err(error) => match text_fault(alloc, last, text, error) {
+            Ok(fault) => Err(Fault::BadLine { line, fault }),
+            Err(error) => Err(Fault::from(error)),
+        },
+    }
+}
+
+// Why a text that isn't read as a row, for this error, is none after one with that id.
+fn text_fault(
+    alloc: Global,
+    last: Option<ObjId>,
+    text: &[u8],
+    error: WireError,
+) -> Result<RowFault, AllocError>
+    requires { IsRowError text.now error }
+    ensures { IfOk result (IsTextFault last text.now) }
+{
+    let json = match Json::from_slice(alloc, text) {
+        Ok(json) => json,
+        Err(error) => return if error.is_memory() {
+            Err(AllocError)
+        } else {
+            Ok(RowFault::NotARow)
+        },
     };
-    if let Some(line) = misplaced(&doc, &lines) {
-        return Err(Fault::BadLine(line));
+    if let Some(fault) = tree_fault(last, &json) {
+        return Ok(fault);
     }
-    let found = State::from_parts(doc, clients)?;
-    let Some(state) = found else {
-        return Err(Fault::NoDocument);
-    };
-    Ok(state)
-}
-
-// The counts of the clients that made these objects.
-fn counts_of(alloc: Global, rows: &[(ObjId, Object)]) -> Result<Vec<Counts>, AllocError> {
-    let mut clients = Vec::new(alloc);
-    for row in rows {
-        count(&mut clients, row.0)?;
+    match error {
+        WireError::NotJson => Ok(RowFault::NotARow),
+        WireError::NotAMessage => Ok(RowFault::Parts),
+        WireError::OutOfRange => Ok(RowFault::Range),
+        WireError::TooDeep => Ok(RowFault::TooDeepValue),
+        WireError::Memory => Err(AllocError),
     }
-    Ok(clients)
-}
-
-// Counts an object as one of its client's.
-fn count(clients: &mut Vec<Counts>, id: ObjId) -> Result<(), AllocError> {
-    if id == ObjId::ROOT || id.client == 0 {
-        return Ok(());
-    }
-    let at = id.client as usize - 1;
-    if clients.len() <= at {
-        clients.resize(at + 1, Counts { done: 0, used: 0 })?;
-    }
-    if let Some(counts) = clients.get_mut(at) {
-        counts.used = counts.used.max(id.counter);
-    }
-    Ok(())
-}
-
-// The line of the first row that may not stand where it does.
-fn misplaced(doc: &Doc, lines: &[u64]) -> Option<u64> {
-    for (row, line) in doc.objects().zip(lines) {
-        if !stands(doc, row.0, &row.1) {
-            return Some(*line);
-        }
-    }
-    None
-}
-
-// Checks whether an object stands where it may, alone at its place, and not too deep.
-fn stands(doc: &Doc, id: ObjId, object: &Object) -> bool {
-    let Some(place) = object.place() else {
-        return true;
-    };
-    match doc.kind_of(place.parent) {
-        Some(parent) => {
-            object.kind().may_stand_under(parent)
-                && !doc.taken(place.parent, &place.pos, id)
-                && is_near_root(doc, id)
-        }
-        None => false,
-    }
-}
-
-// Checks whether the object's chain of parents leads to the root in no more steps than an object may be deep.
-fn is_near_root(doc: &Doc, id: ObjId) -> bool {
-    let mut at = id;
-    for _ in 0..DEPTH_LIMIT {
-        match doc.place_of(at) {
-            Some(place) => at = place.parent,
-            None => return at == ObjId::ROOT,
-        }
-    }
-    at == ObjId::ROOT
 }

@@ -9,7 +9,8 @@ use std::io::{self, ErrorKind};
 use std::rt::Files;
 
 /// What is left of a document in a folder, beside its segments: its identity, or sums that name bytes of a segment, of the highest such
-/// segment. Neither is there before a first segment was synced. `None` if nothing is left, also of a folder that is missing. Writes nothing.
+/// segment. Neither is there before a first segment was synced. The sum of an identity alone says nothing: whoever deletes `identity` by hand
+/// leaves it. `None` if nothing is left, also of a folder that is missing. Writes nothing.
 ///
 /// The errors: `Device`, if the folder can't be read; `Memory`.
 pub fn trace_in<R: Files<File = File> + AllocGlobal + Clone + Drop>(

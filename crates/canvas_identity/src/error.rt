@@ -11,6 +11,9 @@ pub enum IdentityError {
     /// What stands there is no identity.
     #[error("not 32 hex digits")]
     NotOne,
+    /// The sum beside it names another.
+    #[error("not the one that identity.sum names")]
+    Changed,
     /// The file can't be read or written, or the system gives no random bits.
     #[error("the folder can't be read and written")]
     Device,

@@ -1,8 +1,9 @@
-//! Which document it is. A folder's is told by 128 random bits as 32 hex digits, in the file `identity` beside the segments, and if
-//! one in an etcd is, by the hosts and its name.
+//! Which document it is. A folder's is told by 128 random bits as 32 hex digits, in the file `identity` beside the segments, whose
+//! sum is in `identity.sum`; and if one in an etcd is, by the hosts and its name.
 #![tactic(auto)]
 
 mod address;
+mod drawer;
 mod error;
 mod files;
 
@@ -11,6 +12,7 @@ ghost use Rattle.canvas_http.specs.Identities.{IsIdentity};
 
 pub use address::{Address, AddressError};
 use canvas_http::is_identity;
+pub use drawer::{Drawer, settle};
 pub use error::IdentityError;
 pub use files::{identity, keep_identity, made_identity, read_identity, remove_identity};
 use std::alloc::Global;

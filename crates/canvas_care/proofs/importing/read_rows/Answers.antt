@@ -1,18 +1,26 @@
-use Rattle.std.proofs.Common.{◌++◌, [], ◌∷◌, List, subst, sym}
-use Rattle.canvas_journal.specs.Found.{AreRowTexts}
-use Rattle.canvas_journal.specs.Meaning.{Row}
+use Rattle.std.proofs.Common.{◌++◌, [], ◌∷◌}
 use Rattle.canvas_lines.specs.Lines.{lines_of}
-use Rattle.canvas_care.specs.Imports.{row_texts}
-use Rattle.canvas_care.proofs.Reading.{next_text, one_more}
+use Rattle.canvas_care.proofs.Reading.{count_on, line_on, row_on, row_off}
 use Rattle.canvas_care.proofs.importing.read_rows.Goals as goal
 
 pub loop-line-preserved-in-Continue-1 : goal.loop-line-preserved-in-Continue-1
 loop-line-preserved-in-Continue-1 c =
+    let line = c.in-Some.line.now in
     let text = c.in-Some-row_part.text.now in
-    let done = c.loop-line.invariant.0 in
-    let added = c.in_ok-add_row.ensures in
-    let are : AreRowTexts (done ++ text ∷ []) (c.loop-line.read.rows.items ++ added.0 ∷ []) = one_more done c.loop-line.read.rows.items text added.0 c.loop-line.invariant.1 added.1 in (
-      done ++ text ∷ [],
-      subst (λ (rows : List Row). AreRowTexts (done ++ text ∷ []) rows) (sym added.2) are,
-      next_text done text c.in-Some.line.now (lines_of c.loop-line.rest.now) (lines_of c.in-Some.more.now) (row_texts (lines_of c.args.input.now)) c.in-Some.ensures.some c.in-Some-row_part.ensures c.loop-line.invariant.2,
+    let before = c.loop-line.invariant in
+    let added = c.in_ok-add_row.ensures.ok in (
+      before.0 ++ line ∷ [],
+      row_on before.0 line text c.loop-line.read.rows.items _ added.0 before.1 c.in-Some-row_part.ensures added.1 added.2,
+      line_on before.0 (lines_of c.loop-line.rest.now) (lines_of c.in-Some.more.now) (lines_of c.args.input.now) line c.in-Some.ensures.some before.2,
+      λ few. count_on c.loop-line.number c.saturating_add-number.result before.0 line c.saturating_add-number.ensures before.3 few,
+    )
+
+pub loop-line-preserved : goal.loop-line-preserved
+loop-line-preserved c =
+    let line = c.in-Some.line.now in
+    let before = c.loop-line.invariant in (
+      before.0 ++ line ∷ [],
+      row_off before.0 line c.loop-line.read.rows.items before.1 c.in_default-row_part.ensures,
+      line_on before.0 (lines_of c.loop-line.rest.now) (lines_of c.in-Some.more.now) (lines_of c.args.input.now) line c.in-Some.ensures.some before.2,
+      λ few. count_on c.loop-line.number c.saturating_add-number.result before.0 line c.saturating_add-number.ensures before.3 few,
     )

@@ -9,5 +9,5 @@ use Rattle.canvas_care.proofs.restoring.document_in.Goals as goal
 pub returns : goal.returns
 returns c =
     IfOk-weaker c.document_of.result _ _
-    (λ state same. subst (λ (rows : List Row). AreRowTexts (row_texts (lines_of c.args.text.now)) rows) (sym same) c.in_ok-rows.ensures)
-    c.document_of.ensures
+    (λ state same. subst (λ (rows : List Row). AreRowTexts (row_texts (lines_of c.args.text.now)) rows) (sym same) c.in_ok-rows.ensures.rows)
+    c.document_of.ensures.document
