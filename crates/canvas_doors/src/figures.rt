@@ -1,9 +1,10 @@
 // What a server counts while it runs.
 ghost use Rattle.std.specs.Prelude.{◌≡◌};
-ghost use Rattle.canvas_doors.specs.Figures.{checkpoint_at};
+ghost use Rattle.canvas_doors.specs.Figures.{checkpoint_at, next_checkpoint_at};
 
 use crate::noes::NoCounts;
 use canvas_figures::Numbers;
+use canvas_folder::{Refusal, Space};
 use canvas_judge::NoReason;
 use canvas_meter::Meter;
 use canvas_watch::{Notes, ShelfCall};
@@ -24,11 +25,16 @@ pub struct Figures {
     requests: AtomicU64,
     noes: NoCounts,
     notes: Notes,
+    // The refused checkpoints, if the document is in a folder; how many of them were seen, and the version before which no other is tried.
+    space: Option<Space>,
+    seen_refused: AtomicU64,
+    held_until: AtomicU64,
 }
 
 impl Figures {
-    /// Nothing is counted yet, but what the journal's meter says, and what is noted of its folder. What the journal opened with is published.
-    pub fn new(meter: Arc<Meter, Global>, notes: Notes) -> Figures {
+    /// Nothing is counted yet, but what the journal's meter says, and what is noted of its shelf, and of its folder, if it is in one. What
+    /// the journal opened with is published.
+    pub fn new(meter: Arc<Meter, Global>, notes: Notes, space: Option<Space>) -> Figures {
         let opened = meter.version();
         Figures {
             meter,
@@ -41,6 +47,9 @@ impl Figures {
             requests: AtomicU64::new(0),
             noes: NoCounts::new(),
             notes,
+            space,
+            seen_refused: AtomicU64::new(0),
+            held_until: AtomicU64::new(0),
         }
     }
 
@@ -63,12 +72,35 @@ impl Figures {
     pub fn least_copy(&self) -> u64 {
         self.published
             .load(Ordering::SeqCst)
-            .saturating_sub(self.checkpoint_at())
+            .saturating_sub(self.least_entries())
     }
 
-    /// How many entries stand after a checkpoint when the next one is made.
-    pub fn checkpoint_at(&self) -> u64 {
+    // How many entries pay for a checkpoint.
+    fn least_entries(&self) -> u64 {
         checkpoint_at(self.objects.load(Ordering::SeqCst))
+    }
+
+    /// How many entries stand after a checkpoint when the next one is made. If it is refused, it is tried again after the same number of further
+    /// entries.
+    pub fn checkpoint_at(&self) -> u64 {
+        let least = self.least_entries();
+        let refused = self.refused();
+        if self.seen_refused.swap(refused, Ordering::SeqCst) != refused {
+            let until = self.meter.version().saturating_add(least);
+            self.held_until.store(until, Ordering::SeqCst);
+        }
+        let until = self.held_until.load(Ordering::SeqCst);
+        next_checkpoint_at(least, self.floor(), until)
+    }
+
+    // How many checkpoints were refused.
+    fn refused(&self) -> u64 {
+        self.space.as_ref().map_or(0, |space| space.refused())
+    }
+
+    /// Why the last checkpoint that was to be made wasn't, if it is known; None if it was made.
+    pub fn refusal(&self) -> Option<Refusal> {
+        self.space.as_ref()?.last()
     }
 
     /// A client has connected. Answers how many have, with this one.
@@ -121,6 +153,7 @@ impl Figures {
             entries: self.meter.entries(),
             syncs: self.meter.syncs(),
             checkpoints: self.meter.checkpoints(),
+            checkpoints_refused: self.refused(),
             checkpoint_micros: self.meter.checkpoint_micros(),
             checkpoint_bytes: self.notes.counts().checkpoint_bytes,
         }
@@ -133,4 +166,11 @@ fn checkpoint_at(objects: u64) -> u64
     ensures { result ≡ checkpoint_at objects }
 {
     objects.max(256)
+}
+
+// The same, if the last checkpoint is at version `floor` and none is tried before version `until`.
+fn next_checkpoint_at(least: u64, floor: u64, until: u64) -> u64
+    ensures { result ≡ next_checkpoint_at least floor until }
+{
+    least.max(until.saturating_sub(floor))
 }

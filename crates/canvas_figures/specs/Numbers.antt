@@ -71,6 +71,7 @@ journal_text n =
     counter (codes "lugcurrant_entries_total") n.entries
     ++ counter (codes "lugcurrant_syncs_total") n.syncs
     ++ counter (codes "lugcurrant_checkpoints_total") n.checkpoints
+    ++ counter (codes "lugcurrant_checkpoints_refused_total") n.checkpoints_refused
     ++ seconds_counter (codes "lugcurrant_checkpoint_seconds_total") n.checkpoint_micros
     ++ gauge (codes "lugcurrant_checkpoint_bytes") n.checkpoint_bytes
 

@@ -36,6 +36,8 @@ pub struct Numbers {
     pub syncs: u64,
     /// How many checkpoints were made.
     pub checkpoints: u64,
+    /// How many checkpoints were to be made, and had no room or no open file.
+    pub checkpoints_refused: u64,
     /// How many microseconds they took together.
     pub checkpoint_micros: u64,
     /// How many bytes the last of them has.

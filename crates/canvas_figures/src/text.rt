@@ -210,6 +210,7 @@ impl fmt::Display for JournalText<'_> {
             entries,
             syncs,
             checkpoints,
+            checkpoints_refused,
             checkpoint_micros,
             checkpoint_bytes,
             ..
@@ -217,9 +218,10 @@ impl fmt::Display for JournalText<'_> {
         let entries = Counter("lugcurrant_entries_total", entries);
         let syncs = Counter("lugcurrant_syncs_total", syncs);
         let checkpoints = Counter("lugcurrant_checkpoints_total", checkpoints);
+        let refused = Counter("lugcurrant_checkpoints_refused_total", checkpoints_refused);
         let seconds = SecondsCounter("lugcurrant_checkpoint_seconds_total", checkpoint_micros);
         let bytes = Gauge("lugcurrant_checkpoint_bytes", checkpoint_bytes);
-        write!(f, "{entries}{syncs}{checkpoints}{seconds}{bytes}")
+        write!(f, "{entries}{syncs}{checkpoints}{refused}{seconds}{bytes}")
     }
 }
 
