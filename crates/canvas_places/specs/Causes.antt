@@ -1,10 +1,12 @@
--- What is told of a loss, and of a call that failed, inside a sentence.
+-- What is told of a loss, of a call that failed, and of an etcd, inside a sentence.
 use Rattle.std.specs.Prelude.{ℕ, List, [], ◌++◌, codes, Option, Some, None}
 use Rattle.std.specs.Fmt.{decimal}
 use Rattle.canvas_losses.specs.declared.loss.Loss.{Loss}
 use Rattle.canvas_losses.specs.declared.loss.Loss.TheVariants.{Sums, NoCheckpoint, NoCutRecord, Gone}
 use Rattle.canvas_losses.specs.declared.trace.Trace.{Trace}
 use Rattle.canvas_losses.specs.declared.trace.Trace.TheVariants as trace
+use Rattle.canvas_store.specs.declared.error.StoreError.{StoreError}
+use Rattle.canvas_store.specs.declared.error.StoreError.TheVariants.{Unreachable, Unanswered, Refused, TlsWanted, NoSpace, Damaged, Lost, Memory}
 use Rattle.canvas_sums.specs.declared.fault.SumFault.{SumFault}
 use Rattle.canvas_sums.specs.declared.fault.SumFault.TheVariants.{Unreadable, Short, Changed}
 use Rattle.canvas_watch.specs.declared.call.ShelfCall.{ShelfCall}
@@ -43,3 +45,30 @@ cause_text (Some (call.Create n)) = done_to n (codes " was made")
 cause_text (Some (call.Append n)) = done_to n (codes " was written")
 cause_text (Some (call.Sync n)) = done_to n (codes " was synced")
 cause_text (Some (call.Retire n)) = done_to n (codes " was removed")
+
+-- what is wrong with an etcd that didn't do what it was asked
+abbrev pub why_text : StoreError → List ℕ
+why_text Unreachable = codes "can't be reached"
+why_text Unanswered = codes "doesn't answer"
+why_text Refused = codes "wants a password, or denies permission"
+why_text TlsWanted = codes "wants TLS"
+why_text NoSpace = codes "has no space left"
+why_text Damaged = codes "holds damaged or foreign keys"
+why_text Lost = codes "no longer names this server as its owner"
+why_text Memory = codes "wasn't asked, out of memory"
+
+-- what a person may do about that
+abbrev pub advice_text : StoreError → List ℕ
+advice_text Unreachable = codes "look at its URLs, and whether it runs"
+advice_text Unanswered = codes "look at its health"
+advice_text Refused = codes "turn its authentication off"
+advice_text TlsWanted = codes "name a port with plain HTTP, or a tunnel"
+advice_text NoSpace = codes "make room in it"
+advice_text Damaged = codes "delete the foreign ones, or put a snapshot in its place"
+advice_text Lost = codes "start again"
+advice_text Memory = codes "free some"
+
+-- the same inside a sentence, if it is known
+abbrev pub because_text : Option StoreError → List ℕ
+because_text None = []
+because_text (Some error) = codes ", because the etcd " ++ why_text error

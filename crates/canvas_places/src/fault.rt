@@ -1,8 +1,8 @@
 // What ends a server: its sentence, and the status that the program ends with.
 ghost use Rattle.std.specs.Prelude.{◌≡◌};
-ghost use Rattle.canvas_places.specs.Faults.{status_of};
+ghost use Rattle.canvas_places.specs.Faults.{fault_of_cause, fault_of_etcd, status_of, store_status};
 
-use crate::causes::{Cause, Lost};
+use crate::causes::{Advice, Because, Cause, Lost, Why};
 use canvas_etcd::EtcdError;
 use canvas_folder::FolderError;
 use canvas_identity::IdentityError;
@@ -31,10 +31,15 @@ pub enum Fault {
     NoFolder,
     /// The file `identity` of the folder holds no identity.
     NoIdentity,
+    /// The file `identity` of the folder holds another identity than its sum names.
+    ChangedIdentity,
     /// Another server has the document in the etcd.
     DocumentInUse,
-    /// The etcd can't be reached, or doesn't answer.
-    NoStore,
+    /// The etcd doesn't do what it is asked.
+    NoStore {
+        /// Why it doesn't.
+        why: StoreError,
+    },
     /// The key `identity` of the document in the etcd holds no identity.
     NoKey,
     /// A record of the journal isn't what it has to be.
@@ -53,6 +58,11 @@ pub enum Fault {
     NotKept,
     /// The journal has no room for its checkpoint.
     TooLarge,
+    /// The disk has no room to open the document.
+    NoSpace {
+        /// How many bytes are missing.
+        missing: u64,
+    },
     /// A thread couldn't be made.
     NoThread,
     /// The journal failed while the server ran.
@@ -64,9 +74,15 @@ pub enum Fault {
     StoreFailed {
         /// The first call that failed, where that is known.
         call: Option<ShelfCall>,
+        /// Why the last one failed, if it is known.
+        why: Option<StoreError>,
     },
     /// The lease of the document in the etcd has ended.
     LeaseEnded,
+    /// The file that ends the server when it comes is there before it starts, or can't be looked at.
+    StopFile,
+    /// The file that ends the server has come: all is in good order.
+    Stopped,
     /// Memory ran out.
     Memory,
 }
@@ -77,22 +93,62 @@ impl Fault {
         ensures { result ≡ status_of self.now }
     {
         match self {
-            Fault::ClientCount | Fault::NoPage => 2,
+            Fault::Stopped => 0,
+            Fault::ClientCount | Fault::NoPage | Fault::StopFile => 2,
             Fault::Memory => 3,
             Fault::PortInUse
             | Fault::NoPort
             | Fault::FolderInUse
             | Fault::NoFolder
             | Fault::DocumentInUse
-            | Fault::NoStore
             | Fault::NotKept
+            | Fault::NoSpace { .. }
             | Fault::NoThread
             | Fault::JournalFailed { .. }
             | Fault::StoreFailed { .. }
             | Fault::LeaseEnded => 4,
-            Fault::NoIdentity | Fault::NoKey | Fault::Damaged { .. } | Fault::Lost { .. } => 5,
+            Fault::NoStore { why } => store_status(*why),
+            Fault::NoIdentity
+            | Fault::ChangedIdentity
+            | Fault::NoKey
+            | Fault::Damaged { .. }
+            | Fault::Lost { .. } => 5,
             Fault::TooLarge => 6,
         }
+    }
+}
+
+/// The program's status if an etcd doesn't do what it is asked: 5 if a person must look at the document.
+pub fn store_status(why: StoreError) -> u8
+    ensures { result ≡ store_status why }
+{
+    match why {
+        StoreError::Damaged => 5,
+        StoreError::Memory => 3,
+        _ => 4,
+    }
+}
+
+/// The fault that a call is that the etcd didn't do, for this reason if one is known.
+pub fn fault_of_cause(why: Option<StoreError>) -> Fault
+    ensures { result ≡ fault_of_cause why }
+{
+    match why {
+        Some(error) => Fault::from(error),
+        None => Fault::NoStore {
+            why: StoreError::Unanswered,
+        },
+    }
+}
+
+/// The fault that a document in an etcd is that isn't taken over, whose store failed last for this reason.
+pub fn fault_of_etcd(error: EtcdError, why: Option<StoreError>) -> Fault
+    ensures { result ≡ fault_of_etcd why error }
+{
+    match error {
+        EtcdError::InUse => Fault::DocumentInUse,
+        EtcdError::Device => fault_of_cause(why),
+        EtcdError::Memory => Fault::Memory,
     }
 }
 
@@ -135,11 +191,15 @@ impl fmt::Display for Told<'_> {
                 f,
                 "the file identity in {dir} isn't 32 hex digits: put the one of a backup in its place"
             ),
-            Fault::DocumentInUse => write!(f, "another server has the document {dir}"),
-            Fault::NoStore => write!(
+            Fault::ChangedIdentity => write!(
                 f,
-                "the etcd of the document {dir} can't be reached, or doesn't answer: look at its health"
+                "the file identity in {dir} isn't the one that identity.sum names: put the one of a backup in its place, or delete both"
             ),
+            Fault::DocumentInUse => write!(f, "another server has the document {dir}"),
+            Fault::NoStore { why } => {
+                let (told, advice) = (Why(why), Advice(why));
+                write!(f, "the etcd of the document {dir} {told}: {advice}")
+            }
             Fault::NoKey => write!(
                 f,
                 "the identity of the document {dir} isn't 32 hex digits: put the right one in its place"
@@ -160,6 +220,10 @@ impl fmt::Display for Told<'_> {
                 "what opening {dir} loses can't be copied to {dir}/lost: look at its rights and at the disk, and move away what is there"
             ),
             Fault::TooLarge => write!(f, "the document in {dir} is too large for a checkpoint"),
+            Fault::NoSpace { missing } => write!(
+                f,
+                "the disk of {dir} has no room to open the document: {missing} bytes are missing; free them, or move the folder"
+            ),
             Fault::NoThread => write!(
                 f,
                 "no thread can be made: ask for fewer clients, or raise the system's limit"
@@ -171,17 +235,22 @@ impl fmt::Display for Told<'_> {
                     "the disk of {dir} failed{cause}: what was acknowledged is kept; look at the disk, and start anew"
                 )
             }
-            Fault::StoreFailed { call } => {
-                let cause = Cause(call);
+            Fault::StoreFailed { call, why } => {
+                let (cause, because) = (Cause(call), Because(why));
                 write!(
                     f,
-                    "the store of {dir} failed{cause}: what was acknowledged is kept; another server may have the document by now"
+                    "the store of {dir} failed{cause}{because}: what was acknowledged is kept; another server may have the document by now"
                 )
             }
             Fault::LeaseEnded => write!(
                 f,
                 "the lease of the document {dir} has ended: another server may have it by now"
             ),
+            Fault::StopFile => write!(
+                f,
+                "--stop-file wants a path at which no file is yet: remove what is there"
+            ),
+            Fault::Stopped => write!(f, ""),
             Fault::Memory => write!(f, "out of memory"),
         }
     }
@@ -229,22 +298,9 @@ impl From<IdentityError> for Fault {
     fn from(error: IdentityError) -> Fault {
         match error {
             IdentityError::NotOne => Fault::NoIdentity,
+            IdentityError::Changed => Fault::ChangedIdentity,
             IdentityError::Device => Fault::NoFolder,
             IdentityError::Memory => Fault::Memory,
-        }
-    }
-}
-
-impl From<EtcdError> for Fault {
-    ghost use Rattle.canvas_places.specs.Faults.{fault_of_etcd};
-
-    ghost from_gives = { λ error fault. fault ≡ fault_of_etcd error };
-
-    fn from(error: EtcdError) -> Fault {
-        match error {
-            EtcdError::InUse => Fault::DocumentInUse,
-            EtcdError::Device => Fault::NoStore,
-            EtcdError::Memory => Fault::Memory,
         }
     }
 }
@@ -257,8 +313,8 @@ impl From<StoreError> for Fault {
     fn from(error: StoreError) -> Fault {
         match error {
             StoreError::Lost => Fault::DocumentInUse,
-            StoreError::Unreachable | StoreError::Unanswered => Fault::NoStore,
             StoreError::Memory => Fault::Memory,
+            why => Fault::NoStore { why },
         }
     }
 }
@@ -287,6 +343,7 @@ impl From<canvas_care::Fault> for Fault {
         match error {
             canvas_care::Fault::InUse => Fault::FolderInUse,
             canvas_care::Fault::Damaged { segment, offset } => Fault::Damaged { segment, offset },
+            canvas_care::Fault::Identity => Fault::NoIdentity,
             canvas_care::Fault::TooLarge => Fault::TooLarge,
             canvas_care::Fault::Memory => Fault::Memory,
             canvas_care::Fault::Stream

@@ -2,34 +2,38 @@
 ghost use Rattle.std.specs.Prelude.{◌≡◌, IfOk, false};
 
 use canvas_etcd::EtcdShelf;
-use canvas_folder::{DirShelf, OsFolder};
+use canvas_folder::{DirShelf, Folder};
 use canvas_shelf::{CreateError, DeviceFailed, Shelf, ShelfError};
 use canvas_store::EtcdStore;
 use canvas_watch::{SumFiles, Watched, Witness};
 use std::alloc::{AllocError, Allocator, Global};
 use std::net::{Net, TcpStream};
+use std::random::RandomSource;
+use std::time::Clock;
 
-/// A folder of the process, which is watched.
-type WatchedFolder = Watched<DirShelf<OsFolder<HostRuntime>>, SumFiles<HostRuntime>>;
+/// The shelf of a folder, which is watched.
+type WatchedFolder<F> = Watched<DirShelf<F>, SumFiles<HostRuntime>>;
 
-/// The shelf of a folder of the process, which is watched: the sums of its segments are written, and the first call that fails is noted. It
-/// does what that shelf does, and lies on the heap under a name of its own, so that the types above it stay short.
-pub struct FolderShelf {
-    shelf: Box<WatchedFolder>,
+/// The shelf of a folder, which is watched: the sums of its segments are written, and the first call that fails is noted. It does what that
+/// shelf does, over an honest folder as an honest one, and lies on the heap under a name of its own, so that the types above it stay short.
+pub struct FolderShelf<F: Folder + Drop> {
+    shelf: Box<WatchedFolder<F>>,
 }
 
-impl Drop for FolderShelf {
+impl<F: Folder + Drop> Drop for FolderShelf<F> {
     fn drop(self) {
         let FolderShelf { shelf: _ } = self;
     }
 }
 
-impl FolderShelf {
+impl<F: Folder + Drop> FolderShelf<F> {
     /// The same shelf, put on the heap.
     ///
     /// Fails if memory runs out.
-    pub fn new(alloc: Global, shelf: WatchedFolder) -> Result<Self, AllocError>
-        ensures { IfOk result (λ s. ⟦<FolderShelf as Shelf>⟧.honest s ≡ false) }
+    pub fn new(alloc: Global, shelf: WatchedFolder<F>) -> Result<Self, AllocError>
+        ensures honest { IfOk result (λ s. ⟦<FolderShelf<F> as Shelf>⟧.honest s ≡ ⟦<WatchedFolder<F> as Shelf>⟧.honest shelf) }
+        ensures disk { IfOk result (λ s. ⟦<FolderShelf<F> as Shelf>⟧.disk s ≡ ⟦<WatchedFolder<F> as Shelf>⟧.disk shelf) }
+        ensures past { IfOk result (λ s. ⟦<FolderShelf<F> as Shelf>⟧.past s ≡ ⟦<WatchedFolder<F> as Shelf>⟧.past shelf) }
     {
         match Box::new(alloc, shelf) {
             Ok(shelf) => Ok(FolderShelf { shelf }),
@@ -38,17 +42,18 @@ impl FolderShelf {
     }
 }
 
-impl Shelf for FolderShelf {
-    ghost disk = { λ s. ⟦<WatchedFolder as Shelf>⟧.disk s.shelf.value };
+impl<F: Folder + Drop> Shelf for FolderShelf<F> {
+    ghost use Rattle.canvas_folder.specs.Sound.{sound_disk};
 
-    ghost past = { λ s. ⟦<WatchedFolder as Shelf>⟧.past s.shelf.value };
+    ghost disk = { λ s. ⟦<WatchedFolder<F> as Shelf>⟧.disk s.shelf.value };
 
-    ghost honest = { λ s. ⟦<WatchedFolder as Shelf>⟧.honest s.shelf.value };
+    ghost past = { λ s. ⟦<WatchedFolder<F> as Shelf>⟧.past s.shelf.value };
 
-    ghost failure_count = { λ s. ⟦<WatchedFolder as Shelf>⟧.failure_count s.shelf.value };
+    ghost honest = { λ s. ⟦<WatchedFolder<F> as Shelf>⟧.honest s.shelf.value };
 
-    // Nothing is claimed of what a folder of the system holds (`OsFolder`).
-    ghost sound = { λ s h. record { falls = tt; segments = tt } };
+    ghost failure_count = { λ s. ⟦<WatchedFolder<F> as Shelf>⟧.failure_count s.shelf.value };
+
+    ghost sound = { λ s h. sound_disk (F.value s.shelf.value.shelf.folder).files (F.sound s.shelf.value.shelf.folder h) };
 
     fn list<A: Allocator>(&mut self, alloc: A) -> Result<Vec<u32, A>, ShelfError> {
         self.shelf.list(alloc)
@@ -98,17 +103,22 @@ type WatchedDocument<R> = Watched<EtcdShelf<EtcdStore<R>>, NoWitness>;
 
 /// The shelf of a document in an etcd, which is watched: the first call that fails is noted. It does what that shelf does, and lies on the
 /// heap under a name of its own, so that the types above it stay short.
-pub struct DocumentShelf<R: Net<Stream = TcpStream> + AllocGlobal + Clone + Drop> {
+pub struct DocumentShelf<
+    R: Net<Stream = TcpStream> + Clock + RandomSource + AllocGlobal + Clone + Drop,
+> {
     shelf: Box<WatchedDocument<R>>,
 }
 
-impl<R: Net<Stream = TcpStream> + AllocGlobal + Clone + Drop> Drop for DocumentShelf<R> {
+impl<R: Net<Stream = TcpStream> + Clock + RandomSource + AllocGlobal + Clone + Drop> Drop
+    for DocumentShelf<R> {
     fn drop(self) {
         let DocumentShelf { shelf: _ } = self;
     }
 }
 
-impl<R: Net<Stream = TcpStream> + AllocGlobal + Clone + Drop> DocumentShelf<R> {
+impl<R: Net<Stream = TcpStream> + Clock + RandomSource + AllocGlobal + Clone + Drop> DocumentShelf<
+    R,
+> {
     /// The same shelf, put on the heap.
     ///
     /// Fails if memory runs out.
@@ -122,7 +132,8 @@ impl<R: Net<Stream = TcpStream> + AllocGlobal + Clone + Drop> DocumentShelf<R> {
     }
 }
 
-impl<R: Net<Stream = TcpStream> + AllocGlobal + Clone + Drop> Shelf for DocumentShelf<R> {
+impl<R: Net<Stream = TcpStream> + Clock + RandomSource + AllocGlobal + Clone + Drop> Shelf
+    for DocumentShelf<R> {
     ghost disk = { λ s. ⟦<WatchedDocument<R> as Shelf>⟧.disk s.shelf.value };
 
     ghost past = { λ s. ⟦<WatchedDocument<R> as Shelf>⟧.past s.shelf.value };
