@@ -117,6 +117,8 @@ pub struct Serving {
     pub page: Option<String>,
     /// Whether a folder is opened although that loses something, which is copied to its folder `lost` first.
     pub accept_loss: bool,
+    /// The file at which the server ends once it is there, if one is named.
+    pub stop_file: Option<String>,
     /// Whether faults alone are told.
     pub quiet: bool,
 }
@@ -132,6 +134,7 @@ impl Drop for Serving {
             origins: _,
             page: _,
             accept_loss: _,
+            stop_file: _,
             quiet: _,
         } = self;
     }
@@ -152,6 +155,7 @@ impl Serving {
             origins,
             page,
             accept_loss: _,
+            stop_file: _,
             quiet: _,
         } = self;
         (origins, page)

@@ -9,18 +9,22 @@ use crate::error::{WordError, WordsError};
 use canvas_care::Layout;
 use canvas_http::is_origin;
 use canvas_identity::Address;
+use clap::error::ErrorKind;
 use clap::{Arg, ArgAction, ArgGroup, ArgMatches, Command, value_parser};
 use std::alloc::{AllocError, Global};
 
 /// What the words ask for, of which the first is the program's name.
 ///
-/// The errors: `Line` is `clap`'s: it has the text to print, which for `--help` and `--version` is no fault, and the program's status;
-/// `Word`, where an origin, a URL or a name isn't as it has to be, or memory ran out.
+/// The errors: `Line` is `clap`'s: it has the text to print, which for `--help` and `--version` is no fault, and the program's status, and
+/// never is that memory ran out; `Word`, if an origin, a URL or a name isn't as it has to be, or memory ran out.
 pub fn read_words<'a>(alloc: Global, words: &'a [String]) -> Result<Asked, WordsError>
     ensures { IfOk result AsksForOrigins }
 {
     match program(alloc)?.try_get_matches_from(words) {
         Ok(matches) => asked_of(alloc, &matches),
+        Err(error) if error.kind() == ErrorKind::OutOfMemory => {
+            Err(WordsError::Word(WordError::Memory))
+        }
         Err(error) => Err(WordsError::Line(error)),
     }
 }
@@ -228,6 +232,7 @@ fn serve_command<'a>(alloc: Global) -> Result<Command<'a>, AllocError> {
     let serve = with_arg(serve, Ok(origin(alloc)));
     let serve = with_arg(serve, Ok(page(alloc)));
     let serve = with_arg(serve, accept_loss(alloc));
+    let serve = with_arg(serve, Ok(stop_file(alloc)));
     with_arg(serve, Ok(flag(alloc, "quiet", "Log errors only")))
 }
 
@@ -307,6 +312,12 @@ fn page<'a>(alloc: Global) -> Arg<'a> {
         "FOLDER",
         "Serve the web page in this folder at /",
     )
+}
+
+// The file at which the server ends, as an argument.
+fn stop_file<'a>(alloc: Global) -> Arg<'a> {
+    let help = "Stop in good order, with status 0, once this file exists";
+    option(alloc, "stop-file", "FILE", help)
 }
 
 // The words of `show`.
@@ -413,7 +424,8 @@ fn serving_of(alloc: Global, matches: &ArgMatches<'_>) -> Result<Serving, WordsE
     ensures { IfOk result NamesOrigins }
 {
     let origins = origins_of(alloc, matches)?;
-    let page = page_of(alloc, matches)?;
+    let page = path_of(alloc, matches, "page")?;
+    let stop_file = path_of(alloc, matches, "stop-file")?;
     Ok(Serving {
         is_standby: matches.get_flag("standby"),
         port: matches.get_one("port").unwrap_or(7411),
@@ -423,6 +435,7 @@ fn serving_of(alloc: Global, matches: &ArgMatches<'_>) -> Result<Serving, WordsE
         origins,
         page,
         accept_loss: matches.get_flag("accept-loss"),
+        stop_file,
         quiet: matches.get_flag("quiet"),
     })
 }
@@ -448,10 +461,14 @@ fn origin_in(alloc: Global, text: &str) -> Result<String, WordsError>
     Ok(String::from_str(alloc, text)?)
 }
 
-// The folder of the page's files, if one is named.
-fn page_of(alloc: Global, matches: &ArgMatches<'_>) -> Result<Option<String>, AllocError> {
-    match matches.get_str("page") {
-        Some(folder) => Ok(Some(String::from_str(alloc, folder)?)),
+// The path under this name, if one is named.
+fn path_of(
+    alloc: Global,
+    matches: &ArgMatches<'_>,
+    name: &str,
+) -> Result<Option<String>, AllocError> {
+    match matches.get_str(name) {
+        Some(path) => Ok(Some(String::from_str(alloc, path)?)),
         None => Ok(None),
     }
 }
