@@ -7,6 +7,7 @@ ghost use Rattle.canvas_care.specs.Checks.{WritesShelf};
 ghost use Rattle.canvas_care.specs.Logs.{WritesLog};
 ghost use Rattle.canvas_care.specs.Shown.{WritesRows};
 
+use crate::fault::{RemoteFault, fault_of_command};
 use crate::opening::{existing, taken};
 use canvas_care::{
     Fault, Layout, check_shelf, import, log_shelf, plant, show_rows_of, show_tree_of,
@@ -16,95 +17,122 @@ use canvas_judge::State;
 use canvas_lines::write_out;
 use std::alloc::Global;
 use std::io::{Read, Write};
-use std::net::{Net, TcpStream};
+use std::net::{Net, TcpListener, TcpStream};
+use std::random::RandomSource;
+use std::sync::Wait;
+use std::thread::Threads;
+use std::time::Clock;
 
 /// Writes the version and the tree of a document. Writes nothing to the etcd, and a server may have the document meanwhile.
 ///
-/// The errors: `NoSegment`, where there is no such document; `Device`, where the etcd didn't answer; `Damaged`, `Memory` and `Stream` as
-/// `show_tree_of` answers them.
-pub fn show_tree<R: Net<Stream = TcpStream> + AllocGlobal + Clone + Drop, W: Write>(
-    net: &R,
-    address: &Address,
-    output: &mut W,
-) -> Result<(), Fault>
+/// The errors: `NoSegment`, where there is no such document; `Store`, if the etcd didn't do what it was asked; `Damaged`, `Memory` and
+/// `Stream` as `show_tree_of` answers them.
+pub fn show_tree<R, W>(net: &R, address: &Address, output: &mut W) -> Result<(), RemoteFault>
+where
+    R: Net<Stream = TcpStream> + Clock + RandomSource + AllocGlobal + Clone + Drop,
+    W: Write,
     ensures form { OnOk result (WritesReport (W.contents output.old) (W.contents output.new)) }
-    ensures unwritten { IfErr result (λ fault. (fault ≡ Fault.Stream → ⊥) → W.contents output.new ≡ W.contents output.old) }
+    ensures unwritten { IfErr result (λ fault. (fault ≡ RemoteFault.Command Fault.Stream → ⊥) → W.contents output.new ≡ W.contents output.old) }
 {
     let alloc = net.alloc();
-    let mut shelf = existing(net, address)?;
-    show_tree_of(alloc, &mut shelf, output)
+    let (mut shelf, causes) = existing(net, address)?;
+    match show_tree_of(alloc, &mut shelf, output) {
+        Ok(()) => Ok(()),
+        Err(fault) => Err(fault_of_command(fault, causes.last())),
+    }
 }
 
 /// Writes the rows of a document. Else it is as `show_tree`.
-pub fn show_rows<R: Net<Stream = TcpStream> + AllocGlobal + Clone + Drop, W: Write>(
+pub fn show_rows<R, W>(
     net: &R,
     address: &Address,
     layout: Layout,
     output: &mut W,
-) -> Result<(), Fault>
+) -> Result<(), RemoteFault>
+where
+    R: Net<Stream = TcpStream> + Clock + RandomSource + AllocGlobal + Clone + Drop,
+    W: Write,
     ensures form { OnOk result (WritesRows layout (W.contents output.old) (W.contents output.new)) }
-    ensures unwritten { IfErr result (λ fault. (fault ≡ Fault.Stream → ⊥) → W.contents output.new ≡ W.contents output.old) }
+    ensures unwritten { IfErr result (λ fault. (fault ≡ RemoteFault.Command Fault.Stream → ⊥) → W.contents output.new ≡ W.contents output.old) }
 {
     let alloc = net.alloc();
-    let mut shelf = existing(net, address)?;
-    show_rows_of(alloc, &mut shelf, layout, output)
+    let (mut shelf, causes) = existing(net, address)?;
+    match show_rows_of(alloc, &mut shelf, layout, output) {
+        Ok(()) => Ok(()),
+        Err(fault) => Err(fault_of_command(fault, causes.last())),
+    }
 }
 
 /// Tells what stands in a document's segments, as `check_shelf` does. An etcd keeps what it was given, so no sums are looked at. Writes
 /// nothing to it, and a server may have the document meanwhile.
 ///
-/// The errors are those of `check_shelf`; `NoSegment` and `Device` as at `show_tree`.
-pub fn check<R: Net<Stream = TcpStream> + AllocGlobal + Clone + Drop, W: Write>(
-    net: &R,
-    address: &Address,
-    output: &mut W,
-) -> Result<(), Fault>
+/// The errors are those of `check_shelf`; `NoSegment` and `Store` as at `show_tree`.
+pub fn check<R, W>(net: &R, address: &Address, output: &mut W) -> Result<(), RemoteFault>
+where
+    R: Net<Stream = TcpStream> + Clock + RandomSource + AllocGlobal + Clone + Drop,
+    W: Write,
     ensures form { OnOk result (WritesShelf (W.contents output.old) (W.contents output.new)) }
 {
     let alloc = net.alloc();
-    let mut shelf = existing(net, address)?;
-    check_shelf(alloc, &mut shelf, output)
+    let (mut shelf, causes) = existing(net, address)?;
+    match check_shelf(alloc, &mut shelf, output) {
+        Ok(()) => Ok(()),
+        Err(fault) => Err(fault_of_command(fault, causes.last())),
+    }
 }
 
 /// Writes the entries past a document's checkpoint, as `log_shelf` does. Else it is as `show_tree`.
-pub fn log<R: Net<Stream = TcpStream> + AllocGlobal + Clone + Drop, W: Write>(
-    net: &R,
-    address: &Address,
-    output: &mut W,
-) -> Result<(), Fault>
+pub fn log<R, W>(net: &R, address: &Address, output: &mut W) -> Result<(), RemoteFault>
+where
+    R: Net<Stream = TcpStream> + Clock + RandomSource + AllocGlobal + Clone + Drop,
+    W: Write,
     ensures form { OnOk result (WritesLog (W.contents output.old) (W.contents output.new)) }
-    ensures unwritten { IfErr result (λ fault. (fault ≡ Fault.Stream → ⊥) → W.contents output.new ≡ W.contents output.old) }
+    ensures unwritten { IfErr result (λ fault. (fault ≡ RemoteFault.Command Fault.Stream → ⊥) → W.contents output.new ≡ W.contents output.old) }
 {
     let alloc = net.alloc();
-    let mut shelf = existing(net, address)?;
-    log_shelf(alloc, &mut shelf, output)
+    let (mut shelf, causes) = existing(net, address)?;
+    match log_shelf(alloc, &mut shelf, output) {
+        Ok(()) => Ok(()),
+        Err(fault) => Err(fault_of_command(fault, causes.last())),
+    }
 }
 
 /// Makes a new document of the rows of an input, and then writes the version and how many objects there are. Whoever serves it first gives
 /// it an identity.
 ///
 /// The errors: those of `import`, and then nothing was asked of the etcd; `InUse`, where a server has the document; `Taken`, where it is
-/// there already; `Device`, where the etcd didn't answer; `TooLarge`, `Memory`, `Stream`.
+/// there already; `Store`, if the etcd didn't do what it was asked; `NoThread`; `TooLarge`, `Memory`, `Stream`.
 pub fn import_document<R, I, W>(
     net: &R,
     address: &Address,
     input: &mut I,
     output: &mut W,
-) -> Result<(), Fault>
+) -> Result<(), RemoteFault>
 where
-    R: Net<Stream = TcpStream> + AllocGlobal + Clone + Drop,
+    R: Net<Listener = TcpListener, Stream = TcpStream>
+        + Threads
+        + Wait
+        + Clock
+        + RandomSource
+        + AllocGlobal
+        + Clone
+        + Send
+        + Drop
+        + 'static,
     I: Read,
     W: Write,
     ensures { OnOk result (WritesImported (I.remaining input.old) (I.remaining input.new) (W.contents output.old) (W.contents output.new)) }
 {
     let alloc = net.alloc();
     let (state, version) = import(alloc, input)?;
-    let (mut shelf, lease) = taken(net, address)?;
-    let planted = plant(alloc, &mut shelf, &state, version);
-    // A lease that isn't released ends by itself.
-    let _ = lease.release();
-    planted?;
-    tell_begun(alloc, &state, version, output)
+    let mut taken = taken(net, address)?;
+    let planted = plant(alloc, &mut taken.shelf, &state, version);
+    taken.kept.release(net);
+    if let Err(fault) = planted {
+        return Err(fault_of_command(fault, taken.causes.last()));
+    }
+    tell_begun(alloc, &state, version, output)?;
+    Ok(())
 }
 
 /// Writes the version of a document, and how many objects there are.

@@ -9,5 +9,5 @@ mod opening;
 
 pub use carrying::carry;
 pub use commands::{check, import_document, log, show_rows, show_tree};
-pub use fault::{Told, end, finish};
+pub use fault::{RemoteFault, Told, end, finish};
 pub use moving::{MoveFault, move_in, move_out};

@@ -4,7 +4,8 @@ ghost use Rattle.canvas_care.specs.Begun.{WritesBegun};
 
 use crate::carrying::carry;
 use crate::commands::tell_begun;
-use crate::opening::{Remote, fault_of_store, taken};
+use crate::fault::{RemoteFault, fault_of_cause, fault_of_command};
+use crate::opening::{Held, taken};
 use canvas_care::{Fault, check};
 use canvas_folder::{DirShelf, OsFolder};
 use canvas_identity::{
@@ -12,12 +13,16 @@ use canvas_identity::{
 };
 use canvas_judge::State;
 use canvas_shelf::Shelf;
-use canvas_store::{Lease, StoreError};
+use canvas_store::{Causes, Lease, StoreError};
 use std::alloc::{AllocError, Global};
 use std::fs::File;
 use std::io::Write;
-use std::net::{Net, TcpStream};
+use std::net::{Net, TcpListener, TcpStream};
+use std::random::RandomSource;
 use std::rt::Files;
+use std::sync::Wait;
+use std::thread::Threads;
+use std::time::Clock;
 
 /// Why a document wasn't moved, or not wholly, and which of its places it is of.
 #[derive(Clone, Copy, Debug, PartialEq, Eq)]
@@ -25,7 +30,7 @@ pub enum MoveFault {
     /// It is of the folder.
     Folder(Fault),
     /// It is of the document in the etcd.
-    Document(Fault),
+    Document(RemoteFault),
 }
 
 impl From<AllocError> for MoveFault {
@@ -38,14 +43,15 @@ impl From<IdentityError> for MoveFault {
     fn from(error: IdentityError) -> MoveFault {
         MoveFault::Folder(match error {
             IdentityError::Memory => Fault::Memory,
-            IdentityError::NotOne | IdentityError::Device => Fault::Device,
+            IdentityError::NotOne | IdentityError::Changed => Fault::Identity,
+            IdentityError::Device => Fault::Device,
         })
     }
 }
 
 impl From<StoreError> for MoveFault {
     fn from(error: StoreError) -> MoveFault {
-        MoveFault::Document(fault_of_store(error))
+        MoveFault::Document(RemoteFault::from(error))
     }
 }
 
@@ -53,8 +59,8 @@ impl From<StoreError> for MoveFault {
 /// are. Its identity goes with it, so that clients go on over it there; the segments stay in the folder, which gets another identity if it is
 /// ever served again. The folder is checked first, as `check` of `canvas_care` does.
 ///
-/// The faults of the folder: `NoSegment`, `InUse`, `Damaged`, `Device`, `Memory`, and `Stream` where the output failed; of the document:
-/// `InUse`, `Taken`, `Device`, `TooLarge`, `Memory`. If the etcd has failed, the document may be in both places, and its identity in one or
+/// The faults of the folder: `NoSegment`, `InUse`, `Damaged`, `Identity`, `Device`, `Memory`, and `Stream` where the output failed; of the document:
+/// `InUse`, `Taken`, `Store`, `NoThread`, `TooLarge`, `Memory`. If the etcd has failed, the document may be in both places, and its identity in one or
 /// in none: then clients begin anew.
 pub fn move_in<R, D, W>(
     net: &R,
@@ -64,7 +70,16 @@ pub fn move_in<R, D, W>(
     output: &mut W,
 ) -> Result<(), MoveFault>
 where
-    R: Net<Stream = TcpStream> + AllocGlobal + Clone + Drop,
+    R: Net<Listener = TcpListener, Stream = TcpStream>
+        + Threads
+        + Wait
+        + Clock
+        + RandomSource
+        + AllocGlobal
+        + Clone
+        + Send
+        + Drop
+        + 'static,
     D: Files<File = File> + AllocGlobal + Clone + Drop,
     W: Write,
     ensures { OnOk result (WritesBegun (W.contents output.old) (W.contents output.new)) }
@@ -73,6 +88,8 @@ where
     look_first(&files, dir)?;
     let mut folder = locked(&files, dir)?;
     let path = path_of(&folder)?;
+    // Nothing is written if the identity can't be read.
+    read_identity(&files, &path)?;
     let (state, version) = take_in(net, &files, &path, &mut folder, address)?;
     told(alloc, &state, version, output)
 }
@@ -86,16 +103,24 @@ fn take_in<R, D>(
     address: &Address,
 ) -> Result<(State, u64), MoveFault>
 where
-    R: Net<Stream = TcpStream> + AllocGlobal + Clone + Drop,
+    R: Net<Listener = TcpListener, Stream = TcpStream>
+        + Threads
+        + Wait
+        + Clock
+        + RandomSource
+        + AllocGlobal
+        + Clone
+        + Send
+        + Drop
+        + 'static,
     D: Files<File = File> + AllocGlobal + Clone + Drop,
 {
-    let (mut shelf, mut lease) = document(net, address)?;
-    let done = match carry(net.alloc(), folder, &mut shelf) {
-        Ok(found) => hand_in(files, dir, &mut lease, found),
-        Err(fault) => Err(fault_of_in(fault)),
+    let mut taken = document(net, address)?;
+    let done = match carry(net.alloc(), folder, &mut taken.shelf) {
+        Ok(found) => hand_in(files, dir, &mut taken.lease, found),
+        Err(fault) => Err(fault_of_in(fault, &taken.causes)),
     };
-    // A lease that isn't released ends by itself.
-    let _ = lease.release();
+    taken.kept.release(net);
     done
 }
 
@@ -107,7 +132,7 @@ fn hand_in<R, D>(
     found: (State, u64),
 ) -> Result<(State, u64), MoveFault>
 where
-    R: Net<Stream = TcpStream> + AllocGlobal + Clone + Drop,
+    R: Net<Stream = TcpStream> + Clock + RandomSource + AllocGlobal + Clone + Drop,
     D: Files<File = File> + AllocGlobal,
 {
     if let Some(identity) = read_identity(files, dir)? {
@@ -118,20 +143,29 @@ where
 }
 
 // Of which place a fault of carrying a document into an etcd is.
-fn fault_of_in(fault: Fault) -> MoveFault {
+fn fault_of_in(fault: Fault, causes: &Causes) -> MoveFault {
     match fault {
         Fault::Damaged { segment, offset } => {
             MoveFault::Folder(Fault::Damaged { segment, offset })
         }
-        fault => MoveFault::Document(fault),
+        Fault::Device => fault_of_device(causes),
+        fault => MoveFault::Document(RemoteFault::Command(fault)),
+    }
+}
+
+// Which of the two devices failed while a document was carried.
+fn fault_of_device(causes: &Causes) -> MoveFault {
+    match causes.last() {
+        None => MoveFault::Folder(Fault::Device),
+        why => MoveFault::Document(fault_of_cause(why)),
     }
 }
 
 /// Moves a document out of an etcd into a new folder, and then writes its version and how many objects there are. Its identity goes with it;
 /// the segments stay in the etcd, where the document gets another identity if it is ever served again.
 ///
-/// The faults of the folder: `Taken`, where it holds a segment or an identity, `InUse`, `Device`, `TooLarge`, `Memory`, and `Stream` where the
-/// output failed; of the document: `NoSegment`, `InUse`, `Damaged`, `Device`, `Memory`. If a fault came late, the document may be in both
+/// The faults of the folder: `Taken`, where it holds a segment or an identity, `Identity`, `InUse`, `Device`, `TooLarge`, `Memory`, and `Stream` where the
+/// output failed; of the document: `NoSegment`, `InUse`, `Damaged`, `Identity`, `Store`, `NoThread`, `Memory`. If a fault came late, the document may be in both
 /// places, and its identity in one or in none: then clients begin anew.
 pub fn move_out<R, D, W>(
     net: &R,
@@ -141,36 +175,39 @@ pub fn move_out<R, D, W>(
     output: &mut W,
 ) -> Result<(), MoveFault>
 where
-    R: Net<Stream = TcpStream> + AllocGlobal + Clone + Drop,
+    R: Net<Listener = TcpListener, Stream = TcpStream>
+        + Threads
+        + Wait
+        + Clock
+        + RandomSource
+        + AllocGlobal
+        + Clone
+        + Send
+        + Drop
+        + 'static,
     D: Files<File = File> + AllocGlobal + Clone + Drop,
     W: Write,
     ensures { OnOk result (WritesBegun (W.contents output.old) (W.contents output.new)) }
 {
     let alloc = net.alloc();
-    let (mut shelf, mut lease) = document(net, address)?;
-    let done = take_out(&files, dir, &mut shelf, &mut lease);
-    // A lease that isn't released ends by itself.
-    let _ = lease.release();
+    let mut taken = document(net, address)?;
+    let done = take_out(&files, dir, &mut taken);
+    taken.kept.release(net);
     let (state, version) = done?;
     told(alloc, &state, version, output)
 }
 
 // Carries a document out of an etcd into a folder, with its identity.
-fn take_out<R, D>(
-    files: &D,
-    dir: &str,
-    shelf: &mut Remote<R>,
-    lease: &mut Lease<R>,
-) -> Result<(State, u64), MoveFault>
+fn take_out<R, D>(files: &D, dir: &str, taken: &mut Held<R>) -> Result<(State, u64), MoveFault>
 where
-    R: Net<Stream = TcpStream> + AllocGlobal + Clone + Drop,
+    R: Net<Stream = TcpStream> + Clock + RandomSource + AllocGlobal + Clone + Drop,
     D: Files<File = File> + AllocGlobal + Clone + Drop,
 {
-    is_there(files.alloc(), shelf)?;
+    is_there(files.alloc(), taken)?;
     let mut folder = locked(files, dir)?;
     let path = path_of(&folder)?;
-    let found = fill(files, &path, shelf, &mut folder)?;
-    hand_out(files, &path, lease)?;
+    let found = fill(files, &path, taken, &mut folder)?;
+    hand_out(files, &path, &mut taken.lease)?;
     Ok(found)
 }
 
@@ -178,26 +215,26 @@ where
 fn fill<R, D>(
     files: &D,
     dir: &str,
-    shelf: &mut Remote<R>,
+    taken: &mut Held<R>,
     folder: &mut DirShelf<OsFolder<D>>,
 ) -> Result<(State, u64), MoveFault>
 where
-    R: Net<Stream = TcpStream> + AllocGlobal + Clone + Drop,
+    R: Net<Stream = TcpStream> + Clock + RandomSource + AllocGlobal + Clone + Drop,
     D: Files<File = File> + AllocGlobal + Clone + Drop,
 {
     if read_identity(files, dir)?.is_some() {
         return Err(MoveFault::Folder(Fault::Taken));
     }
-    match carry(files.alloc(), shelf, folder) {
+    match carry(files.alloc(), &mut taken.shelf, folder) {
         Ok(found) => Ok(found),
-        Err(fault) => Err(fault_of_out(fault)),
+        Err(fault) => Err(fault_of_out(fault, &taken.causes)),
     }
 }
 
 // Takes the identity from the document, and gives it to the folder.
 fn hand_out<R, D>(files: &D, dir: &str, lease: &mut Lease<R>) -> Result<(), MoveFault>
 where
-    R: Net<Stream = TcpStream> + AllocGlobal + Clone + Drop,
+    R: Net<Stream = TcpStream> + Clock + RandomSource + AllocGlobal + Clone + Drop,
     D: Files<File = File> + AllocGlobal,
 {
     if let Some(text) = lease.identity()? {
@@ -208,11 +245,12 @@ where
 }
 
 // Of which place a fault of carrying a document out of an etcd is.
-fn fault_of_out(fault: Fault) -> MoveFault {
+fn fault_of_out(fault: Fault, causes: &Causes) -> MoveFault {
     match fault {
         Fault::Damaged { segment, offset } => {
-            MoveFault::Document(Fault::Damaged { segment, offset })
+            MoveFault::Document(RemoteFault::Command(Fault::Damaged { segment, offset }))
         }
+        Fault::Device => fault_of_device(causes),
         fault => MoveFault::Folder(fault),
     }
 }
@@ -250,26 +288,40 @@ fn path_of<D: Files<File = File> + AllocGlobal + Clone + Drop>(
     }
 }
 
-// The shelf of a document, and the lease under which it was taken over.
-fn document<R: Net<Stream = TcpStream> + AllocGlobal + Clone + Drop>(
-    net: &R,
-    address: &Address,
-) -> Result<(Remote<R>, Lease<R>), MoveFault> {
+// A document that is taken over.
+fn document<R>(net: &R, address: &Address) -> Result<Held<R>, MoveFault>
+where
+    R: Net<Listener = TcpListener, Stream = TcpStream>
+        + Threads
+        + Wait
+        + Clock
+        + RandomSource
+        + AllocGlobal
+        + Clone
+        + Send
+        + Drop
+        + 'static,
+{
     match taken(net, address) {
-        Ok(found) => Ok(found),
+        Ok(taken) => Ok(taken),
         Err(fault) => Err(MoveFault::Document(fault)),
     }
 }
 
 // Fails where there is no such document.
-fn is_there<R: Net<Stream = TcpStream> + AllocGlobal + Clone + Drop>(
-    alloc: Global,
-    shelf: &mut Remote<R>,
-) -> Result<(), MoveFault> {
-    match shelf.list(alloc) {
-        Ok(listed) if listed.is_empty() => Err(MoveFault::Document(Fault::NoSegment)),
+fn is_there<R>(alloc: Global, taken: &mut Held<R>) -> Result<(), MoveFault>
+where
+    R: Net<Stream = TcpStream> + Clock + RandomSource + AllocGlobal + Clone + Drop,
+{
+    match taken.shelf.list(alloc) {
+        Ok(listed) if listed.is_empty() => {
+            Err(MoveFault::Document(RemoteFault::Command(Fault::NoSegment)))
+        }
         Ok(_) => Ok(()),
-        Err(error) => Err(MoveFault::Document(Fault::from(error))),
+        Err(error) => {
+            let fault = fault_of_command(Fault::from(error), taken.causes.last());
+            Err(MoveFault::Document(fault))
+        }
     }
 }
 
@@ -280,9 +332,15 @@ fn keep_text<D: Files<File = File> + AllocGlobal>(
     text: &[u8],
 ) -> Result<(), MoveFault> {
     let Ok(text) = str::from_utf8(text) else {
-        return Err(MoveFault::Document(Fault::Device));
+        return Err(MoveFault::Document(RemoteFault::Command(Fault::Identity)));
     };
-    let identity = identity_in(files.alloc(), text)?;
+    let identity = match identity_in(files.alloc(), text) {
+        Ok(identity) => identity,
+        Err(IdentityError::Memory) => return Err(MoveFault::Document(RemoteFault::Command(
+            Fault::Memory,
+        ))),
+        Err(_) => return Err(MoveFault::Document(RemoteFault::Command(Fault::Identity))),
+    };
     keep_identity(files, dir, &identity)?;
     Ok(())
 }

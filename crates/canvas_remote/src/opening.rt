@@ -2,85 +2,128 @@
 ghost use Rattle.std.specs.Prelude.{◌≡◌};
 ghost use Rattle.canvas_remote.specs.Faults.{fault_of_etcd};
 
+use crate::fault::{RemoteFault, fault_of_cause, fault_of_command};
 use canvas_care::Fault;
 use canvas_etcd::{EtcdError, EtcdShelf};
 use canvas_gateway::copy_hosts;
 use canvas_identity::Address;
+use canvas_places::{KeptLease, LEASE_SECONDS, Term};
 use canvas_shelf::Shelf;
-use canvas_store::{EtcdStore, Lease, StoreError};
-use std::net::{Net, TcpStream};
+use canvas_store::{Causes, EtcdStore, Lease, StoreError};
+use std::alloc::AllocError;
+use std::net::{Net, TcpListener, TcpStream};
+use std::random::RandomSource;
+use std::sync::Wait;
+use std::thread::Threads;
+use std::time::Clock;
 
 /// The shelf of a document in an etcd.
 pub(crate) type Remote<R> = EtcdShelf<EtcdStore<R>>;
 
-// After how many seconds the lease of a command ends, which nobody keeps alive: it has to be done by then.
-const COMMAND_LEASE_SECONDS: u64 = 600;
-
-// The store of a document, with a lease of so many seconds once it takes the document over. Nothing is asked yet. `Memory` if memory runs
-// out.
-fn store_of<R: Net<Stream = TcpStream> + AllocGlobal + Clone + Drop>(
-    net: &R,
-    address: &Address,
-    lease_seconds: u64,
-) -> Result<EtcdStore<R>, Fault> {
+// The store of a document. Nothing is asked yet. Errors: out of memory.
+fn store_of<R>(net: &R, address: &Address) -> Result<EtcdStore<R>, AllocError>
+where
+    R: Net<Stream = TcpStream> + Clock + RandomSource + AllocGlobal + Clone + Drop,
+{
     let hosts = copy_hosts(net.alloc(), &address.hosts)?;
     let name = address.name.as_bytes();
-    Ok(EtcdStore::new(net.clone()?, hosts, name, lease_seconds)?)
+    EtcdStore::new(net.clone()?, hosts, name, LEASE_SECONDS)
 }
 
-/// The shelf of a document that is there, for reading.
+/// The shelf of a document that is there, for reading, and why calls of its store failed.
 ///
-/// The errors: `NoSegment`, where there is no such document; `Device`, where the etcd didn't answer; `Memory`.
-pub(crate) fn existing<R: Net<Stream = TcpStream> + AllocGlobal + Clone + Drop>(
-    net: &R,
-    address: &Address,
-) -> Result<Remote<R>, Fault> {
+/// The errors: `NoSegment`, where there is no such document; `Store`, if the etcd didn't do what it was asked; `Memory`.
+pub(crate) fn existing<R>(net: &R, address: &Address) -> Result<(Remote<R>, Causes), RemoteFault>
+where
+    R: Net<Stream = TcpStream> + Clock + RandomSource + AllocGlobal + Clone + Drop,
+{
     let alloc = net.alloc();
-    let store = store_of(net, address, COMMAND_LEASE_SECONDS)?;
+    let store = store_of(net, address)?;
+    let causes = store.causes()?;
     let mut shelf = match EtcdShelf::open_for_reading(alloc, store) {
         Ok(shelf) => shelf,
-        Err(error) => return Err(fault_of_etcd(error)),
+        Err(error) => return Err(fault_of_etcd(error, causes.last())),
     };
-    if shelf.list(alloc)?.is_empty() {
-        return Err(Fault::NoSegment);
+    match shelf.list(alloc) {
+        Ok(listed) if listed.is_empty() => Err(RemoteFault::Command(Fault::NoSegment)),
+        Ok(_) => Ok((shelf, causes)),
+        Err(error) => Err(fault_of_command(Fault::from(error), causes.last())),
     }
-    Ok(shelf)
 }
 
-/// The shelf of a document for writing, and the lease under which it was taken over.
+/// A document that a command has taken over.
+pub(crate) struct Held<R>
+where
+    R: Net<Stream = TcpStream> + Clock + RandomSource + AllocGlobal + Clone + Drop,
+{
+    /// Its shelf, for writing.
+    pub(crate) shelf: Remote<R>,
+    /// Why calls of its store failed.
+    pub(crate) causes: Causes,
+    /// The lease, to ask for the identity.
+    pub(crate) lease: Lease<R>,
+    /// The same, which a thread keeps alive.
+    pub(crate) kept: KeptLease,
+}
+
+impl<R> Drop for Held<R>
+where
+    R: Net<Stream = TcpStream> + Clock + RandomSource + AllocGlobal + Clone + Drop,
+{
+    fn drop(self) {
+        let Held {
+            shelf: _,
+            causes: _,
+            lease: _,
+            kept: _,
+        } = self;
+    }
+}
+
+/// Takes a document over for a command, until its lease is released or the command has ended.
 ///
-/// The errors: `InUse`, where a server has the document; `Device`, where the etcd didn't answer; `Memory`.
-pub(crate) fn taken<R: Net<Stream = TcpStream> + AllocGlobal + Clone + Drop>(
-    net: &R,
-    address: &Address,
-) -> Result<(Remote<R>, Lease<R>), Fault> {
-    let alloc = net.alloc();
-    let store = store_of(net, address, COMMAND_LEASE_SECONDS)?;
-    match EtcdShelf::open(alloc, store) {
-        Ok(shelf) => {
-            let lease = shelf.store().lease()?;
-            Ok((shelf, lease))
-        }
-        Err(error) => Err(fault_of_etcd(error)),
-    }
+/// The errors: `InUse`, where a server has the document; `Store`, if the etcd didn't do what it was asked; `NoThread`; `Memory`.
+pub(crate) fn taken<R>(net: &R, address: &Address) -> Result<Held<R>, RemoteFault>
+where
+    R: Net<Listener = TcpListener, Stream = TcpStream>
+        + Threads
+        + Wait
+        + Clock
+        + RandomSource
+        + AllocGlobal
+        + Clone
+        + Send
+        + Drop
+        + 'static,
+{
+    let store = store_of(net, address)?;
+    let causes = store.causes()?;
+    let term = Term::new(net);
+    let shelf = match EtcdShelf::open(net.alloc(), store) {
+        Ok(shelf) => shelf,
+        Err(error) => return Err(fault_of_etcd(error, causes.last())),
+    };
+    let lease = shelf.store().lease()?;
+    let kept = match KeptLease::new(net, term, lease.another()?) {
+        Ok(kept) => kept,
+        Err(canvas_places::Fault::NoThread) => return Err(RemoteFault::NoThread),
+        Err(_) => return Err(RemoteFault::Command(Fault::Memory)),
+    };
+    Ok(Held {
+        shelf,
+        causes,
+        lease,
+        kept,
+    })
 }
 
-// The fault that a document is that isn't opened.
-fn fault_of_etcd(error: EtcdError) -> Fault
-    ensures { result ≡ fault_of_etcd error }
+// The fault that a document is that isn't opened, whose store failed last for this reason.
+fn fault_of_etcd(error: EtcdError, why: Option<StoreError>) -> RemoteFault
+    ensures { result ≡ fault_of_etcd why error }
 {
     match error {
-        EtcdError::InUse => Fault::InUse,
-        EtcdError::Device => Fault::Device,
-        EtcdError::Memory => Fault::Memory,
-    }
-}
-
-/// The fault that a call is that the etcd didn't do.
-pub(crate) fn fault_of_store(error: StoreError) -> Fault {
-    match error {
-        StoreError::Memory => Fault::Memory,
-        StoreError::Lost => Fault::InUse,
-        StoreError::Unreachable | StoreError::Unanswered => Fault::Device,
+        EtcdError::InUse => RemoteFault::Command(Fault::InUse),
+        EtcdError::Device => fault_of_cause(why),
+        EtcdError::Memory => RemoteFault::Command(Fault::Memory),
     }
 }
