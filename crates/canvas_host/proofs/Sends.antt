@@ -7,16 +7,22 @@ use Rattle.std.proofs.Crossing.{crosses, Arc-send}
 use Rattle.std.specs.contracts.alloc.Global as Heap
 use Rattle.std.specs.contracts.impls.GlobalAllocator.TheImpl.{ghosts}
 use Rattle.std.specs.contracts.net.TcpStream as Stream
-use Rattle.canvas_room.proofs.Sends.{leaves}
+use Rattle.canvas_room.proofs.Sends.{leaves, Shared-send}
+use Rattle.canvas_room.specs.contracts.room.Room as Room
 use Rattle.canvas_room.specs.contracts.seat.Seat as Seat
+use Rattle.canvas_journal.specs.declared.keeper.Keeper as keeper
+use Rattle.canvas_board.specs.contracts.board.BoardAbsorbStep.TheImpl as absorbs
+use Rattle.canvas_board.specs.contracts.rule.PublishedProtocolBoardLinkedListMark.TheImpl as rule
 use Rattle.canvas_board.specs.declared.history.RoomName.{Ghosts}
 use Rattle.canvas_board.proofs.history.Front.TheSendSync as front
 use Rattle.canvas_front.specs.contracts.shared_copy.SharedCopy as SharedCopy
 use Rattle.crossbeam_channel.specs.contracts.channel.Receiver as Receiver
 use Rattle.canvas_doors.proofs.options.Shared.TheSendSync as shared
+use Rattle.canvas_host.proofs.glancing.Seen.TheSendSync as seen
 use Rattle.canvas_host.proofs.permits.Permits.TheSendSync as permits
 use Rattle.canvas_host.specs.contracts.copies.Copies as Copies
 use Rattle.canvas_host.specs.contracts.copies.Held as Held
+use Rattle.canvas_host.specs.contracts.glancing.GlanceTask as GlanceTask
 use Rattle.canvas_host.specs.contracts.tasks.SeatTask as SeatTask
 
 -- the connections that a seat is given
@@ -41,3 +47,17 @@ pub SeatTask-send : (N D R : RattleType) (g : Ghosts N.Denot) → IsSend N → I
 SeatTask-send N D R g n s r =
     recorded_send (SeatTask.the_field N D R g).row _ _ (SeatTask.the_type N D R g).to_one
     (struct_send (shape (SeatTask.the_type N D R g)) (r, (s, (Arc-send _ shared.the_send shared.the_sync, (Arc-send _ (Copies-send N g n) (Copies-sync N g n), (Connections-send, tt))))))
+
+module _ (K N R : RattleType) (k : keeper.Ghosts K.Denot) (g : Ghosts N.Denot) where
+  -- a room
+  pub Room-send : IsSend K → IsSend N → IsSync N → IsSend R → IsSend (Room.the_field K N R k g (absorbs.ghosts N g absorbs.no_dict) (rule.ghosts N g rule.no_dict)).row
+  Room-send sk s y sr =
+      let a = absorbs.ghosts N g absorbs.no_dict in
+      let p = rule.ghosts N g rule.no_dict in
+      struct_send (shape (Room.the_type K N R k g a p)) (Shared-send K N R k g a p sk s y sr, tt)
+
+  -- what the thread is given that looks at it
+  pub GlanceTask-send : IsSend K → IsSend N → IsSync N → IsSend R → IsSend (GlanceTask.the_row K N R k g)
+  GlanceTask-send sk s y sr =
+      recorded_send (GlanceTask.the_field K N R k g).row _ _ (GlanceTask.the_type K N R k g).to_one
+      (struct_send (shape (GlanceTask.the_type K N R k g)) (sr, (Room-send sk s y sr, (Arc-send _ shared.the_send shared.the_sync, (Arc-send _ seen.the_send seen.the_sync, tt)))))

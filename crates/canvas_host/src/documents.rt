@@ -1,50 +1,135 @@
 // What a server of a document in an etcd has before it serves: the document, which it has taken over, and the lease of that.
-ghost use Rattle.std.specs.Prelude.{◌≡◌, IfErr, IfOk, string_bytes};
+ghost use Rattle.std.specs.Prelude.{◌≡◌, ◌⊎◌, IfErr, IfOk, string_bytes};
 ghost use Rattle.canvas_http.specs.Identities.{IsIdentity};
-ghost use Rattle.canvas_places.specs.Faults.{IsNamingFault, IsOpeningFault, of_document};
+ghost use Rattle.canvas_places.specs.Faults.{IsNamingFault, IsOpeningFault, IsPreparingFault, IsThreadFault, of_document};
 
-use crate::opening::{Counted, OpenRoom, room_of};
+use crate::opening::{Counted, OpenRoom, listen, room_of};
+use crate::progress::Progress;
 use canvas_etcd::EtcdShelf;
 use canvas_gateway::copy_hosts;
 use canvas_identity::{Address, identity_in, made_identity};
-use canvas_places::{DocumentShelf, Fault, NoWitness};
-use canvas_store::{EtcdStore, Lease};
+use canvas_places::{
+    DocumentShelf, Fault, KeptLease, LEASE_SECONDS, NoWitness, Term, fault_of_cause, fault_of_etcd,
+};
+use canvas_shelf::Shelf;
+use canvas_store::{Causes, EtcdStore, Lease, StoreError};
 use canvas_watch::Watched;
+use canvas_words::Serving;
 use std::alloc::Global;
-use std::net::{Net, TcpStream};
+use std::io::Eprint;
+use std::net::{Net, TcpListener, TcpStream};
 use std::random::RandomSource;
-
-/// After how many seconds the lease of a server ends that doesn't keep it alive.
-pub(crate) const LEASE_SECONDS: u64 = 10;
+use std::sync::Wait;
+use std::thread::Threads;
+use std::time::Clock;
 
 /// The journal of a document in an etcd, which is counted.
 pub(crate) type DocumentJournal<R> = Counted<DocumentShelf<R>>;
 
-/// A document that was taken over: its room, the lease, and its identity.
-pub(crate) type OpenDocument<R> = (OpenRoom<DocumentShelf<R>>, Lease<R>, String);
+/// What a server holds beside the room of a document in an etcd.
+pub(crate) struct Tenure {
+    /// The lease.
+    pub(crate) lease: KeptLease,
+    /// Why calls of the store failed.
+    pub(crate) causes: Causes,
+}
 
-/// Takes a document over, and opens its room, with so many seats.
-pub(crate) fn open_document<R>(
+impl Drop for Tenure {
+    fn drop(self) {
+        let Tenure {
+            lease: _,
+            causes: _,
+        } = self;
+    }
+}
+
+/// A document that was taken over, and the port that it is served at.
+pub(crate) struct Taken<S: Shelf> {
+    /// Where the port is.
+    pub(crate) listener: TcpListener,
+    /// The document's room.
+    pub(crate) opened: OpenRoom<S>,
+    /// The document's identity.
+    pub(crate) identity: String,
+    /// What is held beside it.
+    pub(crate) tenure: Tenure,
+}
+
+/// Listens, and takes a document over. Its lease is kept alive from the takeover on. If opening it takes long, a line is logged every two
+/// seconds.
+pub(crate) fn take_document<R>(
+    rt: &R,
+    files: HostRuntime,
+    address: &Address,
+    serving: &Serving,
+) -> Result<Taken<DocumentShelf<R>>, Fault>
+where
+    R: Net<Listener = TcpListener, Stream = TcpStream>
+        + Threads
+        + Wait
+        + Clock
+        + RandomSource
+        + Eprint
+        + AllocGlobal
+        + Clone
+        + Send
+        + Drop
+        + 'static,
+    ensures named { IfOk result (λ taken. IsIdentity (string_bytes taken.identity)) }
+    ensures faults { IfErr result (λ fault. IsPreparingFault serving.now.clients fault ⊎ IsThreadFault fault) }
+{
+    let listener = listen(rt, serving.port)?;
+    let progress = Progress::begin(rt, &address.name, serving.quiet)?;
+    let opened = take_over(rt, files, address, serving.clients as usize);
+    progress.end();
+    let (opened, identity, tenure) = opened?;
+    Ok(Taken {
+        listener,
+        opened,
+        identity,
+        tenure,
+    })
+}
+
+// A document that was taken over: its room, its identity, and what is held beside it.
+type OpenDocument<R> = (OpenRoom<DocumentShelf<R>>, String, Tenure);
+
+// Takes a document over, gives its lease a thread, and opens its room, with this number of seats.
+fn take_over<R>(
     rt: &R,
     files: HostRuntime,
     address: &Address,
     seats: usize,
 ) -> Result<OpenDocument<R>, Fault>
 where
-    R: Net<Stream = TcpStream> + AllocGlobal + Clone + Drop,
-    ensures seats { IfOk result (λ opened. opened.0.room.seats ≡ seats) }
-    ensures named { IfOk result (λ opened. IsIdentity (string_bytes opened.2)) }
-    ensures faults { IfErr result (IsOpeningFault seats) }
+    R: Net<Listener = TcpListener, Stream = TcpStream>
+        + Threads
+        + Wait
+        + Clock
+        + RandomSource
+        + AllocGlobal
+        + Clone
+        + Send
+        + Drop
+        + 'static,
+    ensures named { IfOk result (λ opened. IsIdentity (string_bytes opened.1)) }
+    ensures faults { IfErr result (λ fault. IsOpeningFault seats fault ⊎ IsThreadFault fault) }
 {
     let alloc = files.alloc();
     let store = store_of(rt, alloc, address)?;
-    let shelf = EtcdShelf::open(alloc, store)?;
-    let mut lease = shelf.store().lease()?;
-    match open_owned(files, shelf, &mut lease, seats) {
-        Ok((opened, identity)) => Ok((opened, lease, identity)),
+    let causes = store.causes()?;
+    let term = Term::new(rt);
+    let shelf = match EtcdShelf::open(alloc, store) {
+        Ok(shelf) => shelf,
+        Err(error) => return Err(fault_of_etcd(error, causes.last())),
+    };
+    let mut own = shelf.store().lease()?;
+    let lease = KeptLease::new(rt, term, own.another()?)?;
+    match open_owned(files, shelf, &mut own, &causes, seats) {
+        Ok((opened, identity)) => Ok((opened, identity, Tenure { lease, causes })),
         Err(fault) => {
-            // Nobody has to wait for the end of a lease under which nothing was served.
-            let _ = lease.release();
+            // No server must wait for the end of a lease under which nothing was served.
+            lease.release(rt);
             Err(fault)
         }
     }
@@ -55,11 +140,11 @@ fn open_owned<R>(
     files: HostRuntime,
     shelf: EtcdShelf<EtcdStore<R>>,
     lease: &mut Lease<R>,
+    causes: &Causes,
     seats: usize,
 ) -> Result<(OpenRoom<DocumentShelf<R>>, String), Fault>
 where
-    R: Net<Stream = TcpStream> + AllocGlobal + Clone + Drop,
-    ensures seats { IfOk result (λ opened. opened.0.room.seats ≡ seats) }
+    R: Net<Stream = TcpStream> + Clock + RandomSource + AllocGlobal + Clone + Drop,
     ensures named { IfOk result (λ opened. IsIdentity (string_bytes opened.1)) }
     ensures faults { IfErr result (IsOpeningFault seats) }
 {
@@ -69,39 +154,14 @@ where
     let shelf = DocumentShelf::new(files.alloc(), shelf)?;
     match room_of(files, shelf, notes, seats) {
         Ok(opened) => Ok((opened, identity)),
-        Err(fault) => Err(of_document(fault)),
+        Err(fault) => Err(of_document(fault, causes.last())),
     }
 }
 
-/// Who has a document.
-#[derive(Clone, Copy, Debug, PartialEq, Eq)]
-pub(crate) enum Ownership {
-    /// Nobody.
-    Free,
-    /// Another server.
-    Owned,
-    /// The etcd doesn't say.
-    Unknown,
-}
-
-/// Who has the document.
-pub(crate) fn ownership_of<R>(rt: &R, alloc: Global, address: &Address) -> Result<Ownership, Fault>
+/// The store of a document. Nothing is asked yet.
+pub(crate) fn store_of<R>(rt: &R, alloc: Global, address: &Address) -> Result<EtcdStore<R>, Fault>
 where
-    R: Net<Stream = TcpStream> + AllocGlobal + Clone + Drop,
-    ensures { IfErr result (λ fault. fault ≡ Fault.Memory) }
-{
-    let mut store = store_of(rt, alloc, address)?;
-    match store.is_owned() {
-        Ok(false) => Ok(Ownership::Free),
-        Ok(true) => Ok(Ownership::Owned),
-        Err(_) => Ok(Ownership::Unknown),
-    }
-}
-
-// The store of a document. Nothing is asked yet.
-fn store_of<R>(rt: &R, alloc: Global, address: &Address) -> Result<EtcdStore<R>, Fault>
-where
-    R: Net<Stream = TcpStream> + AllocGlobal + Clone + Drop,
+    R: Net<Stream = TcpStream> + Clock + RandomSource + AllocGlobal + Clone + Drop,
     ensures { IfErr result (λ fault. fault ≡ Fault.Memory) }
 {
     let hosts = copy_hosts(alloc, &address.hosts)?;
@@ -112,7 +172,7 @@ where
 // The identity of a document that was taken over. If it has none it is made, and stands in the etcd before it is told.
 fn identity_of<R>(files: HostRuntime, lease: &mut Lease<R>) -> Result<String, Fault>
 where
-    R: Net<Stream = TcpStream> + AllocGlobal + Clone + Drop,
+    R: Net<Stream = TcpStream> + Clock + RandomSource + AllocGlobal + Clone + Drop,
     ensures named { IfOk result (λ text. IsIdentity (string_bytes text)) }
     ensures faults { IfErr result IsNamingFault }
 {
@@ -121,7 +181,7 @@ where
     }
     let identity = match made_identity(&files) {
         Ok(identity) => identity,
-        Err(error) => return Err(of_document(Fault::from(error))),
+        Err(error) => return Err(of_document(Fault::from(error), None)),
     };
     lease.set_identity(identity.as_bytes())?;
     Ok(identity)
@@ -137,17 +197,17 @@ fn named(alloc: Global, bytes: &[u8]) -> Result<String, Fault>
     };
     match identity_in(alloc, text) {
         Ok(identity) => Ok(identity),
-        Err(error) => Err(of_document(Fault::from(error))),
+        Err(error) => Err(of_document(Fault::from(error), None)),
     }
 }
 
-// What a fault of opening is where the document is in an etcd and not in a folder.
-fn of_document(fault: Fault) -> Fault
-    ensures { result ≡ of_document fault }
+// What a fault of opening is if the document is in an etcd and not in a folder, whose store failed last for this reason.
+fn of_document(fault: Fault, why: Option<StoreError>) -> Fault
+    ensures { result ≡ of_document why fault }
 {
     match fault {
-        Fault::NoFolder => Fault::NoStore,
-        Fault::NoIdentity => Fault::NoKey,
+        Fault::NoFolder => fault_of_cause(why),
+        Fault::NoIdentity | Fault::ChangedIdentity => Fault::NoKey,
         other => other,
     }
 }

@@ -1,32 +1,35 @@
 // What `lugcurrant serve` does: a room over the journal of a document, whose seats serve clients for as long as it runs.
-ghost use Rattle.std.specs.Prelude.{◌≡◌, IfErr, IfOk, string_bytes};
+ghost use Rattle.std.specs.Prelude.{◌≡◌, ◌⊎◌, IfErr, string_bytes};
 ghost use Rattle.canvas_http.specs.Identities.{IsIdentity};
-ghost use Rattle.canvas_places.specs.Faults.{IsJournalFault, IsPageFault, IsPreparingFault, IsRunningFault, IsServeFault};
+ghost use Rattle.canvas_places.specs.Faults.{IsPageFault, IsPreparingFault, IsRunningFault, IsServeFault, IsStopFault, IsThreadFault};
 
 use crate::copies::Copies;
-use crate::documents::{DocumentJournal, Ownership, open_document, ownership_of};
-use crate::opening::{FolderJournal, OpenRoom, listen, open_room, opened};
-use crate::tasks::{DoorTask, LeaseTask, SeatTask, begin_task};
+use crate::documents::{DocumentJournal, Taken, Tenure, take_document};
+use crate::glancing::{GlanceTask, Seen};
+use crate::opening::{FolderJournal, OpenFolder, OpenRoom, listen, open_room, opened};
+use crate::standby::await_document;
+use crate::stopping::StopFile;
+use crate::tasks::{DoorTask, SeatTask};
+use crate::watching::{Ends, watch};
 use canvas_board::RoomName;
 use canvas_doors::{Figures, Limits, Shared, read_page};
 use canvas_folder::Removed;
 use canvas_http::{PageFile, Site};
 use canvas_identity::{Address, identity};
 use canvas_journal::Keeper;
-use canvas_places::{DocumentShelf, Fault};
+use canvas_places::{Fault, begin_task};
 use canvas_room::{BlankRoom, Lock, Room, Seat};
-use canvas_shelf::Shelf;
-use canvas_store::Lease;
 use canvas_words::{Options, Place, Serving};
 use crossbeam_channel::{Receiver, Sender, bounded};
 use std::alloc::Global;
 use std::io::{Eprint, ErrorKind};
 use std::marker::Brand;
 use std::net::{Net, TcpListener, TcpStream};
-use std::sync::atomic::{AtomicBool, Ordering};
+use std::random::RandomSource;
+use std::sync::atomic::AtomicBool;
 use std::sync::{Arc, Wait};
-use std::thread::{Threads, sleep};
-use std::time::{Clock, Duration};
+use std::thread::Threads;
+use std::time::Clock;
 
 // How many copies of the document are on their way at once.
 const MOST_COPIES: usize = 4;
@@ -34,26 +37,25 @@ const MOST_COPIES: usize = 4;
 /// How many threads accept connections.
 const DOORS: u32 = 16;
 
-// How often a document in an etcd is looked at that another server has.
-const WAIT_MILLIS: u64 = 500;
-
 /// Serves a document to clients over WebSockets, for as long as nothing fails, and answers what ended it.
 ///
 /// It listens at the own machine alone, at the port of the options. So many clients as they say are served at once; a seat whose
 /// connection has ended serves the next one. A client more is turned away, and other requests are answered as `canvas_http` says.
 /// A folder is made where it is missing, and nobody else can open it to write meanwhile. A document in an etcd is taken over, under a
-/// lease that a thread keeps alive; a standby waits until nobody has it, and doesn't listen before. A `kill` at any moment is safe.
+/// lease that a thread keeps alive from then on; a standby waits until nobody has it, and doesn't listen before. A `kill` at any moment is
+/// safe. Once the file of `stop_file` is there, nothing more is judged, the lease is released, and the server ends: `Stopped`.
 ///
-/// The faults: `NoPage`, where the options name the folder of a page and no file `index.html` can be read in it, and `PortInUse` and
-/// `NoPort`, where the port can't be had, and then the document is left alone; `ClientCount`, only for fewer clients than 1 or more than
-/// 64; `FolderInUse`, `NoFolder`, `NoIdentity`, `Lost`, `NotKept` of a folder, `DocumentInUse`, `NoStore`, `NoKey` of a document in an
-/// etcd, and `Damaged` and `TooLarge`, where it isn't opened; `NoThread`, where not all threads can be made; `Memory`; and later `JournalFailed`, once the device of the journal has failed, or `StoreFailed` and `LeaseEnded` of an etcd.
+/// The faults: `StopFile`, if that file is there before, and then nothing was touched; `NoPage`, where the options name the folder of a page
+/// and no file `index.html` can be read in it, and `PortInUse` and `NoPort`, where the port can't be had, and then the document is left alone; `ClientCount`, only for fewer clients than 1 or more than
+/// 64; `FolderInUse`, `NoFolder`, `NoIdentity`, `ChangedIdentity`, `Lost`, `NotKept` of a folder, `DocumentInUse`, `NoStore`, `NoKey` of a document in an
+/// etcd, and `Damaged`, `TooLarge` and `NoSpace`, where it isn't opened; `NoThread`, where not all threads can be made; `Memory`; and later `JournalFailed`, once the device of the journal has failed, or `StoreFailed` and `LeaseEnded` of an etcd.
 pub fn serve<R>(rt: &R, files: HostRuntime, options: Options) -> Fault
 where
     R: Net<Listener = TcpListener, Stream = TcpStream>
         + Threads
         + Wait
         + Clock
+        + RandomSource
         + Eprint
         + AllocGlobal
         + Clone
@@ -61,15 +63,20 @@ where
         + Sync
         + Drop
         + 'static,
-    ensures { IsServeFault options.serving.clients result }
+    ensures { IsServeFault options.serving.clients options.serving.stop_file result }
 {
-    let (place, serving) = options.apart();
+    let (place, mut serving) = options.apart();
+    let path = serving.stop_file.take();
+    let stop = StopFile { files, path };
+    if let Err(fault) = stop.look_first() {
+        return fault;
+    }
     if let Err(fault) = look_at_page(&files, &serving) {
         return fault;
     }
     match &place {
-        Place::Folder(dir) => serve_folder(rt, files, dir, serving),
-        Place::Document(address) => serve_document(rt, files, address, serving),
+        Place::Folder(dir) => serve_folder(rt, files, dir, serving, stop),
+        Place::Document(address) => serve_document(rt, files, address, serving, stop),
     }
 }
 
@@ -90,12 +97,19 @@ fn look_at_page(files: &HostRuntime, serving: &Serving) -> Result<(), Fault>
 }
 
 // Serves the document of a folder.
-fn serve_folder<R>(rt: &R, files: HostRuntime, dir: &str, serving: Serving) -> Fault
+fn serve_folder<R>(
+    rt: &R,
+    files: HostRuntime,
+    dir: &String,
+    serving: Serving,
+    stop: StopFile,
+) -> Fault
 where
     R: Net<Listener = TcpListener, Stream = TcpStream>
         + Threads
         + Wait
         + Clock
+        + RandomSource
         + Eprint
         + AllocGlobal
         + Clone
@@ -103,22 +117,30 @@ where
         + Sync
         + Drop
         + 'static,
-    ensures { IsServeFault serving.clients result }
+    ensures { IsServeFault serving.clients stop.path result }
 {
     let (room, shared) = match prepare_folder(rt, files, dir, serving) {
         Ok(prepared) => prepared,
         Err(fault) => return fault,
     };
-    host::<Brand, _, _>(rt, files, room, &shared)
+    let ends = Ends { stop, tenure: None };
+    host::<Brand, _, _>(rt, files, room, &shared, &ends, dir)
 }
 
 // Serves a document in an etcd.
-fn serve_document<R>(rt: &R, files: HostRuntime, address: &Address, serving: Serving) -> Fault
+fn serve_document<R>(
+    rt: &R,
+    files: HostRuntime,
+    address: &Address,
+    serving: Serving,
+    stop: StopFile,
+) -> Fault
 where
     R: Net<Listener = TcpListener, Stream = TcpStream>
         + Threads
         + Wait
         + Clock
+        + RandomSource
         + Eprint
         + AllocGlobal
         + Clone
@@ -126,15 +148,20 @@ where
         + Sync
         + Drop
         + 'static,
-    ensures { IsServeFault serving.clients result }
+    ensures { IsServeFault serving.clients stop.path result }
 {
-    let (room, shared, lease) = match prepare_document(rt, files, address, serving) {
+    let (room, shared, tenure) = match prepare_document(rt, files, address, serving, &stop) {
         Ok(prepared) => prepared,
         Err(fault) => return fault,
     };
-    let fault = host::<Brand, _, _>(rt, files, room, &shared);
-    // Nothing more can be written under it. One that isn't released ends by itself.
-    let _ = lease.release();
+    let ends = Ends {
+        stop,
+        tenure: Some(tenure),
+    };
+    let fault = host::<Brand, _, _>(rt, files, room, &shared, &ends, &address.name);
+    if let Some(tenure) = &ends.tenure {
+        tenure.lease.release(rt);
+    }
     fault
 }
 
@@ -154,162 +181,62 @@ where
 {
     let listener = listen(rt, serving.port)?;
     let seats = serving.clients as usize;
-    let (opened, removed, path) = open_room(files, dir, seats, serving.accept_loss)?;
+    let OpenFolder {
+        opened,
+        removed,
+        space,
+        path,
+    } = open_room(files, dir, seats, serving.accept_loss)?;
     let OpenRoom { room, meter, notes } = opened;
     let identity = identity(&files, &path)?;
-    let figures = Figures::new(meter, notes);
+    let figures = Figures::new(meter, notes, Some(space));
     let shared = share(rt, listener, identity, figures, Some(removed), serving)?;
     Ok((room, shared))
 }
 
-// Takes the document over, listens, and gives its lease a thread. Answers with the room a second hold of the lease, to release it in the end.
+// Takes the document over, which a standby waits for, and listens.
 fn prepare_document<R>(
     rt: &R,
     files: HostRuntime,
     address: &Address,
     serving: Serving,
-) -> Result<(BlankRoom<DocumentJournal<R>>, Arc<Shared, Global>, Lease<R>), Fault>
+    stop: &StopFile,
+) -> Result<(BlankRoom<DocumentJournal<R>>, Arc<Shared, Global>, Tenure), Fault>
 where
     R: Net<Listener = TcpListener, Stream = TcpStream>
         + Threads
         + Wait
         + Clock
+        + RandomSource
         + Eprint
         + AllocGlobal
         + Clone
         + Send
         + Drop
         + 'static,
-    ensures { IfErr result (IsServeFault serving.clients) }
+    ensures { IfErr result (λ fault. IsPreparingFault serving.clients fault ⊎ IsThreadFault fault ⊎ IsStopFault stop.now.path fault) }
 {
     let taken = if serving.is_standby {
-        await_document(rt, files, address, &serving)?
+        await_document(rt, files, address, &serving, stop)?
     } else {
         take_document(rt, files, address, &serving)?
     };
     let Taken {
         listener,
         opened,
-        lease,
         identity,
+        tenure,
     } = taken;
     let OpenRoom { room, meter, notes } = opened;
-    let figures = Figures::new(meter, notes);
-    match share_under(rt, listener, identity, figures, &lease, serving) {
-        Ok(shared) => Ok((room, shared, lease)),
+    let figures = Figures::new(meter, notes, None);
+    match share(rt, listener, identity, figures, None, serving) {
+        Ok(shared) => Ok((room, shared, tenure)),
         Err(fault) => {
-            // Nobody has to wait for the end of a lease under which nothing was served.
-            let _ = lease.release();
+            // No server must wait for the end of a lease under which nothing was served.
+            tenure.lease.release(rt);
             Err(fault)
         }
     }
-}
-
-// What the threads of a server share, one of which keeps this lease.
-fn share_under<R>(
-    rt: &R,
-    listener: TcpListener,
-    identity: String,
-    figures: Figures,
-    lease: &Lease<R>,
-    serving: Serving,
-) -> Result<Arc<Shared, Global>, Fault>
-where
-    R: Net<Listener = TcpListener, Stream = TcpStream>
-        + Threads
-        + Wait
-        + Clock
-        + AllocGlobal
-        + Clone
-        + Send
-        + Drop
-        + 'static,
-    requires { IsIdentity (string_bytes identity) }
-    ensures { IfErr result IsRunningFault }
-{
-    let shared = share(rt, listener, identity, figures, None, serving)?;
-    let task = LeaseTask {
-        rt: rt.clone()?,
-        lease: lease.another()?,
-        shared: Arc::try_clone(&shared)?,
-    };
-    begin_task(rt, task)?;
-    Ok(shared)
-}
-
-// A document that was taken over, under this lease, and the port that it is served at.
-struct Taken<S: Shelf, L> {
-    listener: TcpListener,
-    opened: OpenRoom<S>,
-    lease: L,
-    identity: String,
-}
-
-// Listens, and takes the document over.
-fn take_document<R>(
-    rt: &R,
-    files: HostRuntime,
-    address: &Address,
-    serving: &Serving,
-) -> Result<Taken<DocumentShelf<R>, Lease<R>>, Fault>
-where
-    R: Net<Listener = TcpListener, Stream = TcpStream> + AllocGlobal + Clone + Drop,
-    ensures named { IfOk result (λ taken. IsIdentity (string_bytes taken.identity)) }
-    ensures faults { IfErr result (IsPreparingFault serving.now.clients) }
-{
-    let listener = listen(rt, serving.port)?;
-    let (opened, lease, identity) = open_document(rt, files, address, serving.clients as usize)?;
-    Ok(Taken {
-        listener,
-        opened,
-        lease,
-        identity,
-    })
-}
-
-// Waits until nobody has the document, and then takes it over.
-fn await_document<R>(
-    rt: &R,
-    files: HostRuntime,
-    address: &Address,
-    serving: &Serving,
-) -> Result<Taken<DocumentShelf<R>, Lease<R>>, Fault>
-where
-    R: Net<Listener = TcpListener, Stream = TcpStream>
-        + Wait
-        + Clock
-        + Eprint
-        + AllocGlobal
-        + Clone
-        + Drop,
-    ensures named { IfOk result (λ taken. IsIdentity (string_bytes taken.identity)) }
-    ensures faults { IfErr result (IsPreparingFault serving.now.clients) }
-{
-    let mut told = Ownership::Free;
-    for _ in rt.forever() {
-        let ownership = ownership_of(rt, files.alloc(), address)?;
-        if ownership == Ownership::Free {
-            match take_document(rt, files, address, serving) {
-                Err(Fault::DocumentInUse) => {}
-                done => return done,
-            }
-        } else if ownership != told && !serving.quiet {
-            tell_wait(rt, address, ownership);
-        }
-        told = ownership;
-        sleep(rt, Duration::from_millis(WAIT_MILLIS));
-    }
-    unreachable!()
-}
-
-// A line on what a standby waits for.
-fn tell_wait<R: Eprint>(rt: &R, address: &Address, ownership: Ownership) {
-    let name = address.name.as_str();
-    let why = match ownership {
-        Ownership::Unknown => "the etcd doesn't answer",
-        Ownership::Free | Ownership::Owned => "another server has it",
-    };
-    let _ = rt.eprintln(format_args!("waiting for the document {name}: {why}"));
 }
 
 // What the threads of a server share.
@@ -349,12 +276,14 @@ where
     Ok(Arc::new(rt.alloc(), shared)?)
 }
 
-// Serves a room's document.
+// Serves a room's document, which has this name.
 fn host<N, K, R>(
     rt: &R,
     files: HostRuntime,
     room: BlankRoom<K>,
     shared: &Arc<Shared, Global>,
+    ends: &Ends,
+    name: &String,
 ) -> Fault
 where
     N: RoomName + Send + Sync + 'static,
@@ -362,37 +291,60 @@ where
     R: Threads + Wait + Clock + Eprint + AllocGlobal + Clone + Send + Sync + Drop + 'static,
     requires book { room.book ≡ N.book }
     requires opening { room.opening ≡ N.opening }
-    ensures { IsRunningFault result }
+    ensures { IsRunningFault result ⊎ IsStopFault ends.now.stop.path result }
 {
     match begin::<N, K, R>(rt, files, room, shared) {
-        Ok(room) => {
-            announce(rt, &room, shared);
-            watch(rt, &room, shared)
-        }
+        Ok(seen) => watch(rt, shared, &seen, ends, name),
         Err(fault) => fault,
     }
 }
 
-// Gives each seat and each door its thread.
+// Gives each seat and each door its thread, and one to who looks at the room.
 fn begin<N, K, R>(
     rt: &R,
     files: HostRuntime,
     room: BlankRoom<K>,
     shared: &Arc<Shared, Global>,
-) -> Result<Room<K, N, R>, Fault>
+) -> Result<Arc<Seen, Global>, Fault>
 where
     N: RoomName + Send + Sync + 'static,
     K: Keeper + Drop + Send + 'static,
     R: Threads + Wait + Clock + Eprint + AllocGlobal + Clone + Send + Sync + Drop + 'static,
     requires book { room.book ≡ N.book }
     requires opening { room.opening ≡ N.opening }
-    ensures { IfErr result IsRunningFault }
+    ensures { IfErr result IsThreadFault }
 {
     let (room, seats) = opened::<N, K, R>(rt, room)?;
     let (doors, connections) = bounded(rt.alloc(), 0)?;
+    let version = room.desk(rt).version();
     begin_seats(rt, seats, shared, &connections)?;
+    let seen = begin_glances(rt, room, shared)?;
     begin_doors(rt, files, shared, &doors)?;
-    Ok(room)
+    announce(rt, shared, version);
+    Ok(seen)
+}
+
+// Gives a thread to who looks at the room.
+fn begin_glances<N, K, R>(
+    rt: &R,
+    room: Room<K, N, R>,
+    shared: &Arc<Shared, Global>,
+) -> Result<Arc<Seen, Global>, Fault>
+where
+    N: RoomName + Send + Sync + 'static,
+    K: Keeper + Drop + Send + 'static,
+    R: Threads + Wait + Clock + AllocGlobal + Clone + Send + Sync + Drop + 'static,
+    ensures { IfErr result IsThreadFault }
+{
+    let seen = Arc::new(rt.alloc(), Seen::new())?;
+    let task = GlanceTask {
+        rt: rt.clone()?,
+        room,
+        shared: Arc::try_clone(shared)?,
+        seen: Arc::try_clone(&seen)?,
+    };
+    begin_task(rt, task)?;
+    Ok(seen)
 }
 
 // Gives each seat its thread.
@@ -406,7 +358,7 @@ where
     N: RoomName + Send + Sync + 'static,
     K: Keeper + Drop + Send + 'static,
     R: Threads + Wait + Clock + Eprint + AllocGlobal + Clone + Send + Sync + Drop + 'static,
-    ensures { IfErr result IsRunningFault }
+    ensures { IfErr result IsThreadFault }
 {
     let copies = Arc::new(rt.alloc(), Copies::new(rt, MOST_COPIES)?)?;
     for seat in seats {
@@ -431,7 +383,7 @@ fn begin_doors<R>(
 ) -> Result<(), Fault>
 where
     R: Threads + Wait + Clock + AllocGlobal + Clone + Send + Drop + 'static,
-    ensures { IfErr result IsRunningFault }
+    ensures { IfErr result IsThreadFault }
 {
     for _ in 0..DOORS {
         let task = DoorTask {
@@ -446,12 +398,7 @@ where
 }
 
 // Tells where the server serves, and from which version on.
-fn announce<K, N, R>(rt: &R, room: &Room<K, N, R>, shared: &Shared)
-where
-    N: RoomName,
-    K: Keeper + Drop,
-    R: Wait + Eprint + Drop,
-{
+fn announce<R: Eprint>(rt: &R, shared: &Shared, version: u64) {
     if shared.quiet {
         return;
     }
@@ -459,61 +406,5 @@ where
         Ok(address) => address.port(),
         Err(_) => 0,
     };
-    let version = room.desk(rt).version();
     let _ = rt.eprintln(format_args!("serving at http://127.0.0.1:{port}/ version {version}"));
-}
-
-// How often the journal is looked at.
-const GLANCE_MILLIS: u64 = 100;
-
-// How long answers may be under way once the journal has failed.
-const GRACE_SECONDS: u64 = 1;
-
-// Keeps the figures up to date until the journal has failed, or the lease has ended.
-fn watch<K, N, R>(rt: &R, room: &Room<K, N, R>, shared: &Shared) -> Fault
-where
-    N: RoomName,
-    K: Keeper + Drop,
-    R: Wait + Clock + Drop,
-    ensures { IsJournalFault result }
-{
-    for _ in rt.forever() {
-        if shared.has_ended.load(Ordering::SeqCst) {
-            return Fault::LeaseEnded;
-        }
-        if glance(rt, room, shared) {
-            sleep(rt, Duration::from_secs(GRACE_SECONDS));
-            return failed(shared);
-        }
-        sleep(rt, Duration::from_millis(GLANCE_MILLIS));
-    }
-    unreachable!()
-}
-
-// What it is that the journal has failed.
-fn failed(shared: &Shared) -> Fault
-    ensures { IsJournalFault result }
-{
-    let call = shared.figures.failed_call();
-    if shared.removed.is_some() {
-        Fault::JournalFailed { call }
-    } else {
-        Fault::StoreFailed { call }
-    }
-}
-
-// Notes how the document stands. Returns whether the journal has failed.
-fn glance<K, N, R>(rt: &R, room: &Room<K, N, R>, shared: &Shared) -> bool
-where
-    N: RoomName,
-    K: Keeper + Drop,
-    R: Wait + Drop,
-{
-    let desk = room.desk(rt);
-    shared.figures.stands(
-        desk.version(),
-        desk.object_count() as u64,
-        desk.since_floor(),
-    );
-    desk.has_failed()
 }

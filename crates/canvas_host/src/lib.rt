@@ -4,11 +4,15 @@
 mod connections;
 mod copies;
 mod documents;
+mod glancing;
 mod hosting;
-mod leasing;
 mod opening;
 mod permits;
+mod progress;
 mod seated;
+mod standby;
+mod stopping;
 mod tasks;
+mod watching;
 
 pub use hosting::serve;

@@ -1,10 +1,15 @@
 // What a server has before it serves: its port, and the room of its document.
-ghost use Rattle.std.specs.Prelude.{◌≡◌, IfErr, IfOk, false, length};
+ghost use Rattle.std.specs.Prelude.{◌≡◌, IfErr, IfOk, IsTrue, None, OnOk, Option, false, length, true};
+ghost use Rattle.canvas_care.specs.Losing.{TellsLoss};
+ghost use Rattle.canvas_losses.specs.declared.trace.Trace.{Trace};
+ghost use Rattle.canvas_shelf.specs.Disk.{seen, top_is_listed};
+ghost use Rattle.canvas_journal.specs.Found.{Finds, IsState};
+ghost use Rattle.canvas_journal.specs.Meaning.{IsCounted, Versioned};
 ghost use Rattle.canvas_places.specs.Faults.{IsOpeningFault, IsPortFault};
 ghost use Rattle.canvas_host.specs.Rooms.{fault_of_room};
 
 use canvas_board::{Opening, RoomName};
-use canvas_folder::{DirShelf, Removed};
+use canvas_folder::{DirShelf, Folder, OsFolder, Removed, Space};
 use canvas_identity::read_identity;
 use canvas_journal::{Journal, Keeper, open};
 use canvas_meter::{Meter, Metered};
@@ -35,8 +40,11 @@ pub(crate) fn listen<R: Net>(rt: &R, port: u16) -> Result<R::Listener, Fault>
 /// The journal of a shelf, which is counted.
 pub(crate) type Counted<S> = Metered<Journal<S>, HostRuntime>;
 
+/// The shelf of a folder of the process.
+pub(crate) type OwnFolder = FolderShelf<OsFolder<HostRuntime>>;
+
 /// The journal of a folder, which is counted.
-pub(crate) type FolderJournal = Counted<FolderShelf>;
+pub(crate) type FolderJournal = Counted<OwnFolder>;
 
 /// The room of a document, without a name yet, and what is counted and noted of its journal.
 pub(crate) struct OpenRoom<S: Shelf> {
@@ -48,41 +56,87 @@ pub(crate) struct OpenRoom<S: Shelf> {
     pub(crate) notes: Notes,
 }
 
-/// Opens the room of a folder's document, with so many seats. Returns it with the files that the folder removes, and with the path by which
-/// other files of the folder are reached. The folder is made where it is missing, and locked. If opening it would lose something, nothing is
-/// opened, unless that is accepted; nor if its identity isn't one.
+/// The room of a folder's document, and what else is known of the folder.
+pub(crate) struct OpenFolder {
+    /// The room.
+    pub(crate) opened: OpenRoom<OwnFolder>,
+    /// The files that the folder removes.
+    pub(crate) removed: Removed,
+    /// The refused checkpoints.
+    pub(crate) space: Space,
+    /// The path by which other files of the folder are reached.
+    pub(crate) path: String,
+}
+
+/// Opens the room of a folder's document, with this number of seats. The folder is made where it is missing, and locked. If opening it would lose
+/// something, nothing is opened, unless that is accepted; nor if its identity isn't one, or the disk has no room for another segment.
 pub(crate) fn open_room(
     files: HostRuntime,
     dir: &str,
     seats: usize,
     accept_loss: bool,
-) -> Result<(OpenRoom<FolderShelf>, Removed, String), Fault>
-    ensures seats { IfOk result (λ opened. opened.0.room.seats ≡ seats) }
+) -> Result<OpenFolder, Fault>
+    ensures seats { IfOk result (λ folder. folder.opened.room.seats ≡ seats) }
     ensures faults { IfErr result (IsOpeningFault seats) }
 {
-    let alloc = files.alloc();
-    let mut shelf = DirShelf::new(files, dir)?;
+    let mut folder = OsFolder::new(files, dir)?;
+    let space = folder.keep_space()?;
+    let shelf = DirShelf::open(files.alloc(), folder)?;
     let path = shelf.folder().path()?;
-    if let Err(fault) = guard(&files, &path, &mut shelf, accept_loss) {
+    let removed = shelf.folder().removed().share()?;
+    match open_locked(files, shelf, &path, seats, accept_loss) {
+        Ok(opened) => Ok(OpenFolder {
+            opened,
+            removed,
+            space,
+            path,
+        }),
+        Err(fault) => Err(fault.with_refusal(space.last())),
+    }
+}
+
+/// Opens the room of the document of a folder that is locked, whose other files are at this path, with this number of seats.
+///
+/// Over an honest folder whose segments a journal wrote (`room_of` has the two premises): if no loss is accepted, none is passed, with some
+/// trace of a document beside them; and the room opens with what recovery finds in its segments.
+fn open_locked<F: Folder + Drop>(
+    files: HostRuntime,
+    mut shelf: DirShelf<F>,
+    path: &str,
+    seats: usize,
+    accept_loss: bool,
+) -> Result<OpenRoom<FolderShelf<F>>, Fault>
+    requires top { IsTrue (⟦<DirShelf<F> as Shelf>⟧.honest shelf) → top_is_listed (⟦<DirShelf<F> as Shelf>⟧.disk shelf) ≡ true }
+    requires counted { IsTrue (⟦<DirShelf<F> as Shelf>⟧.honest shelf) → (s : Versioned) → Finds (seen (⟦<DirShelf<F> as Shelf>⟧.disk shelf)) (IsState s) → IsCounted s }
+    ensures whole { IsTrue (⟦<DirShelf<F> as Shelf>⟧.honest shelf) → OnOk result (accept_loss ≡ false → (trace : Option Trace) × TellsLoss (⟦<DirShelf<F> as Shelf>⟧.disk shelf) trace None) }
+    ensures found { IsTrue (⟦<DirShelf<F> as Shelf>⟧.honest shelf) → IfOk result (λ opened. Finds (seen (⟦<DirShelf<F> as Shelf>⟧.disk shelf)) (IsState (opened.room.opening.state, opened.room.opening.version))) }
+    ensures seats { IfOk result (λ opened. opened.room.seats ≡ seats) }
+    ensures faults { IfErr result (IsOpeningFault seats) }
+{
+    if let Err(fault) = guard(&files, path, &mut shelf, accept_loss) {
         return Err(fault);
     }
     // Nothing is written to a folder whose identity can't be read.
-    read_identity(&files, &path)?;
-    let removed = shelf.folder().removed().share()?;
-    let shelf = Watched::new(alloc, shelf, SumFiles::new(files, &path)?)?;
+    read_identity(&files, path)?;
+    let shelf = Watched::new(files.alloc(), shelf, SumFiles::new(files, path)?)?;
     let notes = shelf.notes().share()?;
-    let opened = room_of(files, FolderShelf::new(alloc, shelf)?, notes, seats)?;
-    Ok((opened, removed, path))
+    room_of(files, FolderShelf::new(files.alloc(), shelf)?, notes, seats)
 }
 
-/// Opens the room of what a shelf of the system holds, of which nothing is claimed, with so many seats.
+/// Opens the room of what a shelf holds, with this number of seats.
+///
+/// The room of an honest shelf opens with what recovery finds there, and a crash just then is found to hold it.
+/// That has two premises: no retired segment stands above the highest listed one, and no client of what is found has more judged edits than
+/// there are entries. Both hold of every shelf that a journal wrote.
 pub(crate) fn room_of<S: Shelf + Drop>(
     files: HostRuntime,
     shelf: S,
     notes: Notes,
     seats: usize,
 ) -> Result<OpenRoom<S>, Fault>
-    requires { S.honest shelf ≡ false }
+    requires top { IsTrue (S.honest shelf) → top_is_listed (S.disk shelf) ≡ true }
+    requires counted { IsTrue (S.honest shelf) → (s : Versioned) → Finds (seen (S.disk shelf)) (IsState s) → IsCounted s }
+    ensures found { IsTrue (S.honest shelf) → IfOk result (λ opened. Finds (seen (S.disk shelf)) (IsState (opened.room.opening.state, opened.room.opening.version))) }
     ensures seats { IfOk result (λ opened. opened.room.seats ≡ seats) }
     ensures faults { IfErr result (IsOpeningFault seats) }
 {

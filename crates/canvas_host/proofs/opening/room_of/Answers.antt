@@ -1,10 +1,9 @@
-use Rattle.std.proofs.Common.{◌≡◌, ◌∙◌, ap, sym, true, false}
-use Rattle.std.proofs.lemmas.Bool.{false≢true}
+use Rattle.std.proofs.Common.{◌≡◌, ◌∙◌, IsTrue, ap, rules, subst, sym}
+use Rattle.canvas_journal.specs.Meaning.{IsCounted}
 use Rattle.canvas_host.proofs.opening.room_of.Goals as goal
 
-pub open-requires : goal.open-requires
-open-requires g c = λ honest. absurd (false≢true (sym c.requires ∙ honest))
-
 pub blank_room-requires-clause-kept : goal.blank_room-requires-clause-kept
-blank_room-requires-clause-kept g c = λ honest.
-    absurd (false≢true (sym c.requires ∙ (sym c.in-Ok.ensures.honest ∙ (ap (λ k. g.S.Shelf.honest k.writer.shelf) (sym c.new-keeper.ensures) ∙ honest))))
+blank_room-requires-clause-kept g c = rw c.new-keeper.ensures (λ honest.
+    let was = subst IsTrue c.in-Ok.ensures.honest honest in
+    let counted : IsCounted (c.in-Ok.opened.1, c.in-Ok.opened.2) = c.requires.counted was _ (c.in-Ok.ensures.found was) in
+    record { keeps_is = record { at = c.in-Ok.ensures.keeps was counted; ready = c.in-Ok.ensures.staged; next = search rules }; found = c.in-Ok.ensures.kept was counted })
