@@ -41,11 +41,11 @@ abbrev pub WritesChecked : Place → (written after : Option (List ℕ)) → Typ
 WritesChecked (Folder dir) written after = WritesCheck written after
 WritesChecked (Document address) written after = WritesShelf written after
 
--- What was asked for was done to its end, and the status is 0; or a fault ended it, which was told. A server is always ended by one, and
--- writes no output. Only an import reads its input.
+-- What was asked for was done to its end, and the status is 0; or a fault ended it, which was told. A server is ended by one, or by its file to stop
+-- at, and writes no output. Only an import reads its input.
 abbrev pub Does : Asked → ℕ → (read left written after faults told : Option (List ℕ)) → Type 0
 Does (Serve options) status read left written after faults told =
-    (left ≡ read) × (after ≡ written) × IsServed (place_bytes options.place) options.serving.port options.serving.clients status faults told
+    (left ≡ read) × (after ≡ written) × IsServed (place_bytes options.place) options.serving.port options.serving.clients options.serving.stop_file status faults told
 Does (Show place layout) status read left written after faults told =
     (left ≡ read) × Shows place layout status written after faults told
 Does (Import place) status read left written after faults told =

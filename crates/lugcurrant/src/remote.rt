@@ -14,7 +14,11 @@ use canvas_remote::{
     MoveFault, check, finish, import_document, log, move_in, move_out, show_rows, show_tree,
 };
 use std::io::{Read, Write};
-use std::net::{Net, TcpStream};
+use std::net::{Net, TcpListener, TcpStream};
+use std::random::RandomSource;
+use std::sync::Wait;
+use std::thread::Threads;
+use std::time::Clock;
 
 /// Writes the tree of a document.
 pub(crate) fn show_remote_tree<R, W, F>(
@@ -24,7 +28,7 @@ pub(crate) fn show_remote_tree<R, W, F>(
     faults: &mut F,
 ) -> u8
 where
-    R: Net<Stream = TcpStream> + AllocGlobal + Clone + Drop,
+    R: Net<Stream = TcpStream> + Clock + RandomSource + AllocGlobal + Clone + Drop,
     W: Write,
     F: Write,
     ensures { Ends (WritesReport (W.contents output.old) (W.contents output.new)) (string_bytes address.now.name) result (F.contents faults.old) (F.contents faults.new) }
@@ -41,7 +45,7 @@ pub(crate) fn show_remote_rows<R, W, F>(
     faults: &mut F,
 ) -> u8
 where
-    R: Net<Stream = TcpStream> + AllocGlobal + Clone + Drop,
+    R: Net<Stream = TcpStream> + Clock + RandomSource + AllocGlobal + Clone + Drop,
     W: Write,
     F: Write,
     ensures { Ends (WritesRows layout (W.contents output.old) (W.contents output.new)) (string_bytes address.now.name) result (F.contents faults.old) (F.contents faults.new) }
@@ -62,7 +66,16 @@ pub(crate) fn import_remote<R, I, W, F>(
     faults: &mut F,
 ) -> u8
 where
-    R: Net<Stream = TcpStream> + AllocGlobal + Clone + Drop,
+    R: Net<Listener = TcpListener, Stream = TcpStream>
+        + Threads
+        + Wait
+        + Clock
+        + RandomSource
+        + AllocGlobal
+        + Clone
+        + Send
+        + Drop
+        + 'static,
     I: Read,
     W: Write,
     F: Write,
@@ -78,7 +91,7 @@ where
 /// Tells what stands in a document's segments.
 pub(crate) fn check_remote<R, W, F>(rt: &R, address: &Address, output: &mut W, faults: &mut F) -> u8
 where
-    R: Net<Stream = TcpStream> + AllocGlobal + Clone + Drop,
+    R: Net<Stream = TcpStream> + Clock + RandomSource + AllocGlobal + Clone + Drop,
     W: Write,
     F: Write,
     ensures { Ends (WritesShelf (W.contents output.old) (W.contents output.new)) (string_bytes address.now.name) result (F.contents faults.old) (F.contents faults.new) }
@@ -89,7 +102,7 @@ where
 /// Writes the entries past a document's checkpoint.
 pub(crate) fn log_remote<R, W, F>(rt: &R, address: &Address, output: &mut W, faults: &mut F) -> u8
 where
-    R: Net<Stream = TcpStream> + AllocGlobal + Clone + Drop,
+    R: Net<Stream = TcpStream> + Clock + RandomSource + AllocGlobal + Clone + Drop,
     W: Write,
     F: Write,
     ensures { Ends (WritesLog (W.contents output.old) (W.contents output.new)) (string_bytes address.now.name) result (F.contents faults.old) (F.contents faults.new) }
@@ -108,7 +121,16 @@ pub(crate) fn run_move<R, W, F>(
     faults: &mut F,
 ) -> u8
 where
-    R: Net<Stream = TcpStream> + AllocGlobal + Clone + Drop,
+    R: Net<Listener = TcpListener, Stream = TcpStream>
+        + Threads
+        + Wait
+        + Clock
+        + RandomSource
+        + AllocGlobal
+        + Clone
+        + Send
+        + Drop
+        + 'static,
     W: Write,
     F: Write,
     ensures { folder.Ends (WritesBegun (W.contents output.old) (W.contents output.new)) dir.now result (F.contents faults.old) (F.contents faults.new)
@@ -131,7 +153,16 @@ fn moved<R, W>(
     output: &mut W,
 ) -> Result<(), MoveFault>
 where
-    R: Net<Stream = TcpStream> + AllocGlobal + Clone + Drop,
+    R: Net<Listener = TcpListener, Stream = TcpStream>
+        + Threads
+        + Wait
+        + Clock
+        + RandomSource
+        + AllocGlobal
+        + Clone
+        + Send
+        + Drop
+        + 'static,
     W: Write,
     ensures { OnOk result (WritesBegun (W.contents output.old) (W.contents output.new)) }
 {

@@ -14,6 +14,7 @@ use canvas_words::{Asked, Options, Place, WordError, WordsError, read_words};
 use std::alloc::{AllocError, Global};
 use std::io::{Eprint, Print, Read, Write};
 use std::net::{Net, TcpListener, TcpStream};
+use std::random::RandomSource;
 use std::sync::Wait;
 use std::thread::Threads;
 use std::time::Clock;
@@ -33,6 +34,7 @@ where
         + Threads
         + Wait
         + Clock
+        + RandomSource
         + Print
         + Eprint
         + AllocGlobal
@@ -101,6 +103,7 @@ where
         + Threads
         + Wait
         + Clock
+        + RandomSource
         + Eprint
         + AllocGlobal
         + Clone
@@ -154,7 +157,7 @@ fn show<R, W, F>(
     faults: &mut F,
 ) -> u8
 where
-    R: Net<Stream = TcpStream> + AllocGlobal + Clone + Drop,
+    R: Net<Stream = TcpStream> + Clock + RandomSource + AllocGlobal + Clone + Drop,
     W: Write,
     F: Write,
     ensures { Shows place.now layout result (W.contents output.old) (W.contents output.new) (F.contents faults.old) (F.contents faults.new) }
@@ -176,6 +179,7 @@ where
         + Threads
         + Wait
         + Clock
+        + RandomSource
         + Eprint
         + AllocGlobal
         + Clone
@@ -184,7 +188,7 @@ where
         + Drop
         + 'static,
     F: Write,
-    ensures { IsServed (place_bytes options.place) options.serving.port options.serving.clients result (F.contents faults.old) (F.contents faults.new) }
+    ensures { IsServed (place_bytes options.place) options.serving.port options.serving.clients options.serving.stop_file result (F.contents faults.old) (F.contents faults.new) }
 {
     let port = options.serving.port;
     match place_text(rt.alloc(), &options.place) {
@@ -220,10 +224,14 @@ fn place_text(alloc: Global, place: &Place) -> Result<String, AllocError>
     }
 }
 
-// Tells of a fault: its sentence and a line feed. The program's status: the fault's, or 4 where it can't be told.
+// Tells of a fault: its sentence and a line feed, or nothing of a server that was stopped. The program's status: the fault's, or 4 where it
+// can't be told.
 fn tell<F: Write>(told: &Told<'_>, faults: &mut F) -> u8
     ensures { IsEnd told.now.fault told.now.dir.now told.now.port result (F.contents faults.old) (F.contents faults.new) }
 {
+    if told.fault == Fault::Stopped {
+        return 0;
+    }
     if writeln!(faults, "{told}").is_err() || faults.flush().is_err() {
         return 4;
     }
