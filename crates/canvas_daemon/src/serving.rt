@@ -1,6 +1,9 @@
 // What `canvasd serve` does: a room over the journal of a folder, each of whose seats answers one connection.
-ghost use Rattle.std.specs.Prelude.{◌≡◌, IfErr, IfOk, OnOk, false, length, string_bytes, true};
+ghost use Rattle.std.specs.Prelude.{◌≡◌, IfErr, IfOk, IsTrue, OnOk, false, length, string_bytes, true};
 ghost use Rattle.std.specs.Io.KnownBytes.{Appends};
+ghost use Rattle.canvas_shelf.specs.Disk.{seen, top_is_listed};
+ghost use Rattle.canvas_journal.specs.Found.{Finds, IsState};
+ghost use Rattle.canvas_journal.specs.Meaning.{IsCounted, Versioned};
 ghost use Rattle.canvas_daemon.specs.Faults.{IsMemoryOrDevice};
 ghost use Rattle.canvas_daemon.specs.Served.{BeginsServing, BeginsServingAt, IsServeFault, WritesServed, WritesServedAt, served_line, serving_line};
 
@@ -12,6 +15,7 @@ use canvas_folder::{DirShelf, OsFolder, Removed};
 use canvas_front::SeatAnswerer;
 use canvas_journal::{Journal, Keeper, open};
 use canvas_room::{BlankRoom, Lock, Room, Seat, blank_room};
+use canvas_shelf::Shelf;
 use canvas_sockets::serve_one;
 use std::alloc::{AllocError, Global};
 use std::io::Write;
@@ -78,16 +82,35 @@ pub fn open_room(files: HostRuntime, dir: &str, seats: u32) -> Result<FolderRoom
     ensures version { IfOk result (λ opened. opened.1 ≡ opened.0.opening.version) }
     ensures faults { IfErr result (IsServeFault seats) }
 {
-    let alloc = files.alloc();
     let shelf = DirShelf::new(files, dir)?;
     let removed = shelf.folder().removed().share()?;
+    let (room, version) = room_of(files.alloc(), shelf, seats)?;
+    Ok((room, version, removed))
+}
+
+// The room of what a shelf holds, without a name yet, with so many seats, and the version at which it opens.
+//
+// The room of an honest shelf opens with what recovery finds there. That has two premises: no retired segment stands above the highest listed
+// one, and no client of what is found has more judged edits than there are entries. Both hold of every shelf that a journal wrote.
+fn room_of<S: Shelf + Drop>(
+    alloc: Global,
+    shelf: S,
+    seats: u32,
+) -> Result<(BlankRoom<Journal<S>>, u64), Fault>
+    requires top { IsTrue (S.honest shelf) → top_is_listed (S.disk shelf) ≡ true }
+    requires counted { IsTrue (S.honest shelf) → (s : Versioned) → Finds (seen (S.disk shelf)) (IsState s) → IsCounted s }
+    ensures found { IsTrue (S.honest shelf) → IfOk result (λ opened. Finds (seen (S.disk shelf)) (IsState (opened.0.opening.state, opened.0.opening.version))) }
+    ensures seats { IfOk result (λ opened. opened.0.seats ≡ seats) }
+    ensures version { IfOk result (λ opened. opened.1 ≡ opened.0.opening.version) }
+    ensures faults { IfErr result (IsServeFault seats) }
+{
     let (journal, state, version) = match open(alloc, shelf) {
         Ok(opened) => opened,
         Err((_shelf, error)) => return Err(Fault::from(error)),
     };
     let opening = Opening { state, version };
     match blank_room(alloc, journal, opening, seats as usize) {
-        Ok(room) => Ok((room, version, removed)),
+        Ok(room) => Ok((room, version)),
         Err((_journal, error)) => Err(Fault::from(error)),
     }
 }
