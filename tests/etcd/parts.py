@@ -22,7 +22,7 @@ NAME = "canvas"
 LEASE = 10  # seconds after which a lost server's document is free
 RESTART = 1  # seconds after which a server that ended is started anew
 ENDINGS = (f"the store of {NAME} failed", f"the lease of the document {NAME} has ended",
-           f"the etcd of the document {NAME} can't be reached, or doesn't answer: look at its health")
+           f"the etcd of the document {NAME} ")
 
 
 def call(*words, **wanted):

@@ -1,6 +1,6 @@
 #!/usr/bin/env python3
-"""run.py LUGCURRANT [KILLS [SECONDS]] [GROUP..]: tries `lugcurrant` with documents in an etcd, each group with an etcd of its own on loopback;
-only the named groups, where some are named.
+"""run.py LUGCURRANT [KILLS [SECONDS [FAULTS [SEED]]]] [GROUP..]: tries `lugcurrant` with documents in an etcd, each group with an etcd of its
+own on loopback; only the named groups, where some are named.
 
 - words: wrong URLs, wrong names, a folder and an etcd, neither: status 2. An etcd that isn't there, is silent, or talks nonsense: status 4.
 - alone: one member. A second server is refused while the first lives, and while its lease does; the document and its identity are the same
@@ -13,9 +13,28 @@ only the named groups, where some are named.
   acknowledged an edit after the next one had.
 - cut: each of three members is stopped in turn, and edits go on. Two are stopped: none is acknowledged, and the server ends with status 4.
   With all back, all that was acknowledged is there.
+- lost: three members and three servers, each of which names another member first. Answers are lost, cut short or turned into errors, each
+  member is killed, and the leader moves: no server ends, and every acknowledged edit is there exactly once.
+- slow: all members are silent, send a byte each 1.5 seconds, errors or nonsense; only the lease isn't renewed; the owner's key is deleted.
+  Each server, idle, reports `serving` for at most a lease and a second, and ends with status 4.
+- opens: documents of 30,000 chunks and of 300,000 objects open, with each answer 10 ms late, while a standby waits.
+- backs: a snapshot is put back under an idle server, as the same cluster and as another: the next edit isn't acknowledged, the server ends with
+  status 4, and no edit that is acknowledged later is lost.
+- doubles: transactions are sent again, late, also past a checkpoint, and also if the first was lost: the server continues, and `check` and
+  `show` find what it serves.
+- faults: three members. FAULTS (100) mixed faults in a row, drawn by SEED, while 8 clients edit: at the end every acknowledged edit is there
+  exactly once, no server acknowledged an edit after the next one had, and no server ended unless it lost its document.
 - space: an etcd without room refuses an edit; it isn't acknowledged, the server ends with status 4, and what was acknowledged is there once
   there is room again.
 - large: a document of 20 MB is imported, served and copied to a client; an edit of many chunks; one that is too large.
+- opening: a document that takes longer to open than its lease lasts is opened, and that is told; a start that fails releases it.
+- lease: an etcd that is silent, dripping, faulty or nonsense to a server, and an owner's key that is deleted or another's: the server ends, and
+  says no more that it serves, once its lease has.
+- stopped: a file that is there is refused; a server at whose file comes ends with status 0, a standby acknowledges within a second, and all that
+  was acknowledged stands once.
+- causes: each cause of an etcd that doesn't do what it is asked has its sentence and its status.
+- killed: an import longer than the lease; a command that is killed frees its document with the lease.
+- patience: a standby waits while the etcd has no room, says so, and serves once it has.
 - speed: figures alone. Edits a second of 1 and of 64 clients in SECONDS (10), on a folder, on one member and on three; bytes by which the
   database of etcd grows; seconds from a kill to the first acknowledged edit.
 
@@ -27,10 +46,14 @@ import random
 import select
 import socket
 import statistics
+import struct
 import sys
 import threading
 import time
+from collections import Counter
 
+import ending
+from faults import (KEEP_ALIVE, TRANSACTION, Accounted, Front, Health, Lone, compact, move_leader, put_all, put_back, save)
 from parts import (ENDINGS, LEASE, NAME, PROGRAM, Crowd, Editor, Etcd, Pair, Served, call, never_together, read_all, require, shared,
                    served, until)
 from shared import Client, draw, numbers_and_names, page, text_of, try_groups
@@ -38,6 +61,8 @@ from shared import Client, draw, numbers_and_names, page, text_of, try_groups
 NUMBERS, NAMES = numbers_and_names(sys.argv[2:])
 KILLS = int(NUMBERS[0]) if NUMBERS else 50
 SECONDS = NUMBERS[1] if len(NUMBERS) > 1 else 10.0
+FAULTS = int(NUMBERS[2]) if len(NUMBERS) > 2 else 100
+SEED = int(NUMBERS[3]) if len(NUMBERS) > 3 else random.randrange(1000000)
 ANOTHER = f"another server has the document {NAME}"
 ROOT = '[[0,0],"document",null,[]]\n'
 
@@ -55,11 +80,13 @@ def words(room):
     for text in ("", "127.0.0.1:1", "http://", "https://127.0.0.1:1", "ftp://127.0.0.1:1", "http://127.0.0.1:1,", "http://127.0.0.1:1,x",
                  "http://a b:1", "http://127.0.0.1:1/path"):
         wrong.append(["serve", "--etcd", text, *name])
-    for text in ("", "a/b", "a b", "\u00e9", "x" * 65):
-        wrong.append(["serve", *url, "--document", text])
+    for text in ("", "a/b", "a b", "\u00e9", "x" * 65, "-x"):
+        wrong.append(["serve", *url, f"--document={text}"])
     for line in wrong:
         call(*line, status=2)
     require(not os.path.exists(room), "wrong words make a folder")
+    for text in ("http://127.0.0.1:1/", " http://127.0.0.1:1 , http://127.0.0.1:1/"):
+        call("show", "--etcd", text, *name, status=4)
     for command in (["serve", "--port", "0"], ["show"], ["check"], ["log"]):
         call(*command, *url, *name, status=4, told=ENDINGS[2])
     call("import", *url, *name, text=ROOT.encode(), status=4, told=ENDINGS[2])
@@ -309,6 +336,278 @@ def cut(room):
     return f"{told}; a member stopped: {spread(seconds)}; two: status 4 after {ended:.1f} s, and edits {back:.1f} s after they are back"
 
 
+def lost(room):
+    etcd = Etcd(room, 3)
+    fronts = [Front(etcd, f"first{at}", at) for at in range(3)]
+    crowds = [Crowd(Lone(front), 3) for front in fronts]
+
+    def go_on(step):
+        for crowd in crowds:
+            crowd.pair.step = step
+            crowd.goes_on()
+
+    go_on("start")
+    for kind, path in [(kind, TRANSACTION) for kind in ("lost", "cut", "half", "swallowed", "error", "nonsense")] + [("lost", KEEP_ALIVE)]:
+        met = [front.begin(kind, path, 1) for front in fronts]
+        until(lambda: all(fault.met for fault in met), 10, "no request meets the fault", kind)
+        go_on(f"an answer {kind}")
+    for at in range(3):
+        for front in fronts:
+            front.proxies[at].refuse()
+        etcd.kill(at)
+        go_on(f"member {at} killed")
+        etcd.start(at)
+        etcd.await_health()
+        for front in fronts:
+            front.end()
+        move_leader(etcd)
+        go_on("another leader")
+    for crowd in crowds:
+        crowd.pair.end()
+    told = "; ".join(crowd.settle() for crowd in crowds)
+    for skips in range(10):
+        front = Front(etcd, f"start{skips}")
+        fault = front.begin("lost", count=1, skips=skips)
+        server = Served(front, name=front.name)
+        until(lambda: fault.met, 10, "nothing is asked that often:", skips)
+        require(read_all(server.port)[0] == 1, "a server doesn't start whose answer", skips, "is lost")
+        server.kill()
+    return told
+
+
+# The faults that all requests of an idle server meet.
+SLOW = {"silent": [("silent",)], "bytes": [("dripped",)], "errors": [("error",)], "garbage": [("garbage",)], "nonsense": [("nonsense",)],
+        "unrenewed": [("lost", KEEP_ALIVE)], "unheard": [("mute", KEEP_ALIVE)], "owner": []}
+
+
+def slow(room):
+    etcd = Etcd(room, 3)
+    fronts = {name: Front(etcd, name) for name in SLOW}
+    healths = {name: Health(Served(front, name=name)) for name, front in fronts.items()}
+    time.sleep(4)
+    for health in healths.values():
+        health.start()
+    moment = time.monotonic()
+    for name, front in fronts.items():
+        for what in SLOW[name]:
+            front.begin(*what)
+    etcd.ctl("del", "lugcurrant/owner/owner")
+    for health in healths.values():
+        health.join(max(0.1, moment + 4 * LEASE - time.monotonic()))
+        health.ends = True
+    late = [f"{name} for {health.served - moment:.1f} s, and ends after {f'{health.ended - moment:.1f} s' if health.ended else 'more'}"
+            for name, health in healths.items() if not health.ended or max(health.served, health.ended) > moment + LEASE + 1]
+    require(not late, "servers that have lost their lease report that they serve:", *late)
+    for name, health in healths.items():
+        require(health.server.process.returncode == 4, name, "ends with", health.server.process.returncode, health.server.text()[-200:])
+        fronts[name].end()
+    return ", ".join(f"{name} {health.ended - moment:.1f} s" for name, health in healths.items())
+
+
+def many_chunks(etcd, name, objects, chunks):
+    """Makes a document of so many objects, with so many entries after its checkpoint, each a key of its own."""
+    lines = [ROOT] + [text_of([[1, number], *page(1, number)[2:], []]) + "\n" for number in range(1, objects + 1)]
+    call("import", *etcd.words(name), text="".join(lines).encode())
+    key, pairs = f"lugcurrant/{name}/segment/0000000001/", []
+    at = int(etcd.keys(key)[-1][-10:]) + len(etcd.ctl("get", etcd.keys(key)[-1], "--print-value-only").encode()) - 1
+    for number in range(chunks):
+        entry = [2, number, ["set", [1, 1 + number % objects], "count", number], ["wasset"]] if number else [0, 0, "join", ["joined", 2]]
+        record = struct.pack("!I", len(text_of(entry))) + text_of(entry).encode()
+        pairs.append((f"{key}{at:010d}", record))
+        at += len(record)
+    put_all(etcd, pairs)
+
+
+def opens(room):
+    etcd, told = Etcd(room), []
+    many_chunks(etcd, "chunks", 30_000, 30_000)
+    rows = [ROOT] + [text_of([[1, number], *page(1, number)[2:], [["text", "x" * 64]]]) + "\n" for number in range(1, 300_001)]
+    call("import", *etcd.words("objects"), text="".join(rows).encode())
+    for name, version, count in (("chunks", 30_002, 30_001), ("objects", 2, 300_001)):
+        etcd.await_free(name)
+        front = Front(etcd, name)
+        front.begin("late", millis=10)
+        start = time.monotonic()
+        server = Served(front, "--standby", name=name, listens=False)
+        until(lambda: etcd.keys(f"lugcurrant/{name}/owner"), 30, "nobody takes the document over", tend=server.require_running)
+        other = Served(front, "--standby", name=name, listens=False).await_waiting()
+        server.await_serving(45)
+        told.append(f"{name} {time.monotonic() - start:.1f} s")
+        found, shown = read_all(server.port)
+        require((found, len(shown)) == (version, count), "a document of", name, "has version", found, "and", len(shown), "rows")
+        draw(server, 3)
+        require(not other.serves(), "two servers have opened a document")
+        server.kill()
+        other.kill()
+    return ", ".join(told)
+
+
+def backs(room):
+    etcd, told = Etcd(room), []
+    for name, token in (("same", None), ("another", "another")):
+        front = Front(etcd, name)
+        server = Served(front, name=name)
+        edited, client = draw(server, 50), Client(server.port)
+        author, file = client.join(), save(etcd)
+        for number in range(1, 21):
+            require(client.ask("edit", author, number, page(author, number)) == [["idle"]], "an edit isn't judged")
+        front.refuse()
+        put_back(etcd, file, token)
+        front.end()
+        moment = time.monotonic()
+        try:
+            answer = client.ask("edit", author, 21, page(author, 21))
+        except OSError:
+            answer = None
+        require(answer in (None, [["no", 5]], [["no", 6]]), "an edit behind a gap is answered", answer)
+        require(server.process.wait(timeout=LEASE + 2) == 4, "a server whose etcd was put back ends with", server.process.returncode)
+        told.append(f"as {name} cluster status 4 after {time.monotonic() - moment:.1f} s")
+        server = Served(front, "--standby", name=name, listens=False).await_serving()
+        later = draw(server, 30)
+        server.kill()
+        server = Served(front, "--standby", name=name, listens=False).await_serving()
+        ids = {tuple(row[0]) for row in read_all(server.port)[1]}
+        require({(edited, 1), (edited, 49), (later, 1), (later, 28)} <= ids, "an edit that was acknowledged after a snapshot was put back is lost")
+        call("check", *front.words())
+        server.kill()
+    return ", ".join(told)
+
+
+def doubles(room):
+    etcd = Etcd(room)
+    front = Front(etcd)
+    server, count = Served(front), 0
+    for kind, edits in (("doubled", 1), ("doubled", 30), ("strayed", 1), ("strayed", 30)):
+        for _ in range(20):
+            front.begin(kind, TRANSACTION, 1)
+            draw(server, edits)
+        front.end()
+        count += front.send_doubles()
+        require(call("check", *front.words()) and json.loads(shown(front, "--json")) == read_all(server.port)[1], "another document is shown")
+    draw(server, 300)
+    version, rows = read_all(server.port)
+    server.kill()
+    server = served(front)
+    require(read_all(server.port) == (version + 1, rows), "another document is served after a restart")
+    return f"{count} transactions done once more, in a document of {version} versions"
+
+
+class Trial:
+    """An etcd of three members, proxies before them, two servers, and clients that edit while faults are made."""
+
+    def __init__(self, room):
+        self.etcd, self.random = Etcd(room, 3), random.Random(SEED)
+        self.front = Front(self.etcd)
+        self.pair = Accounted(self.front)
+        self.crowd, self.stuck = Crowd(self.pair, 8), Counter()
+
+    def kinds(self, count):
+        """Draws the kinds of the faults: each rare one once, and the others by their weights."""
+        rare = [RARE[at % len(RARE)] for at in range(min(len(RARE), count // 10))]
+        drawn = rare + self.random.choices(list(COMMON), [weight for weight, _ in COMMON.values()], k=count - len(rare))
+        self.random.shuffle(drawn)
+        return drawn
+
+    def make(self, kind):
+        """Makes a fault, waits until edits go on, for two leases at most, and ends it."""
+        self.crowd.goes_on()
+        self.pair.begin(kind)
+        if kind in RARE:
+            self.take_away(kind)
+        else:
+            COMMON[kind][1](self)
+        moment = time.monotonic()
+        self.pair.until(lambda: self.crowd.went_on(moment) or time.monotonic() > moment + 2 * LEASE, 60, "time stands still")
+        self.stuck[kind] += not self.crowd.went_on(moment)
+        self.front.end()
+
+    def meet(self, kind, path, count, millis):
+        fault = self.front.begin(kind, path, count, millis=millis)
+        self.pair.until(lambda: fault.met, 10, "no request meets the fault", kind)
+
+    def double(self, kind):
+        self.meet(kind, TRANSACTION, self.random.randrange(1, 9), 0)
+        self.crowd.goes_on()
+        self.front.end()
+        self.front.send_doubles()
+
+    def refuse(self):
+        self.front.proxies[self.random.randrange(3)].refuse()
+
+    def cut(self):
+        for proxy in self.front.proxies:
+            proxy.cut()
+
+    def kill_member(self):
+        at = self.random.randrange(3)
+        self.front.proxies[at].refuse()
+        self.etcd.kill(at)
+        self.crowd.goes_on()
+        self.etcd.start(at)
+        self.etcd.await_health()
+
+    def stop_member(self):
+        at = self.random.randrange(3)
+        self.etcd.pause(at)
+        try:
+            self.crowd.goes_on()
+        finally:
+            self.etcd.wake(at)
+
+    def take_away(self, kind):
+        """Kills the server, or takes its document away."""
+        server = self.pair.serving()
+        if kind == "server killed":
+            server.kill()
+            return
+        self.pair.pardon()
+        if kind == "owner deleted":
+            self.etcd.ctl("del", f"lugcurrant/{NAME}/owner")
+        if kind == "all silent":
+            self.front.begin("silent")
+            end = time.monotonic() + LEASE + 2
+            self.pair.until(lambda: time.monotonic() > end, 60, "time stands still")
+        if kind == "put back":
+            self.front.refuse()
+            time.sleep(0.5)  # what was passed on is done
+            put_back(self.etcd, save(self.etcd), "another")
+        self.front.end()
+
+
+def met(kind, path=TRANSACTION, millis=0):
+    """Makes a fault that one request meets, or up to three."""
+    return lambda trial: trial.meet(kind, path, trial.random.randrange(1, 4) if kind in ("lost", "cut", "swallowed") else 1, millis)
+
+
+RARE = ("server killed", "owner deleted", "all silent", "put back")
+# How often in about a hundred faults, and how it is made.
+COMMON = {"lost": (10, met("lost")), "any lost": (4, met("lost", b"")), "keep-alive lost": (3, met("lost", KEEP_ALIVE)), "cut": (8, met("cut")),
+          "half": (5, met("half")), "swallowed": (6, met("swallowed")), "late": (6, met("late", millis=700)),
+          "doubled": (7, lambda trial: trial.double("doubled")), "strayed": (6, lambda trial: trial.double("strayed")),
+          "error": (6, met("error")), "garbage": (5, met("garbage")), "nonsense": (5, met("nonsense")), "empty": (4, met("empty")),
+          "silent": (2, met("silent")), "mute": (2, met("mute")), "bytes": (2, met("dripped")), "refused": (5, Trial.refuse),
+          "connections cut": (5, Trial.cut), "member killed": (4, Trial.kill_member), "member stopped": (2, Trial.stop_member),
+          "another leader": (5, lambda trial: move_leader(trial.etcd)), "compacted": (3, lambda trial: compact(trial.etcd))}
+
+
+def faults(room):
+    trial = Trial(room)
+    start = time.monotonic()
+    for kind in trial.kinds(FAULTS):
+        trial.make(kind)
+        if time.monotonic() > start + 100:
+            break
+    pair, seconds = trial.pair, time.monotonic() - start
+    pair.begin("end")
+    told = trial.crowd.settle()
+    done = sum(pair.times.values()) - 1
+    wrong = [f"{name} after {kind} {count} of {pair.times[kind]}" for name, counts in (("ended", pair.wrong_ends), ("no edits", trial.stuck))
+             for kind, count in counts.most_common() if count]
+    require(not wrong, told, "but of", done, f"faults in {seconds:.0f} s (seed {SEED}):", ", ".join(wrong))
+    ends = ", ".join(f"{kind} {count}" for kind, count in pair.ends.most_common())
+    return f"{done} faults of {len(pair.times) - 1} kinds in {seconds:.0f} s (seed {SEED}), {told}; servers ended by themselves: {ends or 'none'}"
+
+
 def space(room):
     etcd = Etcd(room, 1, "--quota-backend-bytes", str(16 << 20))
     server = Served(etcd)
@@ -422,7 +721,7 @@ def speed(room):
     return "; ".join(parts)
 
 
-GROUPS = (words, alone, move, rows, standby, kills, cut, space, large, speed)
+GROUPS = (words, alone, move, rows, standby, kills, cut, lost, slow, opens, backs, doubles, faults, space, large, *ending.GROUPS, speed)
 
 if __name__ == "__main__":
     sys.exit(try_groups(GROUPS, NAMES))
