@@ -9,7 +9,7 @@ own; only the named groups, where some are named.
 - pages: health, metrics, document, the page's files, HEAD, what isn't there, paths that lead out of the folder, wrong methods.
 - origins: a page of the same host, of a named one, of a foreign one, and none.
 - identity: /document/ID connects, another ID doesn't; the ID stands in the answer, and stays after a restart. A folder whose identity is a
-  pipe, or isn't one, is left alone; a link that stands where a new identity is written first isn't followed.
+  pipe, or isn't one, or has any bit turned, is left alone; a link that stands where a new identity is written first isn't followed.
 - kills: 16 clients edit while the server is killed KILLS (40) times; every edit that was answered is there at the end.
 - figures: the whole text of /metrics after a known session: edits judged and refused by each reason, Noes, syncs, a checkpoint.
 - sizes: an edit whose text has --message-bytes is judged, one of a byte more is answered No 8 and changes nothing, and a message above
@@ -22,14 +22,18 @@ own; only the named groups, where some are named.
 - large: a document of 100 MB is imported, served, and copied to a client in one message.
 - disk: on a disk that is full an edit is answered No 5 (or No 6, after a checkpoint that failed), the server ends with status 4 and its sentence, and every edit that was
   answered is there afterwards. (It mounts a small tmpfs, and passes where it may not.)
+- space: on a disk that has no room for another segment a server ends with status 4 and says how many bytes are missing, 20 times over, and leaves
+  the folder as it was; so where the segment itself can't be written. Once the bytes are free it serves. While it runs edits go on, a
+  checkpoint that has no room is told once and counted, and tried again after as many entries more; so where no open file is left. (As disk.)
 - sentences: each fault that can be had has its sentence and its status.
 - rows: what `show --json` and `show --lines` write is imported to the same document; a folder that holds anything of a document isn't imported
-  to; of rows that make no document the line is told.
+  to; of rows that make no document the line is told, and why.
 - restored: a backup's folder is restored with another identity, with which clients of the old document aren't served; one that has lost
   something only with --accept-loss.
 - lost: a bit is turned in each byte of a folder's segment, in turn: each time the server ends with status 5, says where, and touches nothing. So
   where a segment is cut below what was synced, and where one that is passed over isn't a checkpoint cut short. With --accept-loss it opens
-  the folder once the segments are copied, and never over an earlier copy. What a crash leaves is opened.
+  the folder once the segments are copied, and never over an earlier copy; killed then, it does so at the next start. What a crash leaves is
+  opened.
 - gone: a folder whose segments are removed or cut to nothing, while its identity or its sums are there, isn't served, shown, checked, moved or
   restored: status 5, the sentence names what is left, and nothing is written. With --accept-loss it opens as another document. What a crash
   of the first start leaves is opened.
@@ -39,6 +43,8 @@ own; only the named groups, where some are named.
   server goes on in its own folder, makes its checkpoint there, and neither writes into the other one nor removes anything there.
 - checked: `check` tells segments, whole records, torn rests and damage, and `log` the entries past the checkpoint; neither writes anything.
 - served: 5 checks for each of KILLS of a folder whose server makes many edits and checkpoints meanwhile: none reports damage or a loss.
+- memory: each call by which `check` asks for memory is refused, one in each run, from the reading of its words on: it ends with status 3, with 4
+  where it can't write its output, or does as it does without. (It needs cc, and passes where there is none.)
 - coming: six clients come, edit and go again for SECONDS (30), and the server's memory stays flat.
 
 Prints a line for each group, and exits with 1 where one went wrong. Needs no package."""
@@ -48,6 +54,7 @@ import json
 import os
 import random
 import re
+import resource
 import shutil
 import socket
 import struct
@@ -216,8 +223,49 @@ def identity(room):
     server.start()
     require(server.identity() == name, "the identity changes with a restart")
     server.kill()
+    flips = changed_identities(room, name)
     odd_identities(room)
-    return "the document's own identity, and no other; one that can't be read is left alone"
+    return f"the document's own identity, and no other; one that can't be read is left alone; {flips} flips told"
+
+
+def changed_identities(room, name):
+    """Turns each bit of the file of an identity, and of its sum: each time the server says so, and writes nothing. How many bits."""
+    flips, above = 0, os.path.dirname(room)
+    held = files_of(room)
+    require(held["identity"] == name.encode() + b"\n" and "identity.sum" in held, "the files of an identity are", list(held))
+    for file in ("identity", "identity.sum"):
+        for at in range(len(held[file])):
+            for bit in range(8):
+                content = bytearray(held[file])
+                content[at] ^= 1 << bit
+                Path(room, file).write_bytes(content)
+                before = files_of(room)
+                call("serve", room, "--port", "0", "--quiet", status=5, told=f"the file identity in {room} isn't ")
+                require(files_of(room) == before, "a folder with a changed identity is written to")
+                flips += 1
+        Path(room, file).write_bytes(held[file])
+    os.remove(os.path.join(room, "identity.sum"))
+    server = Server(room, "--quiet")
+    require(server.identity() == name, "a folder of an older version gets another identity")
+    server.kill()
+    require(files_of(room)["identity.sum"] == held["identity.sum"], "a folder of an older version gets no sum of its identity")
+    Path(room, "identity").write_bytes(b"0" * 32 + b"\n")
+    before = files_of(room)
+    call("serve", room, "--port", "0", "--quiet", "--accept-loss", status=5, told=f"the file identity in {room} isn't the one that identity.sum names")
+    require(files_of(room) == before, "a folder with another's identity is written to")
+    os.remove(os.path.join(room, "identity"))
+    other = copied(room, "restored")
+    server = Server(room, "--quiet")
+    require(server.identity() not in (name, "0" * 32), "a folder whose identity was deleted keeps it")
+    server.kill()
+    require(files_of(room)["identity.sum"] != held["identity.sum"], "another identity has the sum of the old one")
+    for left in ("segment", "lost"):
+        for file in [file for file in os.listdir(other) if file.startswith(left)]:
+            os.remove(os.path.join(other, file))
+    require(os.listdir(other) == ["identity.sum"], "left in the folder is", os.listdir(other))
+    call("restore", room, other)
+    require(os.listdir(other) == ["segment-0000000001"], "a restore leaves the sum of another identity", os.listdir(other))
+    return flips
 
 
 def odd_identities(room):
@@ -308,6 +356,7 @@ def metrics(seconds, **numbers):
         gauge("clients", "clients"), counter("connections", "connections"), counter("turned_away", "turned_away"),
         counter("requests", "requests"), counter("edits", "edits"), by_reason("refused", REASONS), by_reason("no", NOES),
         counter("entries", "entries"), counter("syncs", "syncs"), counter("checkpoints", "checkpoints"),
+        counter("checkpoints_refused", "checkpoints_refused"),
         family("checkpoint_seconds_total", "counter", seconds), gauge("checkpoint_bytes", "checkpoint_bytes")])
 
 
@@ -589,6 +638,133 @@ def disk(room):
         subprocess.run(["umount", "-l", small], check=False)
 
 
+SPARE = 65536  # what a segment needs beside the bytes of the one before it
+
+
+def contents(folder):
+    """The names in a folder, and what each file has."""
+    found = {}
+    for name in sorted(os.listdir(folder)):
+        with open(os.path.join(folder, name), "rb") as file:
+            found[name] = file.read()
+    return found
+
+
+def fill(disk, left):
+    """Fills a disk but for so many bytes, with one file, whose size is answered."""
+    filler = os.path.join(disk, "filler")
+    time.sleep(0.2)  # a removed segment's bytes are given back a moment later
+    with open(filler, "ab") as file:
+        file.truncate(0)
+        free = os.statvfs(disk).f_bavail * os.statvfs(disk).f_bsize
+        file.write(bytes(free - left))
+    return free - left
+
+
+def refused_starts(room, times, pattern, **how):
+    """Starts a server so often in vain: each ends with status 4 and this sentence, and leaves the folder as it was. The last match."""
+    before = contents(room)
+    for number in range(1, times + 1):
+        done = subprocess.run([PROGRAM, "serve", room, "--port", "0"], capture_output=True, text=True, timeout=60, **how)
+        found = re.fullmatch(pattern, done.stderr)
+        require(contents(room) == before, "start", number, "leaves", sorted(contents(room)), "of", sorted(before))
+        require(done.returncode == 4 and found, "start", number, "ends with", done.returncode, done.stderr)
+    return found
+
+
+def refusals(server):
+    """How many checkpoints were made and refused, by its numbers and by its log."""
+    time.sleep(0.3)
+    text = server.get("/metrics")[2].decode()
+    with open(server.told) as log:
+        lines = log.read().splitlines()
+    return tuple(int(re.search(rf"(?m)^lugcurrant_{name}_total (\d+)$", text)[1]) for name in ("checkpoints", "checkpoints_refused")), lines
+
+
+def counting(client, name, numbers):
+    """Has a client edit under these numbers."""
+    for number in numbers:
+        require(client.ask("edit", name, number, ["set", [0, 0], "count", number]) == [["idle"]], "edit", number, "isn't answered")
+
+
+def space(room):
+    above = os.path.dirname(room)
+    small = os.path.join(above, "small")
+    os.mkdir(small)
+    if subprocess.run(["mount", "-t", "tmpfs", "-o", "size=2m", "tmpfs", small], capture_output=True).returncode:
+        return "not tried: no tmpfs can be mounted here"
+    try:
+        room = os.path.join(small, "room")
+        lines = ["[[0,0],\"document\",null,[]]"]
+        lines += [text_of([[1, n], "page", [[0, 0], f"{n:06d}O"], [["text", "x" * 3000]]]) for n in range(1, 201)]
+        call("import", room, text=("\n".join(lines) + "\n").encode())
+        server = Server(room, "--quiet", log=os.path.join(above, "first"))
+        server.identity()
+        server.kill()
+        size = os.path.getsize(os.path.join(room, highest(room)))
+        started = starts_without_room(small, room, size)
+        served = runs_without_room(small, room, os.path.join(above, "log"))
+        return f"a document of {size} bytes: {started}; {served}"
+    finally:
+        subprocess.run(["umount", "-l", small], check=False)
+
+
+def starts_without_room(small, room, size):
+    left = 100000
+    filled = fill(small, left)
+    sentence = f"the disk of {room} has no room to open the document: (\\d+) bytes are missing; free them, or move the folder\n"
+    missing = int(refused_starts(room, 20, sentence)[1])
+    require(abs(missing - (size + SPARE - left)) <= 16384, missing, "bytes are missing of", size)
+    os.truncate(os.path.join(small, "filler"), 0)
+    # The new segment can't be written for another reason: there is room for a part of it alone.
+    limit = {"preexec_fn": lambda: resource.setrlimit(resource.RLIMIT_FSIZE, (size // 2, size // 2)), "restore_signals": False}
+    refused_starts(room, 3, f"the folder {room} can't be read and written: .*\n", **limit)
+    # A server that was killed leaves its scratch file, and the next one removes it.
+    with open(os.path.join(room, ".space"), "wb") as scratch:
+        scratch.write(bytes(1000))
+    os.truncate(os.path.join(small, "filler"), filled - missing - 16384)
+    os.posix_fallocate(os.open(os.path.join(small, "filler"), os.O_RDWR), 0, filled - missing - 16384)
+    return f"20 starts on a full disk say that {missing} are missing"
+
+
+def runs_without_room(small, room, log):
+    server = Server(room, "--quiet", log=log)
+    client = Client(server.port)
+    name = client.join()
+    require(not os.path.exists(os.path.join(room, ".space")), "the scratch file that was left is still there")
+    line = f"no room for a checkpoint of {room}: (\\d+) bytes are missing; free them, edits go on meanwhile"
+    fill(small, 200000)
+    counting(client, name, range(1, 300))
+    counts, told = refusals(server)
+    require(counts == (0, 1) and len(told) == 1 and re.fullmatch(line, told[0]), counts, told)
+    counting(client, name, range(300, 600))
+    require(refusals(server) == ((0, 2), told), "after as many entries more:", refusals(server))
+    require(not os.path.exists(os.path.join(room, ".space")), "a scratch file is left")
+    os.truncate(os.path.join(small, "filler"), 0)
+    counting(client, name, range(600, 900))
+    require(refusals(server) == ((1, 2), told), "with room:", refusals(server))
+    fill(small, 200000)
+    counting(client, name, range(900, 1200))
+    counts, told = refusals(server)
+    require(counts == (1, 3) and len(told) == 2 and re.fullmatch(line, told[1]), counts, told)
+    os.truncate(os.path.join(small, "filler"), 0)
+    # No descriptor is left, while the client is connected.
+    most = resource.prlimit(server.process.pid, resource.RLIMIT_NOFILE)
+    counting(client, name, range(1200, 1500))
+    require(refusals(server) == ((2, 3), told), "with room again:", refusals(server))
+    resource.prlimit(server.process.pid, resource.RLIMIT_NOFILE, (3, most[1]))
+    counting(client, name, range(1500, 1800))
+    resource.prlimit(server.process.pid, resource.RLIMIT_NOFILE, most)
+    counts, told = refusals(server)
+    require(counts == (2, 5) and len(told) == 3, counts, told)
+    require(told[2] == f"no open file is left for a checkpoint of {room}: raise the limit (ulimit -n), edits go on meanwhile", told)
+    counting(client, name, range(1800, 2100))
+    require(refusals(server) == ((3, 5), told), "with open files:", refusals(server))
+    server.kill()
+    require(".count 2099\n" in shown(room), "the last edit isn't there")
+    return "2099 edits, 3 checkpoints, 3 without room and 2 without an open file"
+
+
 def sentences(room):
     above = os.path.dirname(room)
     server = Server(room, "--quiet")
@@ -642,6 +818,48 @@ def drawn(room, edits):
     return known
 
 
+ROOT = b'[[0,0],"document",null,[]]\n'
+
+
+def line_of(id, kind="page", parent=(0, 0), position=None, props=()):
+    """The line of a row; its position is made of its id."""
+    position = f"{id[0]:08d}{id[1]:06d}O" if position is None else position
+    return text_of([id, kind, [parent, position], list(props)]).encode() + b"\n"
+
+
+def chain(count):
+    """The lines of a page, and of so many frames, each in the one before."""
+    return line_of([1, 1]) + b"".join(line_of([1, number], "frame", (1, number - 1)) for number in range(2, count + 2))
+
+
+def wrong_rows():
+    """Inputs that make no document, and what is told of each."""
+    first, deep = line_of([1, 1]), '["list",' * 16 + '["list"]' + "]" * 16
+    form, order, root = "no JSON array of an id, a kind, a place and properties", "its id isn't above", "the root [0,0] has to be"
+    number, kind, parts = "its id isn't two whole numbers", "its kind isn't", "its place isn't [parent,position]"
+    wrong = {b"": "the rows make no document", b"[]\n": "line 1: " + form, first: "line 1: " + root, ROOT + ROOT: "line 2: " + root}
+    rows = {b"{}": form, b"\xff": form, b"1": form, b'[[1,1],"page",[[0,0],"O"]]': form, b'[[1,1],"page",[[0,0],"O"],[],[]]': form,
+            b'[1,"page",[[0,0],"O"],[]]': number, b'[[1,4294967296],"page",[[0,0],"O"],[]]': number, b'[[1,-1],"page",[[0,0],"O"],[]]': number,
+            b'[[1],"page",[[0,0],"O"],[]]': number, b'[[0,1],"page",[[0,0],"O"],[]]': number,
+            b'[[1,1],"leaf",[[0,0],"O"],[]]': kind, b'[[1,1],7,[[0,0],"O"],[]]': kind,
+            b'[[1,1],"page",[[0,0],""],[]]': parts, b'[[1,1],"page",[[0,0],"O "],[]]': parts, b'[[1,1],"page",null,[]]': parts,
+            b'[[1,1],"page",[[0,0],"O"],[["b",1],["a",1]]]': parts, b'[[1,1],"page",[[0,0],"O"],[["",1]]]': parts,
+            b'[[1,1],"page",[[0,0],"O"],[["a",null]]]': parts, b'[[1,1],"page",[[0,0],"O"],{}]': parts,
+            b'[[1,1],"page",[[0,4294967296],"O"],[]]': "a number is out of its range",
+            f'[[1,1],"page",[[0,0],"O"],[["a",{deep}]]]'.encode(): "a value has lists more than 16 deep",
+            line_of([1000001, 1]): "the client of its id is above 1000000", line_of([16777216, 1]): "the client of its id is above 1000000",
+            line_of([1, 1], parent=(3, 3)): "there is no row of its parent", line_of([1, 1], "shape"): "its kind may not stand under its parent's",
+            line_of([1, 1], "document"): "its kind may not stand under its parent's"}
+    wrong |= {ROOT + row: "line 2: " + sentence for row, sentence in rows.items()}
+    wrong |= {b"[" + ROOT + b"]\n": "line 1: " + form, b'[[0,0],"page",null,[]]\n': "line 1: " + parts, b'[[0,0],"document",[[0,0],"O"],[]]\n': "line 1: " + parts,
+              ROOT + first + first: "line 3: " + order, ROOT + line_of([2, 1]) + first: "line 3: " + order,
+              ROOT + line_of([1, 1], position="O") + b"\n" + line_of([1, 2], position="O"): "line 2: another child of its parent has its position",
+              ROOT + chain(100): "line 102: it stands more than 100 below the root",
+              ROOT + first + line_of([1, 2], "frame", (1, 3)) + line_of([1, 3], "frame", (1, 2)): "line 3: its parents lead in a circle",
+              ROOT + line_of([1, 2], "frame", (1, 3)) + line_of([1, 3], "frame", (9, 9)): "line 3: there is no row of its parent"}
+    return wrong
+
+
 def rows(room):
     above = os.path.dirname(room)
     drawn(room, 300)
@@ -668,14 +886,18 @@ def rows(room):
         known.write("0" * 32 + "\n")
     call("import", left, text=array, status=4, told="holds a document, or what is left of one")
     require(os.listdir(left) == ["identity"], "an import writes beside an identity")
-    root, first = b'[[0,0],"document",null,[]]\n', b'[[1,1],"page",[[0,0],"O"],[]]\n'
-    wrong = {b"": "the rows make no document", first: "line 1: ", root + b"{}\n": "line 2: ", root + first + first: "line 3: ", root + root: "line 2: ",
-             root + b'[[1,1],"page",[[0,0],"O"]]\n': "line 2: ", root + b'[[1,1],"page",[[3,3],"O"],[]]\n': "line 2: ",
-             root + b'[[1,1],"shape",[[0,0],"O"],[]]\n': "line 2: ", root + first + b'\n[[1,2],"page",[[0,0],"O"],[]]\n': "line 2: ",
-             b"[" + root + b"]\n": "line 1: ", root + b"\xff\n": "line 2: "}
+    wrong = wrong_rows()
     for text, sentence in wrong.items():
         call("import", os.path.join(above, "wrong"), text=text, status=2, told=sentence)
-        require(not os.path.exists(os.path.join(above, "wrong")), text, "makes a folder")
+        require(not os.path.exists(os.path.join(above, "wrong")), text[:200], "makes a folder")
+    late = os.path.join(above, "late")
+    call("import", late, text=ROOT + line_of([1000000, 1]))
+    require(os.path.getsize(os.path.join(late, "segment-0000000001")) < 7_000_000, "the counts of a million clients are large")
+    require(call("show", late, "--lines") == ROOT + line_of([1000000, 1]), "the object of a late client is another")
+    many = b"".join([ROOT, *(line_of([1, number]) for number in range(1, 1001)), line_of([1002001, 1])])
+    call("import", os.path.join(above, "many"), text=many, status=2, told="line 1002: the client of its id is above 1002000,")
+    many = b"".join([ROOT, *(line_of([1, number]) for number in range(1, 1100)), line_of([1101000, 1])])
+    require(call("import", os.path.join(above, "many"), text=many) == b"version 1, objects 1101\n", "more rows bear no later client")
     with open("/dev/full", "wb") as full:
         done = subprocess.run([PROGRAM, "show", room, "--json"], stdout=full, stderr=subprocess.PIPE)
     require(done.returncode == 4 and b"the output written" in done.stderr, "a full disk for the rows:", done)
@@ -783,6 +1005,7 @@ def lost(room):
     with open(os.path.join(bare, "lost", highest(bare)), "wb"):
         pass
     call("serve", bare, *serve, "--accept-loss", status=4, told="can't be copied to")
+    cut_short, kept_whole = killed_losses(room, segment)
     require(opens(copied(room, "other")) == whole, "a folder that has lost nothing isn't opened")
     torn = copied(room, "torn")
     with open(os.path.join(torn, segment), "ab") as other:
@@ -793,7 +1016,30 @@ def lost(room):
     shutil.copy(os.path.join(room, segment), torn)
     require(opens(torn) == whole, "a checkpoint that is cut short isn't what a crash leaves")
     require(not os.path.exists(os.path.join(torn, "lost")), "what a crash leaves is copied")
-    return f"{len(content)} turned bits told, cuts, foreign segments, an accepted loss; what a crash leaves is opened"
+    return (f"{len(content)} turned bits told, cuts, foreign segments, an accepted loss; what a crash leaves is opened; "
+            f"of 40 kills {cut_short} left no copies, {kept_whole} all")
+
+
+def killed_losses(room, segment):
+    """Kills servers that are to accept a loss, at random moments: the next start goes on. How many of 40 left no copies, and all."""
+    found, folder = [0, 0], copied(room, "large")
+    os.remove(os.path.join(folder, segment + ".sum"))
+    for number in range(int(segment[8:]) + 1, int(segment[8:]) + 9):
+        with open(os.path.join(folder, segment_name(number)), "wb") as other:
+            other.write(b"\x7f\xff\xff\xff" + os.urandom(1) * 4_000_000)
+    before = {name: held for name, held in files_of(folder).items() if name.startswith("segment-")}
+    begun = time.perf_counter()
+    require(opens(copied(folder, "turn"), "--quiet", "--accept-loss").startswith("version "), "a loss isn't accepted")
+    seconds = time.perf_counter() - begun
+    for _ in range(40):
+        other = copied(folder, "turn")
+        killed(("serve", other, "--port", "0", "--quiet", "--accept-loss"), b"", random.uniform(0.0, 1) * seconds)
+        found[os.path.isdir(os.path.join(other, "lost"))] += 1
+        require(opens(other, "--quiet", "--accept-loss").startswith("version "), "what a killed one left isn't opened")
+        copies = files_of(os.path.join(other, "lost"))
+        require(before.items() <= copies.items(), "the copies are others", list(copies))
+        require(not os.path.exists(os.path.join(other, ".lost.new")), "a hidden folder is left")
+    return found
 
 
 LEFT = "no segment of the document is left, but its identity is"
@@ -998,6 +1244,25 @@ def served(room):
     return f"{5 * KILLS} checks, none wrong, {busy} too busy, at {sum(edits) / seconds:.0f} edits and {checkpoints / seconds:.1f} checkpoints a second"
 
 
+def memory(room):
+    drawn(room, 10)
+    above, plain = os.path.dirname(room), call("check", room)
+    library, count = os.path.join(above, "refuse.so"), os.path.join(above, "count")
+    source = Path(__file__).resolve().parents[1] / "malloc" / "refuse.c"
+    if not shutil.which("cc"):
+        return "there is no cc"
+    subprocess.run(["cc", "-shared", "-fPIC", "-O", "-o", library, source, "-ldl"], check=True)
+    at, asked = 0, 0
+    while at <= asked:
+        at += 1
+        Path(count).unlink(missing_ok=True)
+        done = subprocess.run([PROGRAM, "check", room], capture_output=True, env={"LD_PRELOAD": library, "REFUSE_AT": str(at), "REFUSE_FILE": count})
+        asked = int.from_bytes(Path(count).read_bytes()[:8], "little")
+        wrote = done.returncode == 4 and b"or the output written" in done.stderr
+        require(wrote or done.returncode == 3 or done.returncode == 0 and done.stdout == plain, "where call", at, "for memory is refused, check ends with", done.returncode, done.stderr)
+    return f"{at - 1} calls refused in turn"
+
+
 def coming(room):
     server = Server(room, "--clients", "8", "--quiet")
     stop, refused, served = threading.Event(), [0], [0]
@@ -1034,6 +1299,7 @@ def coming(room):
     return f"{served[0]} clients in {SECONDS:.0f} s, none refused, memory {before} kB after a third, {after} kB at the end"
 
 
-GROUPS = (reuse, full, quiet, pages, origins, identity, kills, figures, sizes, copies, pieces, large, disk, sentences, rows, restored, whole, lost, gone, moved, checked, served, coming)
+GROUPS = (reuse, full, quiet, pages, origins, identity, kills, figures, sizes, copies, pieces, large, disk, space, sentences, rows, restored, whole, lost, gone, moved, checked, served,
+          memory, coming)
 
 sys.exit(try_groups(GROUPS, NAMES))
