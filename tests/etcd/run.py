@@ -43,6 +43,7 @@ Prints a line for each group, and exits with 1 where one went wrong. Needs Debia
 import json
 import os
 import random
+import re
 import select
 import socket
 import statistics
@@ -170,8 +171,13 @@ def move(room):
         require((server.identity() == known) == is_same, "the identity of", place, "is", server.identity())
         server.kill()
     call("move", os.path.join(room, "none"), *etcd.words("other"), status=4)
+    for name in os.listdir(back):
+        if re.fullmatch(r"segment-\d{10}", name):
+            os.remove(os.path.join(back, name))
+    call("move", back, *etcd.words("other"), status=5, told=f"no segment of the document in {back} is left")
+    require(os.path.exists(os.path.join(back, "identity")) and not etcd.keys("lugcurrant/other/"), "a document that has gone is moved")
     call("move", os.path.join(room, "none"), *etcd.words("other"), "--back", status=4, told="there is no document other")
-    return "300 edits in and back, with the identity and a client; six that can't be made are refused"
+    return "300 edits in and back, with the identity and a client; seven that can't be made are refused"
 
 
 def rows(room):
