@@ -1,5 +1,5 @@
 #!/usr/bin/env python3
-"""run.py LUGCURRANT [SECONDS [KILLS]] [GROUP..]: tries `lugcurrant serve` as its users and its attackers would, each group on a folder of its
+"""run.py LUGCURRANT [SECONDS [KILLS [CHECKS [STARTS]]]] [GROUP..]: tries `lugcurrant serve` as its users and its attackers would, each group on a folder of its
 own; only the named groups, where some are named.
 
 - reuse: 1,000 clients one after the other over 4 seats; each joins, edits and is answered.
@@ -22,7 +22,7 @@ own; only the named groups, where some are named.
 - large: a document of 100 MB is imported, served, and copied to a client in one message.
 - disk: on a disk that is full an edit is answered No 5 (or No 6, after a checkpoint that failed), the server ends with status 4 and its sentence, and every edit that was
   answered is there afterwards. (It mounts a small tmpfs, and passes where it may not.)
-- space: on a disk that has no room for another segment a server ends with status 4 and says how many bytes are missing, 20 times over, and leaves
+- space: on a disk that has no room for another segment a server ends with status 4 and says how many bytes are missing, STARTS (20) times over, and leaves
   the folder as it was; so where the segment itself can't be written. Once the bytes are free it serves. While it runs edits go on, a
   checkpoint that has no room is told once and counted, and tried again after as many entries more; so where no open file is left. (As disk.)
 - sentences: each fault that can be had has its sentence and its status.
@@ -42,7 +42,7 @@ own; only the named groups, where some are named.
 - moved: a folder that is served is moved, and another document is put at its path, or the link that led to it is turned to another one: the
   server goes on in its own folder, makes its checkpoint there, and neither writes into the other one nor removes anything there.
 - checked: `check` tells segments, whole records, torn rests and damage, and `log` the entries past the checkpoint; neither writes anything.
-- served: 5 checks for each of KILLS of a folder whose server makes many edits and checkpoints meanwhile: none reports damage or a loss.
+- served: CHECKS (200) checks of a folder of 256 objects whose server is edited by 62 clients in two processes: none reports damage or a loss.
 - memory: each call by which `check` asks for memory is refused, one in each run, from the reading of its words on: it ends with status 3, with 4
   where it can't write its output, or does as it does without. (It needs cc, and passes where there is none.)
 - coming: six clients come, edit and go again for SECONDS (30), and the server's memory stays flat.
@@ -51,10 +51,12 @@ Prints a line for each group, and exits with 1 where one went wrong. Needs no pa
 
 import functools
 import json
+import multiprocessing
 import os
 import random
 import re
 import resource
+import select
 import shutil
 import socket
 import struct
@@ -73,6 +75,8 @@ PROGRAM = os.path.abspath(sys.argv[1])
 NUMBERS, NAMES = numbers_and_names(sys.argv[2:])
 SECONDS = NUMBERS[0] if NUMBERS else 30.0
 KILLS = int(NUMBERS[1]) if len(NUMBERS) > 1 else 40
+CHECKS = int(NUMBERS[2]) if len(NUMBERS) > 2 else 200
+STARTS = int(NUMBERS[3]) if len(NUMBERS) > 3 else 20
 
 
 class Server(shared.Server):
@@ -713,7 +717,7 @@ def starts_without_room(small, room, size):
     left = 100000
     filled = fill(small, left)
     sentence = f"the disk of {room} has no room to open the document: (\\d+) bytes are missing; free them, or move the folder\n"
-    missing = int(refused_starts(room, 20, sentence)[1])
+    missing = int(refused_starts(room, STARTS, sentence)[1])
     require(abs(missing - (size + SPARE - left)) <= 16384, missing, "bytes are missing of", size)
     os.truncate(os.path.join(small, "filler"), 0)
     # The new segment can't be written for another reason: there is room for a part of it alone.
@@ -724,7 +728,7 @@ def starts_without_room(small, room, size):
         scratch.write(bytes(1000))
     os.truncate(os.path.join(small, "filler"), filled - missing - 16384)
     os.posix_fallocate(os.open(os.path.join(small, "filler"), os.O_RDWR), 0, filled - missing - 16384)
-    return f"20 starts on a full disk say that {missing} are missing"
+    return f"{STARTS} starts on a full disk say that {missing} are missing"
 
 
 def runs_without_room(small, room, log):
@@ -830,6 +834,11 @@ def line_of(id, kind="page", parent=(0, 0), position=None, props=()):
 def chain(count):
     """The lines of a page, and of so many frames, each in the one before."""
     return line_of([1, 1]) + b"".join(line_of([1, number], "frame", (1, number - 1)) for number in range(2, count + 2))
+
+
+def many_pages(count, size):
+    """The lines of so many pages, each with a text of so many bytes."""
+    return b"".join([ROOT, *(line_of([1, number], props=[["text", "x" * size]]) for number in range(1, count + 1))])
 
 
 def wrong_rows():
@@ -1211,37 +1220,57 @@ def checked(room):
     return f"{len(past)} entries past a checkpoint, a torn rest, a cut segment, and {len(texts) - 1} damaged records"
 
 
+def edits_at(port, count):
+    """So many clients edit at once, each with one edit under way, until the process is ended."""
+    poll, peers = select.epoll(), {}
+    for _ in range(count):
+        client = Client(port)
+        name = client.join()
+        peers[client.socket.fileno()] = [client.socket, name, 0]
+        poll.register(client.socket, select.EPOLLIN)
+
+    def edit(peer):
+        peer[2] += 1
+        text = b'["edit",%d,%d,["set",[0,0],"count",%d]]' % (peer[1], peer[2], peer[2])
+        peer[0].sendall(bytes([130, 128 | len(text)]) + bytes(4) + text)
+
+    for peer in peers.values():
+        edit(peer)
+    while True:
+        for number, _ in poll.poll(5):
+            answer = peers[number][0].recv(100)
+            require(answer == b'\x82\x08["idle"]', "an edit is answered", answer)
+            edit(peers[number])
+
+
 def served(room):
-    lines = ["[[0,0],\"document\",null,[]]"] + [text_of([[1, n], "page", [[0, 0], f"{n:06d}O"], [["text", "x" * 500]]]) for n in range(1, 1001)]
-    call("import", room, text=("\n".join(lines) + "\n").encode())
-    server, stop, edits = Server(room, "--quiet"), threading.Event(), []
+    call("import", room, text=many_pages(255, 100))
+    server = Server(room, "--quiet")
+    crowds = [multiprocessing.get_context("fork").Process(target=edits_at, args=(server.port, 31), daemon=True) for _ in range(2)]
+    for crowd in crowds:
+        crowd.start()
 
-    def edit():
-        client = Client(server.port)
-        name, number = client.join(), 0
-        while not stop.is_set():
-            number += 1
-            require(client.ask("edit", name, number, ["set", [0, 0], "count", number]) == [["idle"]], "an edit isn't answered")
-        edits.append(number)
+    def counts():
+        text = server.get("/metrics")[2].decode()
+        return [int(re.search(rf"lugcurrant_{name}_total (\d+)", text)[1]) for name in ("edits", "checkpoints")]
 
-    threads = [threading.Thread(target=edit) for _ in range(8)]
-    for thread in threads:
-        thread.start()
-    wrong, busy, begun = [], 0, time.perf_counter()
-    for _ in range(5 * KILLS):
+    time.sleep(1)
+    wrong, busy, begun, before = [], 0, time.perf_counter(), counts()
+    for _ in range(CHECKS):
         done = subprocess.run([PROGRAM, "check", room], capture_output=True, timeout=60)
         busy += b"changes while it is checked" in done.stderr
         if done.returncode != 0 and b"changes while it is checked" not in done.stderr:
-            wrong.append(done.stderr)
+            wrong.append((done.returncode, done.stderr))
     seconds = time.perf_counter() - begun
-    checkpoints = int(re.search(r"lugcurrant_checkpoints_total (\d+)", server.get("/metrics")[2].decode())[1])
-    stop.set()
-    for thread in threads:
-        thread.join()
+    edits, checkpoints = ((after - known) / seconds for after, known in zip(counts(), before))
+    require(all(crowd.is_alive() for crowd in crowds), "clients have stopped")
+    for crowd in crowds:
+        crowd.kill()
     server.kill()
-    require(not wrong, len(wrong), "checks of", 5 * KILLS, "report", wrong[:1])
-    record("checks of a served folder", checks=5 * KILLS, edits=round(sum(edits) / seconds), checkpoints=round(checkpoints / seconds, 1))
-    return f"{5 * KILLS} checks, none wrong, {busy} too busy, at {sum(edits) / seconds:.0f} edits and {checkpoints / seconds:.1f} checkpoints a second"
+    require(not wrong, len(wrong), "checks of", CHECKS, "report", wrong[:1])
+    require(edits > 0 and checkpoints > 0, "there were", edits, "edits and", checkpoints, "checkpoints a second")
+    record("checks of a served folder", checks=CHECKS, edits=round(edits), checkpoints=round(checkpoints, 1))
+    return f"{CHECKS} checks, none wrong, {busy} too busy, at {edits:.0f} edits and {checkpoints:.1f} checkpoints a second"
 
 
 def memory(room):
