@@ -310,6 +310,29 @@ def feed(process, text):
         pass
 
 
+def gone(room):
+    """The segments of a document are deleted, and its identity isn't: it isn't an empty document, and its name isn't free."""
+    etcd, back = Etcd(room), os.path.join(room, "back")
+    written(etcd, NAME, 20, 1000)
+    etcd.ctl("del", "--prefix", f"lugcurrant/{NAME}/segment/")
+    keys, ends = etcd.keys("lugcurrant/"), []
+    require(keys == [f"lugcurrant/{NAME}/identity"], "in the etcd are", keys)
+    for command in (["serve", "--port", "0"], ["serve", "--port", "0", "--standby"], ["show"], ["check"], ["log"], ["move", back, "--back"], ["import"]):
+        try:
+            done = subprocess.run([PROGRAM, *command, *etcd.words()], input=ROOT, capture_output=True, text=True, timeout=20)
+            ends.append((command[0], done.returncode, done.stderr.strip()))
+        except subprocess.TimeoutExpired as error:
+            ends.append((command[0], None, (error.stderr or b"").decode().strip()))
+            etcd.await_free()
+        if etcd.keys("lugcurrant/") != keys:
+            ends.append((*ends.pop(), "and has written", etcd.keys("lugcurrant/")))
+            etcd.ctl("del", "--prefix", f"lugcurrant/{NAME}/segment/")
+    require(not os.path.exists(back), "a document that has gone is moved back")
+    wrong = [end for end in ends if end[1] != 5 or f"no segment of the document {NAME} is left" not in end[2]]
+    require(not wrong, "a document that has gone:", *wrong)
+    return f"{len(ends)} commands report it with status 5, and write nothing"
+
+
 def patience(room):
     """A standby of an etcd without room, which another document has used up, waits on and says why."""
     etcd = Etcd(room, 1, "--quota-backend-bytes", str(16 << 20))
@@ -336,4 +359,4 @@ def patience(room):
     return "a standby waits while the etcd has no room, and serves once it has"
 
 
-GROUPS = (opening, lease, stopped, causes, killed, patience)
+GROUPS = (opening, lease, stopped, causes, gone, killed, patience)

@@ -33,6 +33,7 @@ own on loopback; only the named groups, where some are named.
 - stopped: a file that is there is refused; a server at whose file comes ends with status 0, a standby acknowledges within a second, and all that
   was acknowledged stands once.
 - causes: each cause of an etcd that doesn't do what it is asked has its sentence and its status.
+- gone: a document whose identity is there and whose segments aren't isn't served, shown, checked, moved or imported over: status 5, and nothing is written.
 - killed: an import longer than the lease; a command that is killed frees its document with the lease.
 - patience: a standby waits while the etcd has no room, says so, and serves once it has.
 - speed: figures alone. Edits a second of 1 and of 64 clients in SECONDS (10), on a folder, on one member and on three; bytes by which the
