@@ -213,7 +213,7 @@ def causes(room):
         etcd.ctl(*words)
     refuses(etcd, "wants a password, or denies permission: turn its authentication off")
     encrypted(os.path.join(room, "tls"))
-    return "an etcd that isn't there, is silent, wants a password or TLS, has foreign, damaged and missing keys; and while a server runs"
+    return "an etcd that isn't there, is silent, wants a password or TLS, has foreign, damaged and missing keys, the last ones too; and while a server runs"
 
 
 def damaged(etcd):
@@ -221,7 +221,7 @@ def damaged(etcd):
     why = "holds damaged or foreign keys: delete the foreign ones, or put a snapshot in its place"
     for name in ("foreign", "missing", "short", "last"):
         written(etcd, name, 30, 1000)
-        keys = [key for key in etcd.keys(f"lugcurrant/{name}/") if not key.endswith(("/identity", "/owner"))]
+        keys = [key for key in etcd.keys(f"lugcurrant/{name}/segment/")]
         chunks = [key for key in keys if key.rsplit("/", 1)[0] == keys[-1].rsplit("/", 1)[0]]
         if name == "foreign":
             etcd.ctl("put", f"{keys[0].rsplit('/', 1)[0]}/note", "by hand")
@@ -229,8 +229,9 @@ def damaged(etcd):
             etcd.ctl("del", chunks[len(chunks) // 2])
         if name == "short":
             put_all(etcd, [(chunks[len(chunks) // 2], b"x")])
-        if name != "last":
-            refuses(etcd, why, name, 5)
+        if name == "last":
+            etcd.ctl("del", keys[-1])
+        refuses(etcd, why, name, 5)
 
 
 def while_it_runs(etcd):
@@ -316,7 +317,7 @@ def gone(room):
     written(etcd, NAME, 20, 1000)
     etcd.ctl("del", "--prefix", f"lugcurrant/{NAME}/segment/")
     keys, ends = etcd.keys("lugcurrant/"), []
-    require(keys == [f"lugcurrant/{NAME}/identity"], "in the etcd are", keys)
+    require(keys == [f"lugcurrant/{NAME}/end", f"lugcurrant/{NAME}/identity"], "in the etcd are", keys)
     for command in (["serve", "--port", "0"], ["serve", "--port", "0", "--standby"], ["show"], ["check"], ["log"], ["move", back, "--back"], ["import"]):
         try:
             done = subprocess.run([PROGRAM, *command, *etcd.words()], input=ROOT, capture_output=True, text=True, timeout=20)
@@ -324,11 +325,12 @@ def gone(room):
         except subprocess.TimeoutExpired as error:
             ends.append((command[0], None, (error.stderr or b"").decode().strip()))
             etcd.await_free()
+        etcd.await_free()
         if etcd.keys("lugcurrant/") != keys:
             ends.append((*ends.pop(), "and has written", etcd.keys("lugcurrant/")))
             etcd.ctl("del", "--prefix", f"lugcurrant/{NAME}/segment/")
     require(not os.path.exists(back), "a document that has gone is moved back")
-    wrong = [end for end in ends if end[1] != 5 or f"no segment of the document {NAME} is left" not in end[2]]
+    wrong = [end for end in ends if end[1] != 5 or told(NAME, "holds damaged or foreign keys") not in end[2]]
     require(not wrong, "a document that has gone:", *wrong)
     return f"{len(ends)} commands report it with status 5, and write nothing"
 

@@ -32,6 +32,10 @@ owner_key name = document_keys name ++ codes "/owner"
 abbrev pub identity_key : List ℕ → List ℕ
 identity_key name = document_keys name ++ codes "/identity"
 
+-- the key of where the last chunk ends that was put
+abbrev pub end_key : List ℕ → List ℕ
+end_key name = document_keys name ++ codes "/end"
+
 -- what the keys of all chunks begin with
 abbrev pub segments_key : List ℕ → List ℕ
 segments_key name = document_keys name ++ codes "/segment"

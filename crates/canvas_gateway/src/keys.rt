@@ -1,7 +1,7 @@
 // The keys of a document in the store.
 ghost use Rattle.std.specs.Prelude.{◌≡◌, ◌≢◌, ◌+◌, ◌%◌, ◌^◌, ◌<◌, ◌≤◌, ◌++◌, ℕ, [], List, codes, length, IfOk, IfSome, IfNone};
 ghost use Rattle.std.specs.List.{fold, list_all};
-ghost use Rattle.canvas_gateway.specs.Keys.{EachKeyIsOneChunk, chunk_key, first_behind, first_below, identity_key, is_name, is_name_byte, owner_key, segment_key, segments_key, ten_digits};
+ghost use Rattle.canvas_gateway.specs.Keys.{EachKeyIsOneChunk, chunk_key, end_key, first_behind, first_below, identity_key, is_name, is_name_byte, owner_key, segment_key, segments_key, ten_digits};
 
 use crate::numbers::value_of;
 use std::alloc::{AllocError, Global};
@@ -68,6 +68,15 @@ pub fn identity_key(alloc: Global, name: &[u8]) -> Result<Vec<u8>, AllocError>
     ensures { IfOk result (λ key. key.items ≡ identity_key name.now) }
 {
     join(alloc, &[ROOT, name, b"/identity"])
+}
+
+/// The key of where the last chunk ends that was put of the document of this name.
+///
+/// Errors: out of memory.
+pub fn end_key(alloc: Global, name: &[u8]) -> Result<Vec<u8>, AllocError>
+    ensures { IfOk result (λ key. key.items ≡ end_key name.now) }
+{
+    join(alloc, &[ROOT, name, b"/end"])
 }
 
 /// The key of this chunk of the document of this name. Each number stands in ten decimal digits, so the order of the keys is that of
@@ -162,8 +171,20 @@ pub fn place_of(name: &[u8], key: &[u8]) -> Option<Place>
     place_in(digits)
 }
 
-// The chunk whose numbers stand here, with a slash between.
-fn place_in(digits: &[u8]) -> Option<Place>
+/// The numbers of a chunk, each in ten decimal digits, with a slash between.
+///
+/// Errors: out of memory.
+pub fn place_digits(alloc: Global, place: Place) -> Result<Vec<u8>, AllocError>
+    requires { place.chunk < 10 ^ 10 }
+    ensures { IfOk result (λ digits. digits.items ≡ ten_digits place.segment ++ codes "/" ++ ten_digits place.chunk) }
+{
+    let segment = ten_digits(u64::from(place.segment));
+    let chunk = ten_digits(place.chunk);
+    join(alloc, &[&segment, b"/", &chunk])
+}
+
+/// The chunk whose numbers stand here, with a slash between, if they do.
+pub fn place_in(digits: &[u8]) -> Option<Place>
     ensures some { IfSome result (λ place. digits.now ≡ ten_digits place.segment ++ codes "/" ++ ten_digits place.chunk) }
     ensures none { IfNone result ((segment : ℕ) (chunk : ℕ) → segment < 2 ^ 32 → chunk < 10 ^ 10 → digits.now ≢ ten_digits segment ++ codes "/" ++ ten_digits chunk) }
 {

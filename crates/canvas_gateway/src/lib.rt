@@ -23,8 +23,8 @@ pub use error::GatewayError;
 pub use head::MAX_HEAD;
 pub use host::{Host, copy_hosts, host_of};
 pub use keys::{
-    Keys, Place, all_chunks, chunk_key, chunks_of, every_chunk_key, identity_key, is_name, one_key,
-    owner_key, place_of,
+    Keys, Place, all_chunks, chunk_key, chunks_of, end_key, every_chunk_key, identity_key, is_name,
+    one_key, owner_key, place_digits, place_in, place_of,
 };
 pub use owner::{every_owner_value, owner_value};
 pub use posts::Call;

@@ -1,3 +1,4 @@
 pub mod Chunks
 pub mod Errors
 pub mod Judging
+pub mod Ends

@@ -1,10 +1,14 @@
 // A document in an etcd, and what is made of its answers.
 use crate::chunks::{batch_of, join_found, note_last, note_starts};
+use crate::ends::is_reached;
 use crate::error::StoreError;
 use crate::lease::Lease;
-use crate::owner::Owner;
+use crate::owner::{Owner, with_last};
 use canvas_etcd::Standing;
-use canvas_gateway::{Change, Host, Keys, Place, all_chunks, chunk_key, chunks_of, one_key};
+use canvas_gateway::{
+    Change, Host, Keys, Place, all_chunks, chunk_key, chunks_of, end_key, one_key, place_digits,
+    place_in,
+};
 use std::alloc::{AllocError, Allocator, Global};
 use std::net::{Net, TcpStream};
 use std::random::RandomSource;
@@ -80,11 +84,26 @@ impl<R: Net<Stream = TcpStream> + Clock + RandomSource + AllocGlobal + Clone + D
         self.owner.is_owned()
     }
 
-    // Lists the segments that stand, all at one revision.
+    // Lists the segments that stand, all at one revision. `Damaged` if they don't reach the end of the last chunk that was put.
     pub(crate) fn look(&mut self) -> Result<(), StoreError> {
         let mut last = Vec::new(self.alloc());
         self.looked = self.note_all(&mut last)?;
-        self.stand_all(&last)
+        self.stand_all(&last)?;
+        match self.end()? {
+            Some(end) if !is_reached(end, &self.segments) => Err(StoreError::Damaged),
+            _ => Ok(()),
+        }
+    }
+
+    // The place behind the last chunk that was put, if it is noted: an older version doesn't.
+    fn end(&mut self) -> Result<Option<Place>, StoreError> {
+        let key = end_key(self.alloc(), &self.owner.name)?;
+        let keys = one_key(self.alloc(), key)?;
+        let found = self.owner.wire.values(&keys, 1, self.looked)?;
+        match found.pairs.first() {
+            Some(pair) => Ok(Some(place_in(&pair.value).ok_or(StoreError::Damaged)?)),
+            None => Ok(None),
+        }
     }
 
     // Keeps how the segments stand whose last chunks these are, the lowest number first.
@@ -201,23 +220,31 @@ impl<R: Net<Stream = TcpStream> + Clock + RandomSource + AllocGlobal + Clone + D
 
     // Puts a chunk behind the others of a segment.
     pub(crate) fn put(&mut self, number: u32, at: u64, bytes: &[u8]) -> Result<(), StoreError> {
-        let place = Place {
-            segment: number,
-            chunk: at,
-        };
-        self.put_at(place, bytes)?;
         let size = at.saturating_add(bytes.len() as u64);
+        self.put_at(number, at, size, bytes)?;
         Ok(stand(&mut self.segments, Standing { number, size })?)
     }
 
-    // Writes a chunk.
-    fn put_at(&mut self, place: Place, bytes: &[u8]) -> Result<(), StoreError> {
-        let key = self.key_of(place)?;
-        self.owner.commit(&[Change::Put {
+    // Writes a chunk that begins here and ends there, and notes that end.
+    fn put_at(&mut self, segment: u32, at: u64, size: u64, bytes: &[u8]) -> Result<(), StoreError> {
+        let key = self.key_of(Place { segment, chunk: at })?;
+        let end_key = end_key(self.alloc(), &self.owner.name)?;
+        let end = self.digits_of(Place {
+            segment,
+            chunk: size,
+        })?;
+        let chunk = Change::Put {
             key: &key,
             value: bytes,
             lease: 0,
-        }])
+        };
+        let noted = Change::Put {
+            key: &end_key,
+            value: &end,
+            lease: 0,
+        };
+        let changes = with_last(self.alloc(), &[chunk], noted)?;
+        self.owner.commit(&changes)
     }
 
     // Deletes a segment's chunks.
@@ -226,6 +253,14 @@ impl<R: Net<Stream = TcpStream> + Clock + RandomSource + AllocGlobal + Clone + D
         self.owner.commit(&[Change::Remove(&keys)])?;
         self.segments.retain(|it| it.number != number);
         Ok(())
+    }
+
+    // The numbers of a place, as a value.
+    fn digits_of(&self, place: Place) -> Result<Vec<u8>, StoreError> {
+        if place.chunk >= CHUNKS_END {
+            return Err(StoreError::Damaged);
+        }
+        Ok(place_digits(self.alloc(), place)?)
     }
 
     // The key of a chunk.

@@ -6,6 +6,7 @@ mod causes;
 mod chunks;
 mod deadline;
 mod document;
+mod ends;
 mod error;
 mod exchange;
 mod lease;

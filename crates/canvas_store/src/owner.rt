@@ -135,7 +135,7 @@ impl<R: Net<Stream = TcpStream> + Clock + RandomSource + AllocGlobal + Clone + D
             value: &value,
             lease: turn.to.owner,
         };
-        let all = with_own(alloc, changes, own)?;
+        let all = with_last(alloc, changes, own)?;
         let from = match turn.from {
             Some(mark) => Some(value_of(alloc, mark)?),
             None => None,
@@ -153,14 +153,14 @@ impl<R: Net<Stream = TcpStream> + Clock + RandomSource + AllocGlobal + Clone + D
     }
 }
 
-// These changes, and then that of the owner's key.
-fn with_own<'a>(
+// These changes, and then one more.
+pub(crate) fn with_last<'a>(
     alloc: Global,
     changes: &[Change<'a>],
-    own: Change<'a>,
+    last: Change<'a>,
 ) -> Result<Vec<Change<'a>>, AllocError> {
     let mut all = Vec::from_slice(alloc, changes)?;
-    all.push(own)?;
+    all.push(last)?;
     Ok(all)
 }
 
