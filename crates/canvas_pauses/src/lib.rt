@@ -5,10 +5,12 @@
 //! is in these: a new WebSocket of the same stream goes on where the old one was.
 #![tactic(auto)]
 
-ghost use Rattle.std.specs.Prelude.{◌≡◌, ℕ, List, [], ◌++◌, take, true, false, IsTrue, MatchResult, IfOk};
+ghost use Rattle.std.specs.Prelude.{◌≡◌, ◌↔◌, ℕ, List, [], ◌++◌, take, true, false, IsTrue, MatchResult, IfOk};
 ghost use Rattle.std.specs.Io.KnownBytes.{Keeps, ReadConsumes, WriteAppends};
 ghost use Rattle.std.specs.Io.{ReadsAtMost, WritesAtMost};
+ghost use Rattle.std.specs.IoError.{error_kind};
 ghost use Rattle.canvas_pauses.specs.Frames.{AreMessages, AreWhole, Follows};
+ghost use Rattle.canvas_pauses.specs.Pausing.{IsDue, MayPause, counted};
 
 mod frames;
 
@@ -44,6 +46,9 @@ impl<S> Pausing<S> {
     pub fn new(stream: S) -> Pausing<S>
         ensures frames { Follows result.frames [] }
         ensures paused { result.has_paused ≡ false }
+        ensures stream { result.stream ≡ stream }
+        ensures passed { result.passed ≡ 0 }
+        ensures failed { result.has_failed ≡ false }
     {
         Pausing {
             stream,
@@ -66,6 +71,9 @@ impl<S> Pausing<S> {
     pub fn go_on(&mut self)
         ensures frames { self.new.frames ≡ self.old.frames }
         ensures paused { self.new.has_paused ≡ false }
+        ensures stream { self.new.stream ≡ self.old.stream }
+        ensures passed { self.new.passed ≡ 0 }
+        ensures failed { self.new.has_failed ≡ self.old.has_failed }
     {
         self.has_paused = false;
         self.passed = 0;
@@ -76,6 +84,11 @@ impl<S> Pausing<S> {
         ensures stream { self.new.stream ≡ self.old.stream }
         ensures frames { self.new.frames ≡ self.old.frames }
         ensures paused { self.new.has_paused ≡ result }
+        ensures failed { self.new.has_failed ≡ self.old.has_failed }
+        ensures due { IsTrue result ↔ IsDue self.old.frames self.old.has_failed self.old.passed }
+        ensures stays { IsTrue result → self.new.passed ≡ self.old.passed }
+        ensures between { MayPause self.old.frames self.old.has_failed → result ≡ false → self.new.passed ≡ 0 }
+        ensures within { (MayPause self.old.frames self.old.has_failed → ⊥) → self.new.passed ≡ self.old.passed }
     {
         self.has_paused = false;
         if !self.frames.are_whole() || self.has_failed {
@@ -100,6 +113,14 @@ impl<S: Read> Read for Pausing<S> {
             MatchResult result (λ count. Follows self.new.frames (before ++ take count buf.new))
             (λ _. Follows self.new.frames before) }
         ensures paused { IfOk result (λ _. self.new.has_paused ≡ false) }
+        ensures due { self.new.has_paused ≡ true ↔ IsDue self.old.frames self.old.has_failed self.old.passed }
+        ensures pauses { IsDue self.old.frames self.old.has_failed self.old.passed → MatchResult result (λ _. ⊥) (λ e. error_kind e ≡ ErrorKind.WouldBlock) }
+        ensures nothing { IsDue self.old.frames self.old.has_failed self.old.passed → (self.new.stream ≡ self.old.stream) × (self.new.passed ≡ self.old.passed) }
+        ensures between { MayPause self.old.frames self.old.has_failed → self.new.has_paused ≡ false →
+            MatchResult result (λ count. self.new.passed ≡ counted 0 count) (λ _. self.new.passed ≡ 0) }
+        ensures within { (MayPause self.old.frames self.old.has_failed → ⊥) →
+            MatchResult result (λ count. self.new.passed ≡ counted self.old.passed count) (λ _. self.new.passed ≡ self.old.passed) }
+        ensures failed { self.new.has_failed ≡ self.old.has_failed }
     {
         if self.pauses() {
             return Err(io::Error::from(ErrorKind::WouldBlock));
@@ -119,6 +140,8 @@ impl<S: Write> Write for Pausing<S> {
         ensures bytes { WriteAppends (S.contents self.old.stream) (S.contents self.new.stream) result buf.now }
         ensures frames { self.new.frames ≡ self.old.frames }
         ensures paused { self.new.has_paused ≡ self.old.has_paused }
+        ensures passed { MatchResult result (λ count. self.new.passed ≡ counted self.old.passed count) (λ _. self.new.passed ≡ self.old.passed) }
+        ensures failed { MatchResult result (λ _. self.new.has_failed ≡ self.old.has_failed) (λ _. self.new.has_failed ≡ true) }
     {
         let written = self.stream.write(buf);
         match &written {
@@ -132,6 +155,8 @@ impl<S: Write> Write for Pausing<S> {
         ensures bytes { Keeps (S.contents self.old.stream) (S.contents self.new.stream) }
         ensures frames { self.new.frames ≡ self.old.frames }
         ensures paused { self.new.has_paused ≡ self.old.has_paused }
+        ensures passed { self.new.passed ≡ self.old.passed }
+        ensures failed { self.new.has_failed ≡ self.old.has_failed }
     {
         self.stream.flush()
     }
