@@ -5,6 +5,7 @@
 mod call;
 mod notes;
 mod sum_files;
+mod summing;
 mod watched;
 mod watcher;
 mod witness;

@@ -1,4 +1,6 @@
 // What is noted of a shelf, for other threads to read.
+ghost use Rattle.std.specs.Prelude.{◌≡◌};
+
 use crate::call::ShelfCall;
 use std::alloc::{AllocError, Global};
 use std::sync::Arc;
@@ -79,11 +81,14 @@ impl Notes {
         }
     }
 
-    // A call failed, and none before it.
-    pub(crate) fn fail(&self, call: ShelfCall) {
+    // Notes that a call failed, and none before it. Answers that call.
+    pub(crate) fn fail(&self, call: ShelfCall) -> ShelfCall
+        ensures { result ≡ call }
+    {
         let segment = u64::from(call.number());
         self.cells.failed_segment.store(segment, Ordering::SeqCst);
         self.cells.failed_code.store(call.code(), Ordering::SeqCst);
+        call
     }
 
     // So many bytes were appended.
