@@ -10,5 +10,5 @@ mod trace;
 
 pub use listed::Listed;
 pub use loss::Loss;
-pub use losses::loss_of;
+pub use losses::{is_taken, loss_of};
 pub use trace::Trace;
