@@ -1,6 +1,6 @@
 // The folders above one.
 use crate::fault::Fault;
-use crate::opened::{open_folder, sync};
+use crate::opened::{open_folder, require_folder, sync};
 use crate::path::FolderPath;
 use std::fs;
 use std::fs::File;
@@ -57,8 +57,8 @@ fn make_above<R: Files<File = File> + AllocGlobal>(
 }
 
 // Makes a folder where it is missing, with those above it. Adds each folder that holds one that was missing, the highest first, and
-// the one that holds this one in any case.
-pub(crate) fn make_all<R: Files<File = File> + AllocGlobal>(
+// the one that holds this one in any case. If this one can't be read, that is its own fault, so it is looked at before the one that holds it.
+pub(crate) fn make_all<R: Files<File = File> + AllocGlobal + Clone + Drop>(
     files: &R,
     path: &str,
     above: &mut Vec<File>,
@@ -71,6 +71,7 @@ pub(crate) fn make_all<R: Files<File = File> + AllocGlobal>(
         }
     }
     make_one(files, path)?;
+    require_folder(files, path)?;
     add_above(files, path, above)
 }
 

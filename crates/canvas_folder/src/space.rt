@@ -116,7 +116,7 @@ const SCRATCH: &[u8] = b".space";
 static ZEROS: [u8; 65536] = [0; 65536];
 
 // Room for a segment's name and its file of sums, and for a checkpoint that is a little longer than the segment before it.
-const BESIDE: u64 = 65536;
+pub(crate) const BESIDE: u64 = 65536;
 
 // How many bytes the disk lacks for a file of this size and BESIDE, if it lacks any: zeros are written to the scratch file, which is then
 // removed. A file system that compresses zeros may pass this and still have too little.
