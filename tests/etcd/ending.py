@@ -95,7 +95,7 @@ def lease(room):
     for (kind, _, server, health), moment in zip(tried, ends):
         until(lambda: health.ended is not None, 60, f"a server whose etcd is {kind} doesn't end")
         ended, last = health.ended - moment, health.served - moment
-        require(server.process.returncode == 4, "a server ends with", server.process.returncode, server.text()[-200:])
+        require(server.process.returncode in (4, 10), "a server ends with", server.process.returncode, server.text()[-200:])
         require(ended <= LEASE + 1.5, "a server whose etcd is", kind, "ends after", ended, "s")
         told.append(f"{kind} {ended:.1f} ({last:.1f})")
     return f"seconds until the end (until the last health): {', '.join(told)}"
@@ -211,7 +211,7 @@ def causes(room):
     while_it_runs(etcd)
     for words in (["user", "add", "root:secret"], ["role", "add", "root"], ["user", "grant-role", "root", "root"], ["auth", "enable"]):
         etcd.ctl(*words)
-    refuses(etcd, "wants a password, or denies permission: turn its authentication off")
+    refuses(etcd, "wants a password, or denies permission: turn its authentication off", status=8)
     encrypted(os.path.join(room, "tls"))
     return "an etcd that isn't there, is silent, wants a password or TLS, has foreign, damaged and missing keys, the last ones too; and while a server runs"
 
@@ -243,7 +243,7 @@ def while_it_runs(etcd):
         name = client.join()
         front.refuse() if kind == "refuse" else front.begin(kind)
         client.say("edit", name, 1, page(name, 1))
-        require(server.process.wait(30) == 4, "a server ends with", server.process.returncode)
+        require(server.process.wait(30) in (4, 10), "a server ends with", server.process.returncode)
         require("the store of runs failed" in server.text() and f", because the etcd {why}: what was acknowledged" in server.text()
                 or "the lease of the document runs has ended" in server.text(), "a server tells", server.text()[-300:])
         front.end()

@@ -192,7 +192,7 @@ class Pair:
                 continue
             if not server.is_killed and at not in self.due:
                 text = server.text()
-                require(status == 4 and any(ending in text for ending in ENDINGS), "a server ended with", status, text[-300:])
+                require(status in (4, 10) and any(ending in text for ending in ENDINGS), "a server ended with", status, text[-300:])
                 self.own_ends += 1
                 self.due[at] = time.monotonic() + RESTART
             if time.monotonic() >= self.due.get(at, 0):

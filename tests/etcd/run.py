@@ -11,20 +11,20 @@ own on loopback; only the named groups, where some are named.
 - kills: three members. 16 clients edit and two read, while KILLS (50) times in turn a member is killed, the server, or both; or the server is
   paused past its lease and woken. At the end every acknowledged edit stands exactly once, and every client has what `show` shows; no server
   acknowledged an edit after the next one had.
-- cut: each of three members is stopped in turn, and edits go on. Two are stopped: none is acknowledged, and the server ends with status 4.
+- cut: each of three members is stopped in turn, and edits go on. Two are stopped: none is acknowledged, and the server ends with status 4 or 10.
   With all back, all that was acknowledged is there.
 - lost: three members and three servers, each of which names another member first. Answers are lost, cut short or turned into errors, each
   member is killed, and the leader moves: no server ends, and every acknowledged edit is there exactly once.
 - slow: all members are silent, send a byte each 1.5 seconds, errors or nonsense; only the lease isn't renewed; the owner's key is deleted.
-  Each server, idle, reports `serving` for at most a lease and a second, and ends with status 4.
+  Each server, idle, reports `serving` for at most a lease and a second, and ends with status 10.
 - opens: documents of 30,000 chunks and of 300,000 objects open, with each answer 10 ms late, while a standby waits.
 - backs: a snapshot is put back under an idle server, as the same cluster and as another: the next edit isn't acknowledged, the server ends with
-  status 4, and no edit that is acknowledged later is lost.
+  status 4 or 10, and no edit that is acknowledged later is lost.
 - doubles: transactions are sent again, late, also past a checkpoint, and also if the first was lost: the server continues, and `check` and
   `show` find what it serves.
 - faults: three members. FAULTS (100) mixed faults in a row, drawn by SEED, while 8 clients edit: at the end every acknowledged edit is there
   exactly once, no server acknowledged an edit after the next one had, and no server ended unless it lost its document.
-- space: an etcd without room refuses an edit; it isn't acknowledged, the server ends with status 4, and what was acknowledged is there once
+- space: an etcd without room refuses an edit; it isn't acknowledged, the server ends with status 9, and what was acknowledged is there once
   there is room again.
 - large: a document of 20 MB is imported, served and copied to a client; an edit of many chunks; one that is too large.
 - opening: a document that takes longer to open than its lease lasts is opened, and that is told; a start that fails releases it.
@@ -118,13 +118,13 @@ def alone(room):
     server = Served(etcd)
     name = draw(server, 300)
     known = server.identity()
-    call("serve", *etcd.words(), "--port", "0", status=4, told=ANOTHER)
+    call("serve", *etcd.words(), "--port", "0", status=7, told=ANOTHER)
     require(etcd.value(f"lugcurrant/{NAME}/identity") == known, "the identity in the etcd is another")
     _, rows = read_all(server.port)
     require(json.loads(shown(etcd, "--json")) == rows and len(rows) == 101, "other rows are shown than a client sees")
     tree = shown(etcd)
     server.kill()
-    call("serve", *etcd.words(), "--port", "0", status=4, told=ANOTHER)
+    call("serve", *etcd.words(), "--port", "0", status=7, told=ANOTHER)
     require(shown(etcd) == tree, "another document is shown once its server is killed")
     free = etcd.await_free()
     server = Served(etcd)
@@ -146,7 +146,7 @@ def move(room):
     etcd, folder, back = Etcd(room), os.path.join(room, "folder"), os.path.join(room, "back")
     server = shared.Server([PROGRAM, "serve", folder], os.path.join(room, "log"))
     name, known = draw(server, 300), server.identity()
-    call("move", folder, *etcd.words(), status=4)
+    call("move", folder, *etcd.words(), status=7)
     server.kill()
     tree, lines = call("show", folder), call("show", folder, "--lines")
     call("move", folder, *etcd.words())
@@ -158,7 +158,7 @@ def move(room):
     client = Client(taken.port, f"/document/{known}")
     require(client.status == 101 and client.ask("edit", name, 301, page(name, 301)) == [["idle"]], "a client doesn't go on in the etcd")
     client.drop()
-    call("move", back, *etcd.words(), "--back", status=4, told=ANOTHER)
+    call("move", back, *etcd.words(), "--back", status=7, told=ANOTHER)
     taken.kill()
     etcd.await_free()
     tree = shown(etcd)
@@ -340,7 +340,7 @@ def cut(room):
     etcd.await_health()
     back = crowd.goes_on(moment)
     told = crowd.settle()
-    return f"{told}; a member stopped: {spread(seconds)}; two: status 4 after {ended:.1f} s, and edits {back:.1f} s after they are back"
+    return f"{told}; a member stopped: {spread(seconds)}; two: it ends after {ended:.1f} s, and edits {back:.1f} s after they are back"
 
 
 def lost(room):
@@ -406,7 +406,7 @@ def slow(room):
             for name, health in healths.items() if not health.ended or max(health.served, health.ended) > moment + LEASE + 1]
     require(not late, "servers that have lost their lease report that they serve:", *late)
     for name, health in healths.items():
-        require(health.server.process.returncode == 4, name, "ends with", health.server.process.returncode, health.server.text()[-200:])
+        require(health.server.process.returncode == 10, name, "ends with", health.server.process.returncode, health.server.text()[-200:])
         fronts[name].end()
     return ", ".join(f"{name} {health.ended - moment:.1f} s" for name, health in healths.items())
 
@@ -467,8 +467,8 @@ def backs(room):
         except OSError:
             answer = None
         require(answer in (None, [["no", 5]], [["no", 6]]), "an edit behind a gap is answered", answer)
-        require(server.process.wait(timeout=LEASE + 2) == 4, "a server whose etcd was put back ends with", server.process.returncode)
-        told.append(f"as {name} cluster status 4 after {time.monotonic() - moment:.1f} s")
+        require(server.process.wait(timeout=LEASE + 2) in (4, 10), "a server whose etcd was put back ends with", server.process.returncode)
+        told.append(f"as {name} cluster status {server.process.returncode} after {time.monotonic() - moment:.1f} s")
         server = Served(front, "--standby", name=name, listens=False).await_serving()
         later = draw(server, 30)
         server.kill()
@@ -631,10 +631,10 @@ def space(room):
     # Where it was a checkpoint that failed, its edit was judged, and the next one is answered so.
     require(answer in ([["no", 5]], [["no", 6]]), "an etcd without room is answered", answer)
     require(client.ask("edit", name, number, change(number)) == [["no", 6]], "the next edit isn't answered No 6")
-    require(server.process.wait(timeout=20) == 4 and ENDINGS[0] in server.text(), "the server ends with", server.process.returncode, server.text()[-300:])
+    require(server.process.wait(timeout=20) == 9 and ENDINGS[0] in server.text(), "the server ends with", server.process.returncode, server.text()[-300:])
     require("NOSPACE" in etcd.ctl("alarm", "list"), "etcd tells no alarm:", etcd.ctl("alarm", "list"))
     etcd.await_free()
-    call("serve", *etcd.words(), "--port", "0", status=4, told=ENDINGS[2])
+    call("serve", *etcd.words(), "--port", "0", status=9, told=ENDINGS[2])
     before = shown(etcd, "--json")
     revision = json.loads(etcd.ctl("endpoint", "status", "-w", "json"))[0]["Status"]["header"]["revision"]
     etcd.ctl("compaction", "--physical", str(revision))
@@ -647,7 +647,7 @@ def space(room):
     require(copy[3] == json.loads(before) and copy[3][1][3] == [["text", change(copy[2])[3]]], "another document stands", copy[3][1][:3])
     require(client.ask("edit", name, copy[2] + 1, ["clear", [name, 1], "text"]) == [["idle"]], "edits don't go on")
     server.kill()
-    return f"{number - 1} edits of 20 kB in 16 MiB, then No {answer[0][1]}, No 6 and status 4; none lost once there is room"
+    return f"{number - 1} edits of 20 kB in 16 MiB, then No {answer[0][1]}, No 6 and status 9; none lost once there is room"
 
 
 def large(room):

@@ -22,7 +22,7 @@ own; only the named groups, where some are named.
 - large: a document of 100 MB is imported, served, and copied to a client in one message.
 - disk: on a disk that is full an edit is answered No 5 (or No 6, after a checkpoint that failed), the server ends with status 4 and its sentence, and every edit that was
   answered is there afterwards. (It mounts a small tmpfs, and passes where it may not.)
-- space: on a disk that has no room for another segment a server ends with status 4 and says how many bytes are missing, STARTS (20) times over, and leaves
+- space: on a disk that has no room for another segment a server ends with status 9 and says how many bytes are missing, STARTS (20) times over, and leaves
   the folder as it was; so where the segment itself can't be written. Once the bytes are free it serves. While it runs edits go on, a
   checkpoint that has no room is told once and counted, and tried again after as many entries more; so where no open file is left. (As disk.)
 - sentences: each fault that can be had has its sentence and its status.
@@ -665,14 +665,14 @@ def fill(disk, left):
     return free - left
 
 
-def refused_starts(room, times, pattern, **how):
-    """Starts a server so often in vain: each ends with status 4 and this sentence, and leaves the folder as it was. The last match."""
+def refused_starts(room, times, status, pattern, **how):
+    """Starts a server so often in vain: each ends with this status and this sentence, and leaves the folder as it was. The last match."""
     before = contents(room)
     for number in range(1, times + 1):
         done = subprocess.run([PROGRAM, "serve", room, "--port", "0"], capture_output=True, text=True, timeout=60, **how)
         found = re.fullmatch(pattern, done.stderr)
         require(contents(room) == before, "start", number, "leaves", sorted(contents(room)), "of", sorted(before))
-        require(done.returncode == 4 and found, "start", number, "ends with", done.returncode, done.stderr)
+        require(done.returncode == status and found, "start", number, "ends with", done.returncode, done.stderr)
     return found
 
 
@@ -717,12 +717,12 @@ def starts_without_room(small, room, size):
     left = 100000
     filled = fill(small, left)
     sentence = f"the disk of {room} has no room to open the document: (\\d+) bytes are missing; free them, or move the folder\n"
-    missing = int(refused_starts(room, STARTS, sentence)[1])
+    missing = int(refused_starts(room, STARTS, 9, sentence)[1])
     require(abs(missing - (size + SPARE - left)) <= 16384, missing, "bytes are missing of", size)
     os.truncate(os.path.join(small, "filler"), 0)
     # The new segment can't be written for another reason: there is room for a part of it alone.
     limit = {"preexec_fn": lambda: resource.setrlimit(resource.RLIMIT_FSIZE, (size // 2, size // 2)), "restore_signals": False}
-    refused_starts(room, 3, f"the folder {room} can't be read and written: .*\n", **limit)
+    refused_starts(room, 3, 4, f"the folder {room} can't be read and written: .*\n", **limit)
     # A server that was killed leaves its scratch file, and the next one removes it.
     with open(os.path.join(room, ".space"), "wb") as scratch:
         scratch.write(bytes(1000))
@@ -777,12 +777,16 @@ def sentences(room):
         done = subprocess.run([PROGRAM, *words], capture_output=True, text=True, timeout=60)
         require(done.returncode == status and sentence in done.stderr, words, "end with", done.returncode, done.stderr)
 
-    fault(4, "is in use", "serve", os.path.join(above, "other"), "--port", str(server.port))
+    fault(7, "is in use", "serve", os.path.join(above, "other"), "--port", str(server.port))
     require(not os.path.exists(os.path.join(above, "other")), "a port in use touches the folder")
-    fault(4, "another server has the folder", "serve", room, "--port", "0")
+    fault(7, "another server has the folder", "serve", room, "--port", "0")
     with open(os.path.join(above, "file"), "w"):
         pass
     fault(4, "can't be read and written", "serve", os.path.join(above, "file"), "--port", "0")
+    for most in range(4, 9):  # its port, the folder above, and four of the folder itself
+        done = subprocess.run([PROGRAM, "serve", os.path.join(above, "few"), "--port", "0"], capture_output=True, text=True, timeout=60,
+                              preexec_fn=lambda: resource.setrlimit(resource.RLIMIT_NOFILE, (most, most)))
+        require(done.returncode == 4 and "no more files can be opened" in done.stderr, "with", most, "open files:", done.returncode, done.stderr)
     fault(2, "--clients", "serve", room, "--clients", "65")
     fault(2, "--port", "serve", room, "--port", "70000")
     fault(2, "Usage", "serve")
@@ -887,7 +891,7 @@ def rows(room):
     name = client.join()
     require(client.ask("ask", name, 0)[0][0] == "copy", "a client of an imported document gets no copy")
     require(client.ask("edit", name, 1, page(name, 1)) == [["idle"]], "an imported document isn't edited")
-    call("import", os.path.join(above, "new0"), text=array, status=4, told="a server has the folder")
+    call("import", os.path.join(above, "new0"), text=array, status=7, told="a server has the folder")
     server.kill()
     left = os.path.join(above, "left")
     os.mkdir(left)

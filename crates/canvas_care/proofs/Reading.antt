@@ -9,8 +9,8 @@ use Rattle.canvas_journal.proofs.Rows.{each-append}
 use Rattle.canvas_lines.specs.Lines.{lines_of}
 use Rattle.canvas_care.specs.Imports.{before, row_part, row_texts}
 use Rattle.canvas_care.specs.RowFaults.{IsLineFault, IsReadFault, last_id}
-use Rattle.canvas_care.specs.declared.fault.Fault.{Fault}
-use Rattle.canvas_care.specs.declared.fault.Fault.TheVariants.{Stream, Device, InUse, Taken, NoSegment, Gone, Lost, Identity, Busy, BadLine, NoDocument, Damaged, TooLarge, Memory}
+use Rattle.canvas_faults.specs.declared.fault.Fault.{Fault}
+use Rattle.canvas_faults.specs.declared.fault.Fault.TheVariants.{NotAnOrigin, NotAUrl, NotAName, ClientCount, NoPage, StopFile, PortInUse, PortDenied, NoPort, InUse, Denied, AboveDenied, NoDescriptor, NoRoom, Device, Taken, NoSegment, Gone, Lost, NotKept, Identity, ChangedIdentity, Busy, Damaged, TooLarge, NoSpace, NoStore, BadLine, NoDocument, Stream, NoThread, JournalFailed, StoreFailed, LeaseEnded, Stopped, Memory}
 
 row_text_of : (text : List ℕ) (row : Row) → SpellsRow text row → IsRowText text row
 unfolding IsRowText
@@ -72,15 +72,37 @@ read_fault input done more line text rows number (BadLine n fault) lines counted
   why = why;
 }
 read_fault input done more line text rows number Memory lines counted are part is = tt
-read_fault input done more line text rows number Stream lines counted are part is = absurd is
-read_fault input done more line text rows number Device lines counted are part is = absurd is
+read_fault input done more line text rows number NotAnOrigin lines counted are part is = absurd is
+read_fault input done more line text rows number NotAUrl lines counted are part is = absurd is
+read_fault input done more line text rows number NotAName lines counted are part is = absurd is
+read_fault input done more line text rows number ClientCount lines counted are part is = absurd is
+read_fault input done more line text rows number NoPage lines counted are part is = absurd is
+read_fault input done more line text rows number StopFile lines counted are part is = absurd is
+read_fault input done more line text rows number PortInUse lines counted are part is = absurd is
+read_fault input done more line text rows number PortDenied lines counted are part is = absurd is
+read_fault input done more line text rows number NoPort lines counted are part is = absurd is
 read_fault input done more line text rows number InUse lines counted are part is = absurd is
+read_fault input done more line text rows number Denied lines counted are part is = absurd is
+read_fault input done more line text rows number AboveDenied lines counted are part is = absurd is
+read_fault input done more line text rows number NoDescriptor lines counted are part is = absurd is
+read_fault input done more line text rows number NoRoom lines counted are part is = absurd is
+read_fault input done more line text rows number Device lines counted are part is = absurd is
 read_fault input done more line text rows number Taken lines counted are part is = absurd is
 read_fault input done more line text rows number NoSegment lines counted are part is = absurd is
 read_fault input done more line text rows number Gone lines counted are part is = absurd is
-read_fault input done more line text rows number Lost lines counted are part is = absurd is
+read_fault input done more line text rows number (Lost loss) lines counted are part is = absurd is
+read_fault input done more line text rows number NotKept lines counted are part is = absurd is
 read_fault input done more line text rows number Identity lines counted are part is = absurd is
+read_fault input done more line text rows number ChangedIdentity lines counted are part is = absurd is
 read_fault input done more line text rows number Busy lines counted are part is = absurd is
-read_fault input done more line text rows number NoDocument lines counted are part is = absurd is
 read_fault input done more line text rows number (Damaged segment offset) lines counted are part is = absurd is
 read_fault input done more line text rows number TooLarge lines counted are part is = absurd is
+read_fault input done more line text rows number (NoSpace missing) lines counted are part is = absurd is
+read_fault input done more line text rows number (NoStore why) lines counted are part is = absurd is
+read_fault input done more line text rows number NoDocument lines counted are part is = absurd is
+read_fault input done more line text rows number Stream lines counted are part is = absurd is
+read_fault input done more line text rows number NoThread lines counted are part is = absurd is
+read_fault input done more line text rows number (JournalFailed call) lines counted are part is = absurd is
+read_fault input done more line text rows number (StoreFailed call why) lines counted are part is = absurd is
+read_fault input done more line text rows number LeaseEnded lines counted are part is = absurd is
+read_fault input done more line text rows number Stopped lines counted are part is = absurd is

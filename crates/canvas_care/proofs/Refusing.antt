@@ -8,7 +8,7 @@ use Rattle.canvas_wire.specs.Faults.{IsJson, IsOut}
 use Rattle.canvas_wire.specs.Text.{IsRowError, IsRowShape, IsRowJson}
 use Rattle.canvas_wire.specs.declared.fault.WireError.TheVariants as wire
 use Rattle.canvas_care.specs.RowFaults.{IsTextFault, tree_fault}
-use Rattle.canvas_care.specs.declared.row_fault.RowFault.TheVariants as why
+use Rattle.canvas_faults.specs.declared.row_fault.RowFault.TheVariants as why
 
 -- a text has one JSON tree
 same_tree : (text : List ℕ) (d e : Data) → IsJson text d → IsJson text e → d ≡ e

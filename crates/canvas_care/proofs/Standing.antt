@@ -6,7 +6,7 @@ use Rattle.canvas_model.specs.Document.{Doc}
 use Rattle.canvas_doc.proofs.Shallow.{same_doc}
 use Rattle.canvas_journal.specs.Meaning.{Row}
 use Rattle.canvas_care.specs.RowFaults.{IsBadRow, IsClientFault, IsStandFault}
-use Rattle.canvas_care.specs.declared.row_fault.RowFault.{RowFault}
+use Rattle.canvas_faults.specs.declared.row_fault.RowFault.{RowFault}
 
 -- the rows, and the lines, before what is left
 abbrev pub Begun : List Row → List Row → List ℕ → List ℕ → Type 0

@@ -1,4 +1,3 @@
-pub mod Faults
 pub mod Checkpoints
 pub mod Texts
 pub mod Shown

@@ -7,8 +7,8 @@ use Rattle.canvas_losses.specs.declared.loss.Loss.{Loss}
 use Rattle.canvas_losses.specs.declared.loss.Loss.TheVariants.{Sums, NoCheckpoint, NoCutRecord, Gone}
 use Rattle.canvas_losses.specs.declared.trace.Trace.{Trace}
 use Rattle.canvas_losses.specs.declared.trace.Trace.TheVariants as trace
-use Rattle.canvas_care.specs.declared.fault.Fault.{Fault}
-use Rattle.canvas_care.specs.declared.fault.Fault.TheVariants as fault
+use Rattle.canvas_faults.specs.declared.fault.Fault.{Fault}
+use Rattle.canvas_faults.specs.declared.fault.Fault.TheVariants as fault
 
 -- the line of a folder of which nothing is lost
 abbrev pub no_loss_line : List ℕ

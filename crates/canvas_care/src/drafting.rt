@@ -1,6 +1,6 @@
 // A new folder's segment, made whole in a hidden folder and then put in its place.
-use crate::fault::Fault;
 use crate::planting::plant;
+use canvas_faults::Fault;
 use canvas_folder::DirShelf;
 use canvas_judge::State;
 use std::alloc::{AllocError, Global};

@@ -5,8 +5,8 @@ ghost use Rattle.canvas_journal.specs.Meaning.{Versioned};
 ghost use Rattle.canvas_care.specs.Begun.{begun_line};
 
 use crate::drafting::plant_whole;
-use crate::fault::Fault;
 use crate::traces::trace_in;
+use canvas_faults::Fault;
 use canvas_folder::{DirShelf, OsFolder};
 use canvas_judge::State;
 use canvas_lines::write_out;

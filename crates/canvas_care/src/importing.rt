@@ -7,10 +7,9 @@ ghost use Rattle.canvas_wire.specs.Text.{IsRowError, SpellsRow};
 ghost use Rattle.canvas_care.specs.Imports.{ends_in_comma, is_bracket_or_none, is_frame, row_part, row_texts, without_comma};
 ghost use Rattle.canvas_care.specs.RowFaults.{IsLineFault, IsReadFault, IsTextFault, last_id};
 
-use crate::fault::Fault;
-use crate::row_fault::RowFault;
 use crate::row_ids::{id_fault, tree_fault};
 use canvas_doc::{ObjId, Object};
+use canvas_faults::{Fault, RowFault};
 use canvas_lines::lines::split_line;
 use canvas_wire::{WireError, decode_row};
 use serde_json::Value as Json;

@@ -5,8 +5,8 @@ ghost use Rattle.canvas_care.specs.Losing.{TellsLoss, content_of, number_of};
 ghost use Rattle.canvas_care.specs.Taken.{source_of};
 
 use crate::checkpoints::checkpoint_bytes;
-use crate::fault::Fault;
 use crate::taking::{Taken, take};
+use canvas_faults::Fault;
 use canvas_journal::look;
 use canvas_losses::{Listed, Loss, Trace, loss_of};
 use canvas_shelf::Shelf;

@@ -4,10 +4,9 @@ ghost use Rattle.std.specs.FinMap as map;
 ghost use Rattle.canvas_model.specs.Document as document;
 ghost use Rattle.canvas_care.specs.RowFaults.{IsBadRow, IsDepthFault, IsMakeFault, IsPlaceFault, most_client};
 
-use crate::fault::Fault;
 use crate::importing::Rows;
-use crate::row_fault::RowFault;
 use canvas_doc::{Doc, ObjId, Object};
+use canvas_faults::{Fault, RowFault};
 use canvas_judge::{Counts, State};
 use canvas_model::DEPTH_LIMIT;
 use std::alloc::{AllocError, Global};

@@ -5,7 +5,7 @@ ghost use Rattle.canvas_journal.specs.Found.{Finds, IsState};
 ghost use Rattle.canvas_journal.specs.OnDisk.{on_top};
 
 use crate::checkpoints::checkpoint_bytes;
-use crate::fault::Fault;
+use canvas_faults::Fault;
 use canvas_journal::look;
 use canvas_judge::State;
 use canvas_shelf::Shelf;

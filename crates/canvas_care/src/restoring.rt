@@ -8,12 +8,12 @@ ghost use Rattle.canvas_care.specs.Begun.{ImportsTo, WritesImported};
 ghost use Rattle.canvas_care.specs.Imports.{IsImported, row_texts};
 ghost use Rattle.canvas_care.specs.Losing.{TellsLoss};
 
-use crate::fault::Fault;
 use crate::folders::{Ground, NewFolder, begin_on, existing};
 use crate::importing::read_rows;
 use crate::losing::{FolderSums, SumSource, find_loss};
 use crate::making::document_of;
 use crate::traces::trace_in;
+use canvas_faults::Fault;
 use canvas_journal::look;
 use canvas_judge::State;
 use canvas_lines::read_input;
@@ -111,7 +111,7 @@ fn backup_of<S: Shelf, N: SumSource>(
 {
     let found = look(alloc, shelf)?;
     match refuse_loss(alloc, shelf, sums, trace) {
-        Err(Fault::Lost) if accept_loss => Ok(found),
+        Err(Fault::Lost { .. }) if accept_loss => Ok(found),
         Err(fault) => Err(fault),
         Ok(()) => Ok(found),
     }
@@ -129,6 +129,6 @@ fn refuse_loss<S: Shelf, N: SumSource>(
     match find_loss(alloc, shelf, sums, trace)? {
         None => Ok(()),
         Some(Loss::Gone { .. }) => Err(Fault::Gone),
-        Some(_) => Err(Fault::Lost),
+        Some(loss) => Err(Fault::Lost { loss }),
     }
 }

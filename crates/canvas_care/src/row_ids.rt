@@ -5,8 +5,8 @@ ghost use Rattle.canvas_forms.specs.Ids.{id_form};
 ghost use Rattle.canvas_forms.specs.Kinds.{kind_form};
 ghost use Rattle.canvas_care.specs.RowFaults.{id_fault, id_in, is_rooted_or_made, order_fault, tree_fault};
 
-use crate::row_fault::RowFault;
 use canvas_doc::{Kind, ObjId};
+use canvas_faults::RowFault;
 use canvas_json::json_tree::{four, members, two, whole32};
 use serde_json::Value as Json;
 

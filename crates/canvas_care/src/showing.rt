@@ -5,9 +5,9 @@ ghost use Rattle.canvas_shelf.specs.Disk.{seen};
 ghost use Rattle.canvas_lines.specs.Reports.{WritesReport};
 ghost use Rattle.canvas_care.specs.Shown.{WritesRows, WritesRowsOf, WritesTreeOf};
 
-use crate::fault::Fault;
 use crate::folders::existing;
 use crate::rows::{Layout, rows_text};
+use canvas_faults::Fault;
 use canvas_journal::look;
 use canvas_lines::{report_text, write_out};
 use canvas_shelf::Shelf;

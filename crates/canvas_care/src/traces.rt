@@ -1,5 +1,5 @@
 // What is left of a document in a folder, beside its segments.
-use crate::fault::Fault;
+use canvas_faults::Fault;
 use canvas_losses::Trace;
 use canvas_sums::{SumFault, check_sums};
 use canvas_watch::read_sums;

@@ -50,9 +50,13 @@ fault_of_opening (opening.Damaged segment offset) = Damaged segment offset
 fault_of_opening opening.TooLarge = TooLarge
 fault_of_opening opening.Memory = Memory
 
--- the fault that a folder that isn't opened is: one that another has is a failed device
+-- the fault that a folder that isn't opened is: whatever the reason, but for want of memory, is a failed device
 abbrev pub fault_of_folder : FolderError → Fault
 fault_of_folder folder.InUse = Device
+fault_of_folder folder.Denied = Device
+fault_of_folder folder.AboveDenied = Device
+fault_of_folder folder.NoDescriptor = Device
+fault_of_folder folder.NoSpace = Device
 fault_of_folder folder.Device = Device
 fault_of_folder folder.Memory = Memory
 

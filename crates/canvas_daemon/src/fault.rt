@@ -129,7 +129,12 @@ impl From<FolderError> for Fault {
 
     fn from(error: FolderError) -> Fault {
         match error {
-            FolderError::InUse | FolderError::Device => Fault::Device,
+            FolderError::InUse
+            | FolderError::Denied
+            | FolderError::AboveDenied
+            | FolderError::NoDescriptor
+            | FolderError::NoSpace
+            | FolderError::Device => Fault::Device,
             FolderError::Memory => Fault::Memory,
         }
     }

@@ -1,6 +1,7 @@
 // Flipped bits and cut ends.
 use crate::segment::{OneSegment, TheseSums};
-use canvas_care::{Fault, find_loss};
+use canvas_care::find_loss;
+use canvas_faults::Fault;
 use canvas_sums::RunningSum;
 use std::alloc::Global;
 use std::test::Fail;

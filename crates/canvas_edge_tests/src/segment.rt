@@ -1,7 +1,8 @@
 // A shelf of one segment.
 ghost use Rattle.std.specs.Prelude.{[], false};
 
-use canvas_care::{Fault, SumSource};
+use canvas_care::SumSource;
+use canvas_faults::Fault;
 use canvas_shelf::{CreateError, DeviceFailed, Shelf, ShelfError};
 use std::alloc::{Allocator, Global};
 

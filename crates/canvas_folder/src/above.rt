@@ -10,7 +10,10 @@ use std::rt::Files;
 // Opens the folder that holds this one.
 fn open_above<R: Files<File = File> + AllocGlobal>(files: &R, path: &str) -> Result<File, Fault> {
     let above = format!(in files.alloc(); "{path}/..")?;
-    open_folder(files, above.as_str())
+    match open_folder(files, above.as_str()) {
+        Ok(folder) => Ok(folder),
+        Err(fault) => Err(fault.above()),
+    }
 }
 
 // Adds the folder that holds this one, opened.
@@ -31,16 +34,24 @@ fn make<R: Files>(files: &R, path: &str) -> Result<bool, Fault> {
     match fs::create_dir(files, path) {
         Ok(()) => Ok(true),
         Err(e) if e.kind() == ErrorKind::AlreadyExists => Ok(true),
-        Err(e) => Err(Fault::from(e)),
+        Err(e) => Err(Fault::from(e).above()),
+    }
+}
+
+// Checks whether there is a folder. Fails if the folders above it can't be searched.
+pub(crate) fn is_there<R: Files>(files: &R, path: &str) -> Result<bool, Fault> {
+    match fs::exists(files, path) {
+        Ok(is_there) => Ok(is_there),
+        Err(e) => Err(Fault::from(e).above()),
     }
 }
 
 // Makes a folder where it is missing, and tells whether it was.
 fn make_one<R: Files>(files: &R, path: &str) -> Result<bool, Fault> {
-    match fs::exists(files, path) {
-        Ok(true) => Ok(false),
-        Ok(false) => make(files, path),
-        Err(e) => Err(Fault::from(e)),
+    if is_there(files, path)? {
+        Ok(false)
+    } else {
+        make(files, path)
     }
 }
 

@@ -12,6 +12,10 @@ pub(crate) enum Fault {
     NoDescriptor,
     // The disk is full, or what its user may have of it.
     Full,
+    // This process has no rights to it.
+    Denied,
+    // This process has no rights to a folder above it.
+    AboveDenied,
     // Anything else.
     Device,
 }
@@ -21,11 +25,22 @@ const EMFILE: i32 = 24;
 
 const ENFILE: i32 = 23;
 
+impl Fault {
+    // The same of a call that needs the folders above.
+    pub(crate) fn above(self) -> Fault {
+        match self {
+            Fault::Denied => Fault::AboveDenied,
+            fault => fault,
+        }
+    }
+}
+
 impl From<io::Error> for Fault {
     fn from(e: io::Error) -> Fault {
         match e.kind() {
             ErrorKind::OutOfMemory => Fault::Memory,
             ErrorKind::StorageFull | ErrorKind::QuotaExceeded => Fault::Full,
+            ErrorKind::PermissionDenied => Fault::Denied,
             _ => match e.raw_os_error() {
                 Some(EMFILE | ENFILE) => Fault::NoDescriptor,
                 _ => Fault::Device,

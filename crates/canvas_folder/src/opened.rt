@@ -80,15 +80,32 @@ pub(crate) fn sync(file: &File) -> Result<(), Fault> {
     }
 }
 
-// Fails where there is no folder that can be read.
+// Fails where there is no folder that can be read and searched.
 pub(crate) fn require_folder<R: Files<File = File> + AllocGlobal + Clone + Drop>(
     files: &R,
     path: &str,
 ) -> Result<(), Fault> {
-    match fs::read_dir(files, path) {
+    if let Err(e) = fs::read_dir(files, path) {
+        return Err(Fault::from(e));
+    }
+    let inside = format!(in files.alloc(); "{path}/.")?;
+    match fs::symlink_metadata(files, inside.as_str()) {
         Ok(_) => Ok(()),
         Err(e) => Err(Fault::from(e)),
     }
+}
+
+// Fails where a folder can't be open four times at once: as many descriptors are needed beside those of the folders above, for its lock, for
+// two segments, and for what stands beside them.
+pub(crate) fn require_descriptors<R: Files<File = File>>(
+    files: &R,
+    path: &str,
+) -> Result<(), Fault> {
+    let _lock = open_folder(files, path)?;
+    let _segment = open_folder(files, path)?;
+    let _former = open_folder(files, path)?;
+    open_folder(files, path)?;
+    Ok(())
 }
 
 // Adds a name.

@@ -161,6 +161,6 @@ fn write_zeros<W: Write>(output: &mut W, count: u64) -> Result<u64, Fault> {
 fn left_of(left: u64, fault: Fault) -> Result<u64, Fault> {
     match fault {
         Fault::Full => Ok(left),
-        Fault::Memory | Fault::NoDescriptor | Fault::Device => Err(fault),
+        _ => Err(fault),
     }
 }

@@ -1,18 +1,17 @@
 // What a server of a document in an etcd has before it serves: the document, which it has taken over, and the lease of that.
 ghost use Rattle.std.specs.Prelude.{◌≡◌, ◌⊎◌, IfErr, IfOk, string_bytes};
 ghost use Rattle.canvas_http.specs.Identities.{IsIdentity};
-ghost use Rattle.canvas_places.specs.Faults.{IsNamingFault, IsOpeningFault, IsPreparingFault, IsThreadFault, of_document};
+ghost use Rattle.canvas_places.specs.Faults.{IsNamingFault, IsOpeningFault, IsPreparingFault, IsThreadFault};
 
 use crate::opening::{Counted, OpenRoom, listen, room_of};
 use crate::progress::Progress;
 use canvas_etcd::EtcdShelf;
+use canvas_faults::{Fault, fault_of_etcd, of_document};
 use canvas_gateway::copy_hosts;
 use canvas_identity::{Address, identity_in, made_identity};
-use canvas_places::{
-    DocumentShelf, Fault, KeptLease, LEASE_SECONDS, NoWitness, Term, fault_of_cause, fault_of_etcd,
-};
+use canvas_places::{DocumentShelf, KeptLease, LEASE_SECONDS, NoWitness, Term};
 use canvas_shelf::Shelf;
-use canvas_store::{Causes, EtcdStore, Lease, StoreError};
+use canvas_store::{Causes, EtcdStore, Lease};
 use canvas_watch::Watched;
 use canvas_words::Serving;
 use std::alloc::Global;
@@ -193,21 +192,10 @@ fn named(alloc: Global, bytes: &[u8]) -> Result<String, Fault>
     ensures faults { IfErr result IsNamingFault }
 {
     let Ok(text) = str::from_utf8(bytes) else {
-        return Err(Fault::NoKey);
+        return Err(Fault::Identity);
     };
     match identity_in(alloc, text) {
         Ok(identity) => Ok(identity),
         Err(error) => Err(of_document(Fault::from(error), None)),
-    }
-}
-
-// What a fault of opening is if the document is in an etcd and not in a folder, whose store failed last for this reason.
-fn of_document(fault: Fault, why: Option<StoreError>) -> Fault
-    ensures { result ≡ of_document why fault }
-{
-    match fault {
-        Fault::NoFolder => fault_of_cause(why),
-        Fault::NoIdentity | Fault::ChangedIdentity => Fault::NoKey,
-        other => other,
     }
 }

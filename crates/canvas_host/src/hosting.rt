@@ -13,11 +13,12 @@ use crate::tasks::{DoorTask, SeatTask};
 use crate::watching::{Ends, watch};
 use canvas_board::RoomName;
 use canvas_doors::{Figures, Limits, Shared, read_page};
+use canvas_faults::Fault;
 use canvas_folder::Removed;
 use canvas_http::{PageFile, Site};
 use canvas_identity::{Address, identity};
 use canvas_journal::Keeper;
-use canvas_places::{Fault, begin_task};
+use canvas_places::begin_task;
 use canvas_room::{BlankRoom, Lock, Room, Seat};
 use canvas_words::{Options, Place, Serving};
 use crossbeam_channel::{Receiver, Sender, bounded};
@@ -46,9 +47,9 @@ const DOORS: u32 = 16;
 /// safe. Once the file of `stop_file` is there, nothing more is judged, the lease is released, and the server ends: `Stopped`.
 ///
 /// The faults: `StopFile`, if that file is there before, and then nothing was touched; `NoPage`, where the options name the folder of a page
-/// and no file `index.html` can be read in it, and `PortInUse` and `NoPort`, where the port can't be had, and then the document is left alone; `ClientCount`, only for fewer clients than 1 or more than
-/// 64; `FolderInUse`, `NoFolder`, `NoIdentity`, `ChangedIdentity`, `Lost`, `NotKept` of a folder, `DocumentInUse`, `NoStore`, `NoKey` of a document in an
-/// etcd, and `Damaged`, `TooLarge` and `NoSpace`, where it isn't opened; `NoThread`, where not all threads can be made; `Memory`; and later `JournalFailed`, once the device of the journal has failed, or `StoreFailed` and `LeaseEnded` of an etcd.
+/// and no file `index.html` can be read in it, and `PortInUse`, `PortDenied` and `NoPort`, where the port can't be had, and then the document is left alone; `ClientCount`, only for fewer clients than 1 or more than
+/// 64; `Denied`, `AboveDenied`, `NoDescriptor`, `NoRoom`, `Device`, `ChangedIdentity`, `Lost`, `NotKept` and `NoSpace` of a folder, `NoStore` of a document in an
+/// etcd, and `InUse`, `Identity`, `Damaged` and `TooLarge` of both, where it isn't opened; `NoThread`, where not all threads can be made; `Memory`; and later `JournalFailed`, once the device of the journal has failed, or `StoreFailed` and `LeaseEnded` of an etcd.
 pub fn serve<R>(rt: &R, files: HostRuntime, options: Options) -> Fault
 where
     R: Net<Listener = TcpListener, Stream = TcpStream>

@@ -9,11 +9,12 @@ ghost use Rattle.canvas_places.specs.Faults.{IsOpeningFault, IsPortFault};
 ghost use Rattle.canvas_host.specs.Rooms.{fault_of_room};
 
 use canvas_board::{Opening, RoomName};
+use canvas_faults::Fault;
 use canvas_folder::{DirShelf, Folder, OsFolder, Removed, Space};
 use canvas_identity::read_identity;
 use canvas_journal::{Journal, Keeper, open};
 use canvas_meter::{Meter, Metered};
-use canvas_places::{Fault, FolderShelf, guard};
+use canvas_places::{FolderShelf, guard, with_refusal};
 use canvas_room::{BlankRoom, Lock, Room, RoomError, Seat, blank_room};
 use canvas_shelf::Shelf;
 use canvas_watch::{Notes, SumFiles, Watched};
@@ -29,11 +30,11 @@ pub(crate) fn listen<R: Net>(rt: &R, port: u16) -> Result<R::Listener, Fault>
     let address = SocketAddr::from((Ipv4Addr::LOCALHOST, port));
     match TcpListener::bind(rt, address) {
         Ok(listener) => Ok(listener),
-        Err(error) => if error.kind() == ErrorKind::AddrInUse {
-            Err(Fault::PortInUse)
-        } else {
-            Err(Fault::NoPort)
-        },
+        Err(error) => Err(match error.kind() {
+            ErrorKind::AddrInUse => Fault::PortInUse,
+            ErrorKind::PermissionDenied => Fault::PortDenied,
+            _ => Fault::NoPort,
+        }),
     }
 }
 
@@ -91,7 +92,7 @@ pub(crate) fn open_room(
             space,
             path,
         }),
-        Err(fault) => Err(fault.with_refusal(space.last())),
+        Err(fault) => Err(with_refusal(fault, space.last())),
     }
 }
 

@@ -2,7 +2,8 @@
 ghost use Rattle.std.specs.Prelude.{IfErr};
 ghost use Rattle.canvas_places.specs.Faults.{IsThreadFault};
 
-use canvas_places::{Fault, Task, begin_task};
+use canvas_faults::Fault;
+use canvas_places::{Task, begin_task};
 use std::alloc::Global;
 use std::io::Eprint;
 use std::sync::Arc;

@@ -5,8 +5,9 @@ ghost use Rattle.canvas_places.specs.Faults.{IsPreparingFault, IsStopFault, IsTh
 
 use crate::documents::{Taken, store_of, take_document};
 use crate::stopping::StopFile;
+use canvas_faults::{Fault, Why};
 use canvas_identity::Address;
-use canvas_places::{DocumentShelf, Fault, Why};
+use canvas_places::DocumentShelf;
 use canvas_store::{EtcdStore, StoreError};
 use canvas_words::Serving;
 use std::io::Eprint;
@@ -115,7 +116,7 @@ where
     }
     match take_document(rt, files, address, serving) {
         Ok(taken) => Ok(Ok(taken)),
-        Err(Fault::DocumentInUse) => Ok(Err(Obstacle::Owner)),
+        Err(Fault::InUse) => Ok(Err(Obstacle::Owner)),
         Err(Fault::NoStore { why }) if why != StoreError::Damaged => Ok(Err(Obstacle::Failure(
             why,
         ))),

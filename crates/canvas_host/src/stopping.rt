@@ -2,7 +2,7 @@
 ghost use Rattle.std.specs.Prelude.{◌≡◌, IfErr, IsSome, IsTrue};
 ghost use Rattle.canvas_places.specs.Faults.{IsStopFault};
 
-use canvas_places::Fault;
+use canvas_faults::Fault;
 use std::fs;
 
 /// The file at which a server ends, if one is named.

@@ -3,8 +3,8 @@ use Rattle.std.specs.Prelude.{ℕ, List, ◌++◌, codes, Option, Some, None}
 use Rattle.std.specs.Fmt.{decimal}
 use Rattle.canvas_folder.specs.declared.space.Refusal.{Refusal}
 use Rattle.canvas_folder.specs.declared.space.Refusal.TheVariants as refusal
-use Rattle.canvas_places.specs.declared.fault.Fault.{Fault}
-use Rattle.canvas_places.specs.declared.fault.Fault.TheVariants.{NoSpace, Memory}
+use Rattle.canvas_faults.specs.declared.fault.Fault.{Fault}
+use Rattle.canvas_faults.specs.declared.fault.Fault.TheVariants.{NoDescriptor, NoSpace, Memory}
 
 -- the sentence that tells why no checkpoint of this folder is made, while its server goes on
 abbrev pub refusal_text : Refusal → List ℕ → List ℕ
@@ -15,4 +15,5 @@ refusal_text refusal.NoDescriptor dir = codes "no open file is left for a checkp
 -- the fault of an opening that failed so, where the folder refused this last
 abbrev pub with_refusal : Fault → Option Refusal → Fault
 with_refusal Memory (Some (refusal.NoSpace missing)) = NoSpace missing
+with_refusal Memory (Some refusal.NoDescriptor) = NoDescriptor
 with_refusal fault last = fault

@@ -3,7 +3,7 @@ ghost use Rattle.std.specs.Prelude.{◌≡◌, ◌++◌, [], ◌∷◌, Bool, fa
 ghost use Rattle.canvas_shelf.specs.Disk.{Content};
 ghost use Rattle.canvas_places.specs.Faults.{IsLossFault};
 
-use crate::fault::Fault;
+use canvas_faults::Fault;
 use std::alloc::Global;
 use std::fs::{self, File, ReadDir};
 use std::io::{self, ErrorKind, Read, Write};

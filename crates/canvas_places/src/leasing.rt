@@ -2,8 +2,8 @@
 ghost use Rattle.std.specs.Prelude.{IfErr};
 ghost use Rattle.canvas_places.specs.Faults.{IsThreadFault};
 
-use crate::fault::Fault;
 use crate::tasks::{Task, begin_task};
+use canvas_faults::Fault;
 use canvas_store::Lease;
 use std::alloc::Global;
 use std::net::{Net, TcpListener, TcpStream};

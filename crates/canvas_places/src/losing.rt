@@ -1,13 +1,13 @@
 // What is done before a folder is opened: whether that would lose something, and then a copy of what is there.
-ghost use Rattle.std.specs.Prelude.{◌≡◌, ◌++◌, false, IfErr, IsTrue, None, OnOk, Option};
+ghost use Rattle.std.specs.Prelude.{◌≡◌, ◌++◌, false, IfErr, IfOk, IsTrue, None, OnOk, Option};
 ghost use Rattle.canvas_shelf.specs.Disk.{numbers, seen};
 ghost use Rattle.canvas_care.specs.Losing.{TellsLoss};
 ghost use Rattle.canvas_losses.specs.declared.trace.Trace.{Trace};
-ghost use Rattle.canvas_places.specs.Faults.{IsLossFault};
+ghost use Rattle.canvas_places.specs.Faults.{IsLossFault, fault_of_looking};
 
 use crate::copies::{Copies, NewCopies, begin, put_in_place};
-use crate::fault::Fault;
 use canvas_care::{FolderSums, find_loss, trace_in};
+use canvas_faults::Fault;
 use canvas_identity::{IdentityError, read_identity, remove_identity};
 use canvas_losses::{Loss, Trace};
 use canvas_shelf::Shelf;
@@ -17,9 +17,9 @@ use std::alloc::Global;
 /// whole or not at all; nothing else is changed, but that the identity of a document that has gone is removed: what is served then is another
 /// document. A folder `lost` that holds nothing but beginnings of these segments, as a killed one leaves it, is replaced.
 ///
-/// The errors: `Lost`, if it isn't accepted; `NoIdentity` and `ChangedIdentity`, if it is, and the identity isn't one or another than its
+/// The errors: `Lost`, if it isn't accepted; `Identity` and `ChangedIdentity`, if it is, and the identity isn't one or another than its
 /// sum names, and then nothing was written; `NotKept`, if the copies can't be made, or those of an earlier loss are there, or the identity can't be
-/// removed; `NoFolder`, if the folder can't be read; `Damaged`, for the first record that isn't what it has to be; and `Memory`.
+/// removed; `Device`, if the folder can't be read; `Damaged`, for the first record that isn't what it has to be; and `Memory`.
 pub fn guard<S: Shelf>(
     files: &HostRuntime,
     dir: &str,
@@ -31,12 +31,56 @@ pub fn guard<S: Shelf>(
     ensures honest { S.honest shelf.new ≡ S.honest shelf.old }
     ensures faults { IfErr result IsLossFault }
 {
-    let trace = trace_in(files, dir)?;
-    let sums = FolderSums { files, dir };
-    match find_loss(files.alloc(), shelf, &sums, trace)? {
+    match loss_in(files, dir, shelf)? {
         None => Ok(()),
         Some(loss) if accept_loss => give_up(files, dir, shelf, loss),
         Some(loss) => Err(Fault::Lost { loss }),
+    }
+}
+
+// What opening a folder would lose, if anything, by what is left of a document beside its segments.
+fn loss_in<S: Shelf>(files: &HostRuntime, dir: &str, shelf: &mut S) -> Result<Option<Loss>, Fault>
+    ensures found { IsTrue (S.honest shelf.old) → IfOk result (λ loss. (trace : Option Trace) × TellsLoss (S.disk shelf.old) trace loss) }
+    ensures disk { IsTrue (S.honest shelf.old) → S.disk shelf.new ≡ S.disk shelf.old }
+    ensures honest { S.honest shelf.new ≡ S.honest shelf.old }
+    ensures faults { IfErr result IsLossFault }
+{
+    let trace = trace_of(files, dir)?;
+    let sums = FolderSums { files, dir };
+    match find_loss(files.alloc(), shelf, &sums, trace) {
+        Ok(loss) => Ok(loss),
+        Err(fault) => Err(fault_of_looking(fault)),
+    }
+}
+
+// What is left of a document beside the segments of a folder, if anything is.
+fn trace_of(files: &HostRuntime, dir: &str) -> Result<Option<Trace>, Fault>
+    ensures { IfErr result IsLossFault }
+{
+    match trace_in(files, dir) {
+        Ok(trace) => Ok(trace),
+        Err(fault) => Err(fault_of_looking(fault)),
+    }
+}
+
+// What a fault of looking at a folder is to a server of it: whatever only a command tells is a folder that can't be read.
+fn fault_of_looking(fault: Fault) -> Fault
+    ensures fault { result ≡ fault_of_looking fault }
+    ensures loss { IsLossFault result }
+{
+    match fault {
+        Fault::InUse
+        | Fault::Denied
+        | Fault::AboveDenied
+        | Fault::NoDescriptor
+        | Fault::NoRoom
+        | Fault::Identity
+        | Fault::ChangedIdentity
+        | Fault::Damaged { .. }
+        | Fault::TooLarge
+        | Fault::NoSpace { .. }
+        | Fault::Memory => fault,
+        _ => Fault::Device,
     }
 }
 
@@ -86,7 +130,7 @@ fn keep<S: Shelf>(files: &HostRuntime, dir: &str, shelf: &mut S) -> Result<(), F
 
 /// Makes sure that there is a copy of each segment that a shelf lists, the highest first.
 ///
-/// The errors: `NotKept`, as of `Copies::put`; `NoFolder`, if a segment can't be read; `Memory`.
+/// The errors: `NotKept`, as of `Copies::put`; `Device`, if a segment can't be read; `Memory`.
 pub fn keep_all<S: Shelf, C: Copies>(
     alloc: Global,
     shelf: &mut S,

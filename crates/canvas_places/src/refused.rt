@@ -3,7 +3,7 @@ ghost use Rattle.std.specs.Prelude.{◌≡◌, ℕ};
 ghost use Rattle.canvas_places.specs.Faults.{IsOpeningFault};
 ghost use Rattle.canvas_places.specs.Refusals.{with_refusal};
 
-use crate::fault::Fault;
+use canvas_faults::Fault;
 use canvas_folder::Refusal;
 use std::fmt;
 
@@ -37,16 +37,15 @@ impl fmt::Display for Refused<'_> {
     }
 }
 
-impl Fault {
-    /// The fault of an opening that failed with this one, if the folder refused this last: a shelf without room for a segment reports that
-    /// memory ran out.
-    pub fn with_refusal(self, refusal: Option<Refusal>) -> Fault
-        ensures fault { result ≡ with_refusal self refusal }
-        ensures opening { (clients : ℕ) → IsOpeningFault clients self → IsOpeningFault clients result }
-    {
-        match (self, refusal) {
-            (Fault::Memory, Some(Refusal::NoSpace { missing })) => Fault::NoSpace { missing },
-            (fault, _) => fault,
-        }
+/// The fault of an opening that failed with this one, if the folder refused this last: a shelf without room or a descriptor for a segment
+/// reports that memory ran out.
+pub fn with_refusal(fault: Fault, refusal: Option<Refusal>) -> Fault
+    ensures fault { result ≡ with_refusal fault refusal }
+    ensures opening { (clients : ℕ) → IsOpeningFault clients fault → IsOpeningFault clients result }
+{
+    match (fault, refusal) {
+        (Fault::Memory, Some(Refusal::NoSpace { missing })) => Fault::NoSpace { missing },
+        (Fault::Memory, Some(Refusal::NoDescriptor)) => Fault::NoDescriptor,
+        (fault, _) => fault,
     }
 }

@@ -1,7 +1,7 @@
 // What a server's threads do.
 ghost use Rattle.std.specs.Prelude.{◌≡◌, IfErr};
 
-use crate::fault::Fault;
+use canvas_faults::Fault;
 use std::thread::{Threads, spawn};
 
 /// What a thread does.

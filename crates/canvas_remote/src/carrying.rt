@@ -3,7 +3,8 @@ ghost use Rattle.std.specs.Prelude.{◌≡◌, true, IfOk, IsTrue};
 ghost use Rattle.canvas_shelf.specs.Disk.{top_is_listed};
 ghost use Rattle.canvas_remote.specs.Carried.{IsCarried};
 
-use canvas_care::{Fault, plant};
+use canvas_care::plant;
+use canvas_faults::Fault;
 use canvas_journal::look;
 use canvas_judge::State;
 use canvas_shelf::Shelf;

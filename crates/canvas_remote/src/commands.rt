@@ -7,11 +7,9 @@ ghost use Rattle.canvas_care.specs.Checks.{WritesShelf};
 ghost use Rattle.canvas_care.specs.Logs.{WritesLog};
 ghost use Rattle.canvas_care.specs.Shown.{WritesRows};
 
-use crate::fault::{RemoteFault, fault_of_command};
 use crate::opening::{existing, taken};
-use canvas_care::{
-    Fault, Layout, check_shelf, import, log_shelf, plant, show_rows_of, show_tree_of,
-};
+use canvas_care::{Layout, check_shelf, import, log_shelf, plant, show_rows_of, show_tree_of};
+use canvas_faults::{Fault, of_document};
 use canvas_identity::Address;
 use canvas_judge::State;
 use canvas_lines::write_out;
@@ -25,20 +23,20 @@ use std::time::Clock;
 
 /// Writes the version and the tree of a document. Writes nothing to the etcd, and a server may have the document meanwhile.
 ///
-/// The errors: `NoSegment`, where there is no such document; `Store`, if the etcd didn't do what it was asked; `Damaged`, `Memory` and
+/// The errors: `NoSegment`, where there is no such document; `NoStore`, if the etcd didn't do what it was asked; `Damaged`, `Memory` and
 /// `Stream` as `show_tree_of` answers them.
-pub fn show_tree<R, W>(net: &R, address: &Address, output: &mut W) -> Result<(), RemoteFault>
+pub fn show_tree<R, W>(net: &R, address: &Address, output: &mut W) -> Result<(), Fault>
 where
     R: Net<Stream = TcpStream> + Clock + RandomSource + AllocGlobal + Clone + Drop,
     W: Write,
     ensures form { OnOk result (WritesReport (W.contents output.old) (W.contents output.new)) }
-    ensures unwritten { IfErr result (λ fault. (fault ≡ RemoteFault.Command Fault.Stream → ⊥) → W.contents output.new ≡ W.contents output.old) }
+    ensures unwritten { IfErr result (λ fault. (fault ≡ Fault.Stream → ⊥) → W.contents output.new ≡ W.contents output.old) }
 {
     let alloc = net.alloc();
     let (mut shelf, causes) = existing(net, address)?;
     match show_tree_of(alloc, &mut shelf, output) {
         Ok(()) => Ok(()),
-        Err(fault) => Err(fault_of_command(fault, causes.last())),
+        Err(fault) => Err(of_document(fault, causes.last())),
     }
 }
 
@@ -48,26 +46,26 @@ pub fn show_rows<R, W>(
     address: &Address,
     layout: Layout,
     output: &mut W,
-) -> Result<(), RemoteFault>
+) -> Result<(), Fault>
 where
     R: Net<Stream = TcpStream> + Clock + RandomSource + AllocGlobal + Clone + Drop,
     W: Write,
     ensures form { OnOk result (WritesRows layout (W.contents output.old) (W.contents output.new)) }
-    ensures unwritten { IfErr result (λ fault. (fault ≡ RemoteFault.Command Fault.Stream → ⊥) → W.contents output.new ≡ W.contents output.old) }
+    ensures unwritten { IfErr result (λ fault. (fault ≡ Fault.Stream → ⊥) → W.contents output.new ≡ W.contents output.old) }
 {
     let alloc = net.alloc();
     let (mut shelf, causes) = existing(net, address)?;
     match show_rows_of(alloc, &mut shelf, layout, output) {
         Ok(()) => Ok(()),
-        Err(fault) => Err(fault_of_command(fault, causes.last())),
+        Err(fault) => Err(of_document(fault, causes.last())),
     }
 }
 
 /// Tells what stands in a document's segments, as `check_shelf` does. An etcd keeps what it was given, so no sums are looked at. Writes
 /// nothing to it, and a server may have the document meanwhile.
 ///
-/// The errors are those of `check_shelf`; `NoSegment` and `Store` as at `show_tree`.
-pub fn check<R, W>(net: &R, address: &Address, output: &mut W) -> Result<(), RemoteFault>
+/// The errors are those of `check_shelf`; `NoSegment` and `NoStore` as at `show_tree`.
+pub fn check<R, W>(net: &R, address: &Address, output: &mut W) -> Result<(), Fault>
 where
     R: Net<Stream = TcpStream> + Clock + RandomSource + AllocGlobal + Clone + Drop,
     W: Write,
@@ -77,23 +75,23 @@ where
     let (mut shelf, causes) = existing(net, address)?;
     match check_shelf(alloc, &mut shelf, output) {
         Ok(()) => Ok(()),
-        Err(fault) => Err(fault_of_command(fault, causes.last())),
+        Err(fault) => Err(of_document(fault, causes.last())),
     }
 }
 
 /// Writes the entries past a document's checkpoint, as `log_shelf` does. Else it is as `show_tree`.
-pub fn log<R, W>(net: &R, address: &Address, output: &mut W) -> Result<(), RemoteFault>
+pub fn log<R, W>(net: &R, address: &Address, output: &mut W) -> Result<(), Fault>
 where
     R: Net<Stream = TcpStream> + Clock + RandomSource + AllocGlobal + Clone + Drop,
     W: Write,
     ensures form { OnOk result (WritesLog (W.contents output.old) (W.contents output.new)) }
-    ensures unwritten { IfErr result (λ fault. (fault ≡ RemoteFault.Command Fault.Stream → ⊥) → W.contents output.new ≡ W.contents output.old) }
+    ensures unwritten { IfErr result (λ fault. (fault ≡ Fault.Stream → ⊥) → W.contents output.new ≡ W.contents output.old) }
 {
     let alloc = net.alloc();
     let (mut shelf, causes) = existing(net, address)?;
     match log_shelf(alloc, &mut shelf, output) {
         Ok(()) => Ok(()),
-        Err(fault) => Err(fault_of_command(fault, causes.last())),
+        Err(fault) => Err(of_document(fault, causes.last())),
     }
 }
 
@@ -101,13 +99,13 @@ where
 /// it an identity.
 ///
 /// The errors: those of `import`, and then nothing was asked of the etcd; `InUse`, where a server has the document; `Taken`, where it is
-/// there already; `Store`, if the etcd didn't do what it was asked; `NoThread`; `TooLarge`, `Memory`, `Stream`.
+/// there already; `NoStore`, if the etcd didn't do what it was asked; `NoThread`; `TooLarge`, `Memory`, `Stream`.
 pub fn import_document<R, I, W>(
     net: &R,
     address: &Address,
     input: &mut I,
     output: &mut W,
-) -> Result<(), RemoteFault>
+) -> Result<(), Fault>
 where
     R: Net<Listener = TcpListener, Stream = TcpStream>
         + Threads
@@ -129,7 +127,7 @@ where
     let planted = plant(alloc, &mut taken.shelf, &state, version);
     taken.kept.release(net);
     if let Err(fault) = planted {
-        return Err(fault_of_command(fault, taken.causes.last()));
+        return Err(of_document(fault, taken.causes.last()));
     }
     tell_begun(alloc, &state, version, output)?;
     Ok(())

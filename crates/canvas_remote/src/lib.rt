@@ -3,11 +3,9 @@
 
 mod carrying;
 mod commands;
-mod fault;
 mod moving;
 mod opening;
 
 pub use carrying::carry;
 pub use commands::{check, import_document, log, show_rows, show_tree};
-pub use fault::{RemoteFault, Told, end, finish};
 pub use moving::{MoveFault, move_in, move_out};

@@ -4,9 +4,9 @@ ghost use Rattle.canvas_care.specs.Begun.{WritesBegun};
 
 use crate::carrying::carry;
 use crate::commands::tell_begun;
-use crate::fault::{RemoteFault, fault_of_cause, fault_of_command};
 use crate::opening::{Held, taken};
-use canvas_care::{Fault, check};
+use canvas_care::check;
+use canvas_faults::{Fault, fault_of_cause, of_document};
 use canvas_folder::{DirShelf, OsFolder};
 use canvas_identity::{
     Address, IdentityError, identity_in, keep_identity, read_identity, remove_identity,
@@ -30,7 +30,7 @@ pub enum MoveFault {
     /// It is of the folder.
     Folder(Fault),
     /// It is of the document in the etcd.
-    Document(RemoteFault),
+    Document(Fault),
 }
 
 impl From<AllocError> for MoveFault {
@@ -41,17 +41,13 @@ impl From<AllocError> for MoveFault {
 
 impl From<IdentityError> for MoveFault {
     fn from(error: IdentityError) -> MoveFault {
-        MoveFault::Folder(match error {
-            IdentityError::Memory => Fault::Memory,
-            IdentityError::NotOne | IdentityError::Changed => Fault::Identity,
-            IdentityError::Device => Fault::Device,
-        })
+        MoveFault::Folder(Fault::from(error))
     }
 }
 
 impl From<StoreError> for MoveFault {
     fn from(error: StoreError) -> MoveFault {
-        MoveFault::Document(RemoteFault::from(error))
+        MoveFault::Document(Fault::from(error))
     }
 }
 
@@ -59,8 +55,8 @@ impl From<StoreError> for MoveFault {
 /// are. Its identity goes with it, so that clients go on over it there; the segments stay in the folder, which gets another identity if it is
 /// ever served again. The folder is checked first, as `check` of `canvas_care` does.
 ///
-/// The faults of the folder: `NoSegment`, `InUse`, `Damaged`, `Identity`, `Device`, `Memory`, and `Stream` where the output failed; of the document:
-/// `InUse`, `Taken`, `Store`, `NoThread`, `TooLarge`, `Memory`. If the etcd has failed, the document may be in both places, and its identity in one or
+/// The faults of the folder: `NoSegment`, `InUse`, `Damaged`, `Identity`, `ChangedIdentity`, `Device`, `Memory`, and `Stream` where the output failed; of the document:
+/// `InUse`, `Taken`, `NoStore`, `NoThread`, `TooLarge`, `Memory`. If the etcd has failed, the document may be in both places, and its identity in one or
 /// in none: then clients begin anew.
 pub fn move_in<R, D, W>(
     net: &R,
@@ -149,7 +145,7 @@ fn fault_of_in(fault: Fault, causes: &Causes) -> MoveFault {
             MoveFault::Folder(Fault::Damaged { segment, offset })
         }
         Fault::Device => fault_of_device(causes),
-        fault => MoveFault::Document(RemoteFault::Command(fault)),
+        fault => MoveFault::Document(fault),
     }
 }
 
@@ -164,8 +160,8 @@ fn fault_of_device(causes: &Causes) -> MoveFault {
 /// Moves a document out of an etcd into a new folder, and then writes its version and how many objects there are. Its identity goes with it;
 /// the segments stay in the etcd, where the document gets another identity if it is ever served again.
 ///
-/// The faults of the folder: `Taken`, where it holds a segment or an identity, `Identity`, `InUse`, `Device`, `TooLarge`, `Memory`, and `Stream` where the
-/// output failed; of the document: `NoSegment`, `InUse`, `Damaged`, `Identity`, `Store`, `NoThread`, `Memory`. If a fault came late, the document may be in both
+/// The faults of the folder: `Taken`, where it holds a segment or an identity, `Identity`, `ChangedIdentity`, `InUse`, `Device`, `TooLarge`, `Memory`, and `Stream` where the
+/// output failed; of the document: `NoSegment`, `InUse`, `Damaged`, `Identity`, `NoStore`, `NoThread`, `Memory`. If a fault came late, the document may be in both
 /// places, and its identity in one or in none: then clients begin anew.
 pub fn move_out<R, D, W>(
     net: &R,
@@ -248,7 +244,7 @@ where
 fn fault_of_out(fault: Fault, causes: &Causes) -> MoveFault {
     match fault {
         Fault::Damaged { segment, offset } => {
-            MoveFault::Document(RemoteFault::Command(Fault::Damaged { segment, offset }))
+            MoveFault::Document(Fault::Damaged { segment, offset })
         }
         Fault::Device => fault_of_device(causes),
         fault => MoveFault::Folder(fault),
@@ -314,12 +310,10 @@ where
     R: Net<Stream = TcpStream> + Clock + RandomSource + AllocGlobal + Clone + Drop,
 {
     match taken.shelf.list(alloc) {
-        Ok(listed) if listed.is_empty() => {
-            Err(MoveFault::Document(RemoteFault::Command(Fault::NoSegment)))
-        }
+        Ok(listed) if listed.is_empty() => { Err(MoveFault::Document(Fault::NoSegment)) }
         Ok(_) => Ok(()),
         Err(error) => {
-            let fault = fault_of_command(Fault::from(error), taken.causes.last());
+            let fault = of_document(Fault::from(error), taken.causes.last());
             Err(MoveFault::Document(fault))
         }
     }
@@ -332,14 +326,12 @@ fn keep_text<D: Files<File = File> + AllocGlobal>(
     text: &[u8],
 ) -> Result<(), MoveFault> {
     let Ok(text) = str::from_utf8(text) else {
-        return Err(MoveFault::Document(RemoteFault::Command(Fault::Identity)));
+        return Err(MoveFault::Document(Fault::Identity));
     };
     let identity = match identity_in(files.alloc(), text) {
         Ok(identity) => identity,
-        Err(IdentityError::Memory) => return Err(MoveFault::Document(RemoteFault::Command(
-            Fault::Memory,
-        ))),
-        Err(_) => return Err(MoveFault::Document(RemoteFault::Command(Fault::Identity))),
+        Err(IdentityError::Memory) => return Err(MoveFault::Document(Fault::Memory)),
+        Err(_) => return Err(MoveFault::Document(Fault::Identity)),
     };
     keep_identity(files, dir, &identity)?;
     Ok(())

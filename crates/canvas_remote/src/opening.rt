@@ -1,15 +1,11 @@
 // The shelf of a document in an etcd.
-ghost use Rattle.std.specs.Prelude.{◌≡◌};
-ghost use Rattle.canvas_remote.specs.Faults.{fault_of_etcd};
-
-use crate::fault::{RemoteFault, fault_of_cause, fault_of_command};
-use canvas_care::Fault;
-use canvas_etcd::{EtcdError, EtcdShelf};
+use canvas_etcd::EtcdShelf;
+use canvas_faults::{Fault, fault_of_etcd, of_document};
 use canvas_gateway::copy_hosts;
 use canvas_identity::Address;
 use canvas_places::{KeptLease, LEASE_SECONDS, Term};
 use canvas_shelf::Shelf;
-use canvas_store::{Causes, EtcdStore, Lease, StoreError};
+use canvas_store::{Causes, EtcdStore, Lease};
 use std::alloc::AllocError;
 use std::net::{Net, TcpListener, TcpStream};
 use std::random::RandomSource;
@@ -32,8 +28,8 @@ where
 
 /// The shelf of a document that is there, for reading, and why calls of its store failed.
 ///
-/// The errors: `NoSegment`, where there is no such document; `Store`, if the etcd didn't do what it was asked; `Memory`.
-pub(crate) fn existing<R>(net: &R, address: &Address) -> Result<(Remote<R>, Causes), RemoteFault>
+/// The errors: `NoSegment`, where there is no such document; `NoStore`, if the etcd didn't do what it was asked; `Memory`.
+pub(crate) fn existing<R>(net: &R, address: &Address) -> Result<(Remote<R>, Causes), Fault>
 where
     R: Net<Stream = TcpStream> + Clock + RandomSource + AllocGlobal + Clone + Drop,
 {
@@ -45,9 +41,9 @@ where
         Err(error) => return Err(fault_of_etcd(error, causes.last())),
     };
     match shelf.list(alloc) {
-        Ok(listed) if listed.is_empty() => Err(RemoteFault::Command(Fault::NoSegment)),
+        Ok(listed) if listed.is_empty() => Err(Fault::NoSegment),
         Ok(_) => Ok((shelf, causes)),
-        Err(error) => Err(fault_of_command(Fault::from(error), causes.last())),
+        Err(error) => Err(of_document(Fault::from(error), causes.last())),
     }
 }
 
@@ -82,8 +78,8 @@ where
 
 /// Takes a document over for a command, until its lease is released or the command has ended.
 ///
-/// The errors: `InUse`, where a server has the document; `Store`, if the etcd didn't do what it was asked; `NoThread`; `Memory`.
-pub(crate) fn taken<R>(net: &R, address: &Address) -> Result<Held<R>, RemoteFault>
+/// The errors: `InUse`, where a server has the document; `NoStore`, if the etcd didn't do what it was asked; `NoThread`; `Memory`.
+pub(crate) fn taken<R>(net: &R, address: &Address) -> Result<Held<R>, Fault>
 where
     R: Net<Listener = TcpListener, Stream = TcpStream>
         + Threads
@@ -104,26 +100,11 @@ where
         Err(error) => return Err(fault_of_etcd(error, causes.last())),
     };
     let lease = shelf.store().lease()?;
-    let kept = match KeptLease::new(net, term, lease.another()?) {
-        Ok(kept) => kept,
-        Err(canvas_places::Fault::NoThread) => return Err(RemoteFault::NoThread),
-        Err(_) => return Err(RemoteFault::Command(Fault::Memory)),
-    };
+    let kept = KeptLease::new(net, term, lease.another()?)?;
     Ok(Held {
         shelf,
         causes,
         lease,
         kept,
     })
-}
-
-// The fault that a document is that isn't opened, whose store failed last for this reason.
-fn fault_of_etcd(error: EtcdError, why: Option<StoreError>) -> RemoteFault
-    ensures { result ≡ fault_of_etcd why error }
-{
-    match error {
-        EtcdError::InUse => RemoteFault::Command(Fault::InUse),
-        EtcdError::Device => fault_of_cause(why),
-        EtcdError::Memory => RemoteFault::Command(Fault::Memory),
-    }
 }

@@ -1,4 +1,7 @@
 // Why words ask for nothing.
+ghost use Rattle.std.specs.Prelude.{◌≡◌};
+
+use canvas_faults::Fault;
 use canvas_identity::AddressError;
 use std::alloc::{AllocError, AllocFailed};
 use thiserror::Error;
@@ -48,5 +51,20 @@ impl From<AllocError> for WordsError {
 impl<T: Drop> From<AllocFailed<T>> for WordsError {
     fn from(_: AllocFailed<T>) -> WordsError {
         WordsError::Word(WordError::Memory)
+    }
+}
+
+impl From<WordError> for Fault {
+    ghost use Rattle.canvas_words.specs.Wrong.{fault_of_word};
+
+    ghost from_gives = { λ error fault. fault ≡ fault_of_word error };
+
+    fn from(error: WordError) -> Fault {
+        match error {
+            WordError::NotAnOrigin => Fault::NotAnOrigin,
+            WordError::NotAUrl => Fault::NotAUrl,
+            WordError::NotAName => Fault::NotAName,
+            WordError::Memory => Fault::Memory,
+        }
     }
 }

@@ -1,20 +1,20 @@
 -- What the program did, by what its words ask for.
-use Rattle.std.specs.Prelude.{◌≡◌, ◌⊎◌, ℕ, List, [], ◌∷◌, ◌++◌, codes, Option, Some, None, string_bytes}
-use Rattle.std.specs.Io.KnownBytes.{Appends}
+use Rattle.std.specs.Prelude.{◌≡◌, ◌⊎◌, ℕ, List, [], Option, Some, None, string_bytes}
 use Rattle.canvas_care.specs.Begun.{WritesBegun, WritesImported}
 use Rattle.canvas_care.specs.Checks.{WritesCheck, WritesShelf}
-use Rattle.canvas_care.specs.Faults.{Ends}
 use Rattle.canvas_care.specs.Logs.{WritesLog}
 use Rattle.canvas_care.specs.Shown.{WritesRows}
 use Rattle.canvas_care.specs.declared.rows.Layout.{Layout}
-use Rattle.canvas_remote.specs.Faults as remote
+use Rattle.canvas_faults.specs.Told.{Ends, IsTold}
+use Rattle.canvas_faults.specs.declared.subject.Subject.{Subject}
+use Rattle.canvas_faults.specs.declared.subject.Subject.TheVariants as subject
 use Rattle.canvas_lines.specs.Reports.{WritesReport}
 use Rattle.canvas_words.specs.declared.asked.Asked.{Asked}
 use Rattle.canvas_words.specs.declared.asked.Asked.TheVariants.{Serve, Show, Import, Restore, Move, Check, Log}
 use Rattle.canvas_words.specs.declared.asked.Place.{Place}
 use Rattle.canvas_words.specs.declared.asked.Place.TheVariants.{Folder, Document}
 use Rattle.canvas_words.specs.declared.error.WordError.{WordError}
-use Rattle.canvas_words.specs.declared.error.WordError.TheVariants.{NotAnOrigin, NotAUrl, NotAName, Memory}
+use Rattle.canvas_words.specs.Wrong.{fault_of_word}
 use Rattle.canvas_places.specs.Faults.{IsServed}
 
 -- the folder of a document, or its name in an etcd
@@ -22,10 +22,15 @@ abbrev pub place_bytes : Place → List ℕ
 place_bytes (Folder dir) = string_bytes dir
 place_bytes (Document address) = string_bytes address.name
 
+-- what the faults of its server are of
+abbrev pub served_of : Place → Subject
+served_of (Folder dir) = subject.ServedFolder
+served_of (Document address) = subject.ServedDocument
+
 -- the command did this to the document there, and the status is 0; or a fault ended it, which was told
 abbrev pub EndsAt : Place → Type 0 → ℕ → (faults told : Option (List ℕ)) → Type 0
-EndsAt (Folder dir) did status faults told = Ends did (string_bytes dir) status faults told
-EndsAt (Document address) did status faults told = remote.Ends did (string_bytes address.name) status faults told
+EndsAt (Folder dir) did status faults told = Ends did subject.Folder (string_bytes dir) status faults told
+EndsAt (Document address) did status faults told = Ends did subject.Document (string_bytes address.name) status faults told
 
 -- the tree of some document was written, or its rows, laid out so
 abbrev pub WritesShown : Option Layout → (written after : Option (List ℕ)) → Type 0
@@ -45,39 +50,25 @@ WritesChecked (Document address) written after = WritesShelf written after
 -- at, and writes no output. Only an import reads its input.
 abbrev pub Does : Asked → ℕ → (read left written after faults told : Option (List ℕ)) → Type 0
 Does (Serve options) status read left written after faults told =
-    (left ≡ read) × (after ≡ written) × IsServed (place_bytes options.place) options.serving.port options.serving.clients options.serving.stop_file status faults told
+    (left ≡ read) × (after ≡ written) × IsServed (served_of options.place) (place_bytes options.place) options.serving.port options.serving.clients options.serving.stop_file status faults told
 Does (Show place layout) status read left written after faults told =
     (left ≡ read) × Shows place layout status written after faults told
 Does (Import place) status read left written after faults told =
     EndsAt place (WritesImported read left written after) status faults told
 Does (Restore backup dir accept_loss) status read left written after faults told =
     (left ≡ read)
-    × (Ends (WritesBegun written after) (string_bytes dir) status faults told ⊎ Ends ⊥ (string_bytes backup) status faults told)
+    × (Ends (WritesBegun written after) subject.Folder (string_bytes dir) status faults told ⊎ Ends ⊥ subject.Folder (string_bytes backup) status faults told)
 Does (Move dir address is_back) status read left written after faults told =
     (left ≡ read)
-    × (Ends (WritesBegun written after) (string_bytes dir) status faults told ⊎ remote.Ends ⊥ (string_bytes address.name) status faults told)
+    × (Ends (WritesBegun written after) subject.Folder (string_bytes dir) status faults told ⊎ Ends ⊥ subject.Document (string_bytes address.name) status faults told)
 Does (Check place) status read left written after faults told =
     (left ≡ read) × EndsAt place (WritesChecked place written after) status faults told
 Does (Log place) status read left written after faults told =
     (left ≡ read) × EndsAt place (WritesLog written after) status faults told
 
--- what is told of a word that isn't as it has to be
-abbrev pub refusal : WordError → List ℕ
-refusal NotAnOrigin = codes "--origin wants an origin as browsers send it, https://canvas.example: small letters, and no path or slash behind"
-refusal NotAUrl = codes "--etcd wants URLs as http://127.0.0.1:2379, with commas between them"
-refusal NotAName = codes "--document wants a name of 1 to 64 letters, digits, -, . and _"
-refusal Memory = codes "out of memory"
-
--- 2 for words, 3 for want of memory
-abbrev pub refusal_status : WordError → ℕ
-refusal_status NotAnOrigin = 2
-refusal_status NotAUrl = 2
-refusal_status NotAName = 2
-refusal_status Memory = 3
-
--- the status of the refusal, where it was told in a line of its own, or 4
+-- the status of a word that isn't as it has to be, where it was told in a line of its own, or 4
 abbrev pub IsRefused : WordError → ℕ → (faults told : Option (List ℕ)) → Type 0
-IsRefused error status faults told = ((status ≡ refusal_status error) × Appends faults told (refusal error ++ 10 ∷ [])) ⊎ (status ≡ 4)
+IsRefused error status faults told = IsTold (fault_of_word error) subject.Folder [] 0 status faults told
 
 -- what some words ask for was done; or they ask for nothing, or for help, and then nothing was read or written, and at most it was told which
 -- of them isn't as it has to be

@@ -2,14 +2,16 @@
 ghost use Rattle.std.specs.Prelude.{◌⊎◌};
 ghost use Rattle.canvas_care.specs.Begun.{WritesBegun, WritesImported};
 ghost use Rattle.canvas_care.specs.Checks.{WritesCheck};
-ghost use Rattle.canvas_care.specs.Faults.{Ends};
 ghost use Rattle.canvas_care.specs.Logs.{WritesLog};
 ghost use Rattle.canvas_care.specs.Shown.{WritesRows};
+ghost use Rattle.canvas_faults.specs.Told.{Ends};
+ghost use Rattle.canvas_faults.specs.declared.subject.Subject.TheVariants.{Folder};
 ghost use Rattle.canvas_lines.specs.Reports.{WritesReport};
 
 use canvas_care::{
-    Layout, begin_folder, check, finish, import_folder, log, read_backup, show_rows, show_tree,
+    Layout, begin_folder, check, import_folder, log, read_backup, show_rows, show_tree,
 };
+use canvas_faults::{Subject, finish};
 use std::io::{Read, Write};
 
 /// Writes the tree of a folder's document.
@@ -19,9 +21,9 @@ pub(crate) fn run_tree<W: Write, F: Write>(
     output: &mut W,
     faults: &mut F,
 ) -> u8
-    ensures { Ends (WritesReport (W.contents output.old) (W.contents output.new)) dir.now result (F.contents faults.old) (F.contents faults.new) }
+    ensures { Ends (WritesReport (W.contents output.old) (W.contents output.new)) Folder dir.now result (F.contents faults.old) (F.contents faults.new) }
 {
-    finish(show_tree(files, dir, output), dir, faults)
+    finish(show_tree(files, dir, output), Subject::Folder, dir, faults)
 }
 
 /// Writes the rows of a folder's document.
@@ -32,9 +34,14 @@ pub(crate) fn run_rows<W: Write, F: Write>(
     output: &mut W,
     faults: &mut F,
 ) -> u8
-    ensures { Ends (WritesRows layout (W.contents output.old) (W.contents output.new)) dir.now result (F.contents faults.old) (F.contents faults.new) }
+    ensures { Ends (WritesRows layout (W.contents output.old) (W.contents output.new)) Folder dir.now result (F.contents faults.old) (F.contents faults.new) }
 {
-    finish(show_rows(files, dir, layout, output), dir, faults)
+    finish(
+        show_rows(files, dir, layout, output),
+        Subject::Folder,
+        dir,
+        faults,
+    )
 }
 
 /// Makes a new folder of the rows of the input.
@@ -45,9 +52,14 @@ pub(crate) fn run_import<I: Read, W: Write, F: Write>(
     output: &mut W,
     faults: &mut F,
 ) -> u8
-    ensures { Ends (WritesImported (I.remaining input.old) (I.remaining input.new) (W.contents output.old) (W.contents output.new)) dir.now result (F.contents faults.old) (F.contents faults.new) }
+    ensures { Ends (WritesImported (I.remaining input.old) (I.remaining input.new) (W.contents output.old) (W.contents output.new)) Folder dir.now result (F.contents faults.old) (F.contents faults.new) }
 {
-    finish(import_folder(files, dir, input, output), dir, faults)
+    finish(
+        import_folder(files, dir, input, output),
+        Subject::Folder,
+        dir,
+        faults,
+    )
 }
 
 /// Makes a new folder of a backup; of one that has lost something only if that is accepted. A fault of the backup is told with the backup's
@@ -60,15 +72,15 @@ pub(crate) fn run_restore<W: Write, F: Write>(
     output: &mut W,
     faults: &mut F,
 ) -> u8
-    ensures { Ends (WritesBegun (W.contents output.old) (W.contents output.new)) dir.now result (F.contents faults.old) (F.contents faults.new)
-        ⊎ Ends ⊥ backup.now result (F.contents faults.old) (F.contents faults.new) }
+    ensures { Ends (WritesBegun (W.contents output.old) (W.contents output.new)) Folder dir.now result (F.contents faults.old) (F.contents faults.new)
+        ⊎ Ends ⊥ Folder backup.now result (F.contents faults.old) (F.contents faults.new) }
 {
     match read_backup(files, backup, accept_loss) {
         Ok((state, version)) => {
             let done = begin_folder(files, dir, &state, version, output);
-            finish(done, dir, faults)
+            finish(done, Subject::Folder, dir, faults)
         }
-        Err(fault) => finish(Err(fault), backup, faults),
+        Err(fault) => finish(Err(fault), Subject::Folder, backup, faults),
     }
 }
 
@@ -79,9 +91,9 @@ pub(crate) fn run_check<W: Write, F: Write>(
     output: &mut W,
     faults: &mut F,
 ) -> u8
-    ensures { Ends (WritesCheck (W.contents output.old) (W.contents output.new)) dir.now result (F.contents faults.old) (F.contents faults.new) }
+    ensures { Ends (WritesCheck (W.contents output.old) (W.contents output.new)) Folder dir.now result (F.contents faults.old) (F.contents faults.new) }
 {
-    finish(check(files, dir, output), dir, faults)
+    finish(check(files, dir, output), Subject::Folder, dir, faults)
 }
 
 /// Writes the entries past a folder's checkpoint.
@@ -91,7 +103,7 @@ pub(crate) fn run_log<W: Write, F: Write>(
     output: &mut W,
     faults: &mut F,
 ) -> u8
-    ensures { Ends (WritesLog (W.contents output.old) (W.contents output.new)) dir.now result (F.contents faults.old) (F.contents faults.new) }
+    ensures { Ends (WritesLog (W.contents output.old) (W.contents output.new)) Folder dir.now result (F.contents faults.old) (F.contents faults.new) }
 {
-    finish(log(files, dir, output), dir, faults)
+    finish(log(files, dir, output), Subject::Folder, dir, faults)
 }

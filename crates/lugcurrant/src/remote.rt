@@ -2,16 +2,17 @@
 ghost use Rattle.std.specs.Prelude.{◌⊎◌, OnOk, string_bytes};
 ghost use Rattle.canvas_care.specs.Begun.{WritesBegun, WritesImported};
 ghost use Rattle.canvas_care.specs.Checks.{WritesShelf};
-ghost use Rattle.canvas_care.specs.Faults as folder;
 ghost use Rattle.canvas_care.specs.Logs.{WritesLog};
 ghost use Rattle.canvas_care.specs.Shown.{WritesRows};
-ghost use Rattle.canvas_remote.specs.Faults.{Ends};
+ghost use Rattle.canvas_faults.specs.Told.{Ends};
+ghost use Rattle.canvas_faults.specs.declared.subject.Subject.TheVariants.{Document, Folder};
 ghost use Rattle.canvas_lines.specs.Reports.{WritesReport};
 
 use canvas_care::Layout;
+use canvas_faults::{Subject, finish};
 use canvas_identity::Address;
 use canvas_remote::{
-    MoveFault, check, finish, import_document, log, move_in, move_out, show_rows, show_tree,
+    MoveFault, check, import_document, log, move_in, move_out, show_rows, show_tree,
 };
 use std::io::{Read, Write};
 use std::net::{Net, TcpListener, TcpStream};
@@ -31,9 +32,14 @@ where
     R: Net<Stream = TcpStream> + Clock + RandomSource + AllocGlobal + Clone + Drop,
     W: Write,
     F: Write,
-    ensures { Ends (WritesReport (W.contents output.old) (W.contents output.new)) (string_bytes address.now.name) result (F.contents faults.old) (F.contents faults.new) }
+    ensures { Ends (WritesReport (W.contents output.old) (W.contents output.new)) Document (string_bytes address.now.name) result (F.contents faults.old) (F.contents faults.new) }
 {
-    finish(show_tree(rt, address, output), &address.name, faults)
+    finish(
+        show_tree(rt, address, output),
+        Subject::Document,
+        &address.name,
+        faults,
+    )
 }
 
 /// Writes the rows of a document.
@@ -48,10 +54,11 @@ where
     R: Net<Stream = TcpStream> + Clock + RandomSource + AllocGlobal + Clone + Drop,
     W: Write,
     F: Write,
-    ensures { Ends (WritesRows layout (W.contents output.old) (W.contents output.new)) (string_bytes address.now.name) result (F.contents faults.old) (F.contents faults.new) }
+    ensures { Ends (WritesRows layout (W.contents output.old) (W.contents output.new)) Document (string_bytes address.now.name) result (F.contents faults.old) (F.contents faults.new) }
 {
     finish(
         show_rows(rt, address, layout, output),
+        Subject::Document,
         &address.name,
         faults,
     )
@@ -79,10 +86,11 @@ where
     I: Read,
     W: Write,
     F: Write,
-    ensures { Ends (WritesImported (I.remaining input.old) (I.remaining input.new) (W.contents output.old) (W.contents output.new)) (string_bytes address.now.name) result (F.contents faults.old) (F.contents faults.new) }
+    ensures { Ends (WritesImported (I.remaining input.old) (I.remaining input.new) (W.contents output.old) (W.contents output.new)) Document (string_bytes address.now.name) result (F.contents faults.old) (F.contents faults.new) }
 {
     finish(
         import_document(rt, address, input, output),
+        Subject::Document,
         &address.name,
         faults,
     )
@@ -94,9 +102,14 @@ where
     R: Net<Stream = TcpStream> + Clock + RandomSource + AllocGlobal + Clone + Drop,
     W: Write,
     F: Write,
-    ensures { Ends (WritesShelf (W.contents output.old) (W.contents output.new)) (string_bytes address.now.name) result (F.contents faults.old) (F.contents faults.new) }
+    ensures { Ends (WritesShelf (W.contents output.old) (W.contents output.new)) Document (string_bytes address.now.name) result (F.contents faults.old) (F.contents faults.new) }
 {
-    finish(check(rt, address, output), &address.name, faults)
+    finish(
+        check(rt, address, output),
+        Subject::Document,
+        &address.name,
+        faults,
+    )
 }
 
 /// Writes the entries past a document's checkpoint.
@@ -105,9 +118,14 @@ where
     R: Net<Stream = TcpStream> + Clock + RandomSource + AllocGlobal + Clone + Drop,
     W: Write,
     F: Write,
-    ensures { Ends (WritesLog (W.contents output.old) (W.contents output.new)) (string_bytes address.now.name) result (F.contents faults.old) (F.contents faults.new) }
+    ensures { Ends (WritesLog (W.contents output.old) (W.contents output.new)) Document (string_bytes address.now.name) result (F.contents faults.old) (F.contents faults.new) }
 {
-    finish(log(rt, address, output), &address.name, faults)
+    finish(
+        log(rt, address, output),
+        Subject::Document,
+        &address.name,
+        faults,
+    )
 }
 
 /// Moves a document from a folder into an etcd, or back. A fault is told with the place that it is of.
@@ -133,13 +151,18 @@ where
         + 'static,
     W: Write,
     F: Write,
-    ensures { folder.Ends (WritesBegun (W.contents output.old) (W.contents output.new)) dir.now result (F.contents faults.old) (F.contents faults.new)
-        ⊎ Ends ⊥ (string_bytes address.now.name) result (F.contents faults.old) (F.contents faults.new) }
+    ensures { Ends (WritesBegun (W.contents output.old) (W.contents output.new)) Folder dir.now result (F.contents faults.old) (F.contents faults.new)
+        ⊎ Ends ⊥ Document (string_bytes address.now.name) result (F.contents faults.old) (F.contents faults.new) }
 {
     match moved(rt, files, dir, address, is_back, output) {
         Ok(()) => 0,
-        Err(MoveFault::Folder(fault)) => canvas_care::finish(Err(fault), dir, faults),
-        Err(MoveFault::Document(fault)) => finish(Err(fault), &address.name, faults),
+        Err(MoveFault::Folder(fault)) => finish(Err(fault), Subject::Folder, dir, faults),
+        Err(MoveFault::Document(fault)) => finish(
+            Err(fault),
+            Subject::Document,
+            &address.name,
+            faults,
+        ),
     }
 }
 

@@ -1,15 +1,15 @@
 // The program: its words, and the status that it ends with.
 ghost use Rattle.std.specs.Prelude.{◌≡◌, IfOk, string_bytes};
-ghost use Rattle.canvas_places.specs.Faults.{IsEnd, IsServed};
-ghost use Rattle.lugcurrant.specs.Runs.{Does, IsRefused, IsRun, Shows, place_bytes};
+ghost use Rattle.canvas_places.specs.Faults.{IsServed};
+ghost use Rattle.lugcurrant.specs.Runs.{Does, IsRefused, IsRun, Shows, place_bytes, served_of};
 
 use crate::caring::{run_check, run_import, run_log, run_restore, run_rows, run_tree};
 use crate::remote::{
     check_remote, import_remote, log_remote, run_move, show_remote_rows, show_remote_tree,
 };
 use canvas_care::Layout;
+use canvas_faults::{Fault, Subject, Told, end, tell};
 use canvas_host::serve;
-use canvas_places::{Fault, Told};
 use canvas_words::{Asked, Options, Place, WordError, WordsError, read_words};
 use std::alloc::{AllocError, Global};
 use std::io::{Eprint, Print, Read, Write};
@@ -61,32 +61,17 @@ where
     }
 }
 
-// Tells which word isn't as it has to be.
+// Tells which word isn't as it has to be. Its sentence names no folder.
 fn refuse<F: Write>(error: WordError, faults: &mut F) -> u8
     ensures { IsRefused error result (F.contents faults.old) (F.contents faults.new) }
 {
-    let told = match error {
-        WordError::NotAnOrigin => writeln!(
-            faults,
-            "--origin wants an origin as browsers send it, https://canvas.example: small letters, and no path or slash behind"
-        ),
-        WordError::NotAUrl => writeln!(
-            faults,
-            "--etcd wants URLs as http://127.0.0.1:2379, with commas between them"
-        ),
-        WordError::NotAName => writeln!(
-            faults,
-            "--document wants a name of 1 to 64 letters, digits, -, . and _"
-        ),
-        WordError::Memory => writeln!(faults, "out of memory"),
+    let told = Told {
+        fault: Fault::from(error),
+        subject: Subject::Folder,
+        name: "",
+        port: 0,
     };
-    if told.is_err() || faults.flush().is_err() {
-        return 4;
-    }
-    match error {
-        WordError::NotAnOrigin | WordError::NotAUrl | WordError::NotAName => 2,
-        WordError::Memory => 3,
-    }
+    tell(&told, faults)
 }
 
 // Does what is asked for.
@@ -188,29 +173,42 @@ where
         + Drop
         + 'static,
     F: Write,
-    ensures { IsServed (place_bytes options.place) options.serving.port options.serving.clients options.serving.stop_file result (F.contents faults.old) (F.contents faults.new) }
+    ensures { IsServed (served_of options.place) (place_bytes options.place) options.serving.port options.serving.clients options.serving.stop_file result (F.contents faults.old) (F.contents faults.new) }
 {
     let port = options.serving.port;
+    let subject = served_of(&options.place);
     match place_text(rt.alloc(), &options.place) {
-        Ok(dir) => {
+        Ok(name) => {
             let fault = serve(rt, files, options);
-            tell(
+            end(
                 &Told {
                     fault,
-                    dir: &dir,
+                    subject,
+                    name: &name,
                     port,
                 },
                 faults,
             )
         }
-        Err(_) => tell(
+        Err(_) => end(
             &Told {
                 fault: Fault::Memory,
-                dir: "",
+                subject,
+                name: "",
                 port,
             },
             faults,
         ),
+    }
+}
+
+// What a server's faults are of.
+fn served_of(place: &Place) -> Subject
+    ensures { result ≡ served_of place.now }
+{
+    match place {
+        Place::Folder(_) => Subject::ServedFolder,
+        Place::Document(_) => Subject::ServedDocument,
     }
 }
 
@@ -222,18 +220,4 @@ fn place_text(alloc: Global, place: &Place) -> Result<String, AllocError>
         Place::Folder(dir) => String::from_str(alloc, dir),
         Place::Document(address) => String::from_str(alloc, &address.name),
     }
-}
-
-// Tells of a fault: its sentence and a line feed, or nothing of a server that was stopped. The program's status: the fault's, or 4 where it
-// can't be told.
-fn tell<F: Write>(told: &Told<'_>, faults: &mut F) -> u8
-    ensures { IsEnd told.now.fault told.now.dir.now told.now.port result (F.contents faults.old) (F.contents faults.new) }
-{
-    if told.fault == Fault::Stopped {
-        return 0;
-    }
-    if writeln!(faults, "{told}").is_err() || faults.flush().is_err() {
-        return 4;
-    }
-    told.fault.status()
 }

@@ -1,21 +1,11 @@
-use Rattle.std.proofs.Common.{◌≡◌, ℕ, Option, Some, None, inl, subst, sym}
+use Rattle.std.proofs.Common.{ℕ, Option, inl, subst, sym}
 use Rattle.canvas_etcd.specs.declared.error.EtcdError.{EtcdError}
 use Rattle.canvas_etcd.specs.declared.error.EtcdError.TheVariants as etcd
 use Rattle.canvas_store.specs.declared.error.StoreError.{StoreError}
-use Rattle.canvas_store.specs.declared.error.StoreError.TheVariants as store
-use Rattle.canvas_places.specs.Faults.{IsOpeningFault, fault_of_cause, fault_of_etcd}
+use Rattle.canvas_faults.specs.Errors.{fault_of_etcd}
+use Rattle.canvas_places.specs.Faults.{IsOpeningFault}
+use Rattle.canvas_host.proofs.Faults.{opens_cause}
 use Rattle.canvas_host.proofs.documents.take_over.Goals as goal
-
-opens_cause : (clients : ℕ) (why : Option StoreError) → IsOpeningFault clients (fault_of_cause why)
-opens_cause clients None = tt
-opens_cause clients (Some store.Unreachable) = tt
-opens_cause clients (Some store.Unanswered) = tt
-opens_cause clients (Some store.Refused) = tt
-opens_cause clients (Some store.TlsWanted) = tt
-opens_cause clients (Some store.NoSpace) = tt
-opens_cause clients (Some store.Damaged) = tt
-opens_cause clients (Some store.Lost) = tt
-opens_cause clients (Some store.Memory) = tt
 
 opens_etcd : (clients : ℕ) (why : Option StoreError) (error : EtcdError) → IsOpeningFault clients (fault_of_etcd why error)
 opens_etcd clients why etcd.InUse = tt

@@ -1,5 +1,6 @@
-use Rattle.canvas_care.proofs.Ends.{ended}
+use Rattle.canvas_faults.proofs.Ends.{ended}
+use Rattle.canvas_faults.specs.declared.subject.Subject.TheVariants.{Folder}
 use Rattle.lugcurrant.proofs.caring.run_tree.Goals as goal
 
 pub returns : goal.returns
-returns g c = ended _ c.show_tree.result c.args.dir.now c.finish.result _ _ c.show_tree.ensures.form c.finish.ensures
+returns g c = ended _ c.show_tree.result Folder c.args.dir.now c.finish.result _ _ c.show_tree.ensures.form c.finish.ensures

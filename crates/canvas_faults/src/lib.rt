@@ -1,0 +1,18 @@
+//! Why the program `lugcurrant` or one of its commands ends: what failed, and of what, with a sentence for a person and a status for what
+//! started it.
+#![tactic(auto)]
+
+mod causes;
+mod errors;
+mod etcd;
+mod fault;
+mod row_fault;
+mod subject;
+mod told;
+
+pub use causes::{Advice, Why};
+pub use etcd::{fault_of_cause, fault_of_etcd, of_document};
+pub use fault::Fault;
+pub use row_fault::RowFault;
+pub use subject::Subject;
+pub use told::{Told, end, finish, tell};
