@@ -33,7 +33,7 @@ pub(crate) fn plant_whole<R: Files<File = File> + AllocGlobal + Clone + Drop>(
     make(files, &draft, state, version)?;
     match put_in_place(files, path, &draft) {
         Ok(()) => Ok(()),
-        Err(error) => Err(fault_of(error.kind())),
+        Err(error) => Err(Fault::from(error)),
     }
 }
 
@@ -56,7 +56,7 @@ fn clear<R: Files<File = File> + AllocGlobal>(files: &R, draft: &str) -> Result<
         removed(fs::remove_dir(files, draft)),
     ] {
         if let Err(error) = done {
-            return Err(fault_of(error.kind()));
+            return Err(Fault::from(error));
         }
     }
     Ok(())
@@ -95,12 +95,4 @@ fn sums_of(alloc: Global, segment: &str) -> Result<String, AllocError> {
 // The path of what a folder holds under this name.
 fn within(alloc: Global, folder: &str, name: &str) -> Result<String, AllocError> {
     format!(in alloc; "{folder}/{name}")
-}
-
-// What it means that a call of the system failed.
-fn fault_of(kind: ErrorKind) -> Fault {
-    match kind {
-        ErrorKind::OutOfMemory => Fault::Memory,
-        _ => Fault::Device,
-    }
 }

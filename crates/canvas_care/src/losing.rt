@@ -13,7 +13,6 @@ use canvas_shelf::Shelf;
 use canvas_watch::read_sums;
 use std::alloc::Global;
 use std::fs::File;
-use std::io::ErrorKind;
 use std::rt::Files;
 
 /// Where the sums of segments are read.
@@ -37,10 +36,7 @@ impl<R: Files<File = File> + AllocGlobal> SumSource for FolderSums<'_, R> {
     fn sums(&self, number: u32) -> Result<Vec<u8>, Fault> {
         match read_sums(self.files, self.dir, number) {
             Ok(sums) => Ok(sums),
-            Err(error) => match error.kind() {
-                ErrorKind::OutOfMemory => Err(Fault::Memory),
-                _ => Err(Fault::Device),
-            },
+            Err(error) => Err(Fault::from(error)),
         }
     }
 }

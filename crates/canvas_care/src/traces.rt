@@ -32,7 +32,7 @@ fn is_there<R: Files<File = File>>(files: &R, path: &str) -> Result<bool, Fault>
     match fs::symlink_metadata(files, path) {
         Ok(_) => Ok(true),
         Err(error) if error.kind() == ErrorKind::NotFound => Ok(false),
-        Err(error) => Err(fault_of(error.kind())),
+        Err(error) => Err(Fault::from(error)),
     }
 }
 
@@ -45,7 +45,7 @@ fn highest_sums<R: Files<File = File> + AllocGlobal + Clone + Drop>(
     match fs::read_dir(files, dir) {
         Ok(entries) => add_numbers(&mut numbers, entries)?,
         Err(error) if error.kind() == ErrorKind::NotFound => return Ok(None),
-        Err(error) => return Err(fault_of(error.kind())),
+        Err(error) => return Err(Fault::from(error)),
     }
     highest_named(files, dir, &numbers)
 }
@@ -73,7 +73,7 @@ fn names_bytes<R: Files<File = File> + AllocGlobal>(
 ) -> Result<bool, Fault> {
     match read_sums(files, dir, number) {
         Ok(sums) => Ok(matches!(check_sums(&[], &sums), Err(SumFault::Short { .. }))),
-        Err(error) => Err(fault_of(error.kind())),
+        Err(error) => Err(Fault::from(error)),
     }
 }
 
@@ -99,7 +99,7 @@ fn add_number<R: Files + Drop>(
             None => Ok(()),
         },
         Err(error) if error.kind() == ErrorKind::InvalidFilename => Ok(()),
-        Err(error) => Err(fault_of(error.kind())),
+        Err(error) => Err(Fault::from(error)),
     }
 }
 
@@ -116,12 +116,4 @@ fn number_in(name: &str) -> Option<u32> {
         return None;
     }
     digits.parse().ok()
-}
-
-// What it means that something can't be read.
-fn fault_of(kind: ErrorKind) -> Fault {
-    match kind {
-        ErrorKind::OutOfMemory => Fault::Memory,
-        _ => Fault::Device,
-    }
 }

@@ -10,6 +10,24 @@ use canvas_lines::Fault as LineFault;
 use canvas_shelf::{CreateError, DeviceFailed, RecordError, ShelfError};
 use canvas_store::StoreError;
 use std::alloc::{AllocError, AllocFailed};
+use std::io::{self, ErrorKind};
+
+// The system's numbers for: this process has no descriptor left, and no process has.
+const EMFILE: i32 = 24;
+
+const ENFILE: i32 = 23;
+
+impl From<io::Error> for Fault {
+    fn from(error: io::Error) -> Fault {
+        match error.kind() {
+            ErrorKind::OutOfMemory => Fault::Memory,
+            _ => match error.raw_os_error() {
+                Some(EMFILE | ENFILE) => Fault::NoDescriptor,
+                _ => Fault::Device,
+            },
+        }
+    }
+}
 
 impl From<AllocError> for Fault {
     ghost use Rattle.canvas_faults.specs.declared.fault.Fault.TheVariants.{Memory};
