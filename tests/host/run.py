@@ -34,6 +34,9 @@ own; only the named groups, where some are named.
   where a segment is cut below what was synced, and where one that is passed over isn't a checkpoint cut short. With --accept-loss it opens
   the folder once the segments are copied, and never over an earlier copy; killed then, it does so at the next start. What a crash leaves is
   opened.
+- torn: what crashes left of checkpoints above the segment that recovery takes is removed at a start, before anything is written: so it takes no
+  room that the next checkpoint needs (in a small tmpfs, if one can be mounted). Where the folder has lost something, or its identity isn't one,
+  nothing is. Servers are killed while they do it.
 - gone: a folder whose segments are removed or cut to nothing, while its identity or its sums are there, isn't served, shown, checked, moved or
   restored: status 5, the sentence names what is left, and nothing is written. With --accept-loss it opens as another document. What a crash
   of the first start leaves is opened.
@@ -1033,6 +1036,61 @@ def lost(room):
             f"of 40 kills {cut_short} left no copies, {kept_whole} all")
 
 
+def torn(room):
+    drawn(room, 60)
+    whole, segment = opens(room), highest(room)
+    number, checkpoint = int(segment[8:]), Path(room, highest(room)).read_bytes()
+    parts = {segment_name(number + 1): checkpoint[:-1], segment_name(number + 2): checkpoint[:80], segment_name(number + 2) + ".sum": b"",
+             segment_name(number + 3): b"", segment_name(number) + ".torn": checkpoint}
+    others = {"lost": (segment, bytes([checkpoint[0] ^ 1]) + checkpoint[1:]), "unnamed": ("identity", b"no identity\n")}
+    for name, (file, held) in others.items():
+        other = copied(room, name)
+        put(other, {**parts, file: held})
+        before = files_of(other)
+        call("serve", other, "--port", "0", "--quiet", status=5)
+        require(files_of(other) == before, "a folder that isn't opened is written to")
+    left = copied(room, "left")
+    put(left, parts)
+    names = sorted(name.replace(segment, segment_name(number + 1)) for name in os.listdir(room))
+    require(opens(left) == whole and sorted(os.listdir(left)) == names, "of torn segments are left:", sorted(os.listdir(left)))
+    first = os.path.join(os.path.dirname(room), "first")
+    os.mkdir(first)
+    put(first, {segment_name(1): b"", segment_name(2): checkpoint[:3]})
+    require(opens(first) == "version 0\n0:0 document\n" and highest(first) == segment_name(1), "a first start leaves", os.listdir(first))
+    for _ in range(20):
+        other = copied(room, "left")
+        put(other, parts)
+        killed(("serve", other, "--port", "0", "--quiet"), b"", random.uniform(0, 0.1))
+        require(opens(other) == whole, "what a killed start left isn't opened as it was")
+        require(not any(name.endswith(".torn") for name in os.listdir(other)), "a renamed segment is left", os.listdir(other))
+    return f"removed at a start, 20 kills; {torn_without_room(os.path.dirname(room))}"
+
+
+def put(folder, files):
+    for name, held in files.items():
+        Path(folder, name).write_bytes(held)
+
+
+def torn_without_room(above):
+    """A document of 600 kB on a disk that has room for its next segment only if a torn one is removed."""
+    small = os.path.join(above, "small")
+    os.mkdir(small)
+    if subprocess.run(["mount", "-t", "tmpfs", "-o", "size=2m", "tmpfs", small], capture_output=True).returncode:
+        return "no tmpfs can be mounted here"
+    try:
+        room = os.path.join(small, "room")
+        lines = ["[[0,0],\"document\",null,[]]"]
+        lines += [text_of([[1, n], "page", [[0, 0], f"{n:06d}O"], [["text", "x" * 3000]]]) for n in range(1, 201)]
+        call("import", room, text=("\n".join(lines) + "\n").encode())
+        whole, checkpoint = opens(room), Path(room, highest(room)).read_bytes()
+        put(room, {segment_name(int(highest(room)[8:]) + 1): checkpoint[:-1]})
+        fill(small, len(checkpoint) // 2)
+        require(opens(room) == whole, "what is opened beside a torn segment is another")
+        return "one without whose room there is none for the next"
+    finally:
+        subprocess.run(["umount", "-l", small], check=False)
+
+
 def killed_losses(room, segment):
     """Kills servers that are to accept a loss, at random moments: the next start goes on. How many of 40 left no copies, and all."""
     found, folder = [0, 0], copied(room, "large")
@@ -1332,7 +1390,7 @@ def coming(room):
     return f"{served[0]} clients in {SECONDS:.0f} s, none refused, memory {before} kB after a third, {after} kB at the end"
 
 
-GROUPS = (reuse, full, quiet, pages, origins, identity, kills, figures, sizes, copies, pieces, large, disk, space, sentences, rows, restored, whole, lost, gone, moved, checked, served,
+GROUPS = (reuse, full, quiet, pages, origins, identity, kills, figures, sizes, copies, pieces, large, disk, space, sentences, rows, restored, whole, lost, torn, gone, moved, checked, served,
           memory, coming)
 
 sys.exit(try_groups(GROUPS, NAMES))

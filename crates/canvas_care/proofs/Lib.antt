@@ -8,3 +8,4 @@ pub mod Lines
 mod Checked
 pub mod OneLine
 pub mod RowLines
+mod Needless

@@ -10,3 +10,4 @@ pub mod Checks
 pub mod Logs
 pub mod Losing
 pub mod LossLines
+pub mod Torn

@@ -67,8 +67,8 @@ pub fn find_loss<S: Shelf, N: SumSource>(
     Ok(loss_of(&listed, taken_number(&taken), &checkpoint, trace))
 }
 
-// The number of the segment that is taken, if one is.
-fn taken_number(taken: &Option<Taken>) -> Option<u32>
+/// The number of the segment that is taken, if one is.
+pub(crate) fn taken_number(taken: &Option<Taken>) -> Option<u32>
     ensures { result ≡ number_of (source_of taken.now) }
 {
     match taken {

@@ -14,7 +14,7 @@ use canvas_folder::{DirShelf, Folder, OsFolder, Removed, Space};
 use canvas_identity::read_identity;
 use canvas_journal::{Journal, Keeper, open};
 use canvas_meter::{Meter, Metered};
-use canvas_places::{FolderShelf, guard, with_refusal};
+use canvas_places::{FolderShelf, guard, remove_torn, set_torn_aside, with_refusal};
 use canvas_room::{BlankRoom, Lock, Room, RoomError, Seat, blank_room};
 use canvas_shelf::Shelf;
 use canvas_watch::{Notes, SumFiles, Watched};
@@ -70,7 +70,8 @@ pub(crate) struct OpenFolder {
 }
 
 /// Opens the room of a folder's document, with this number of seats. The folder is made where it is missing, and locked. If opening it would lose
-/// something, nothing is opened, unless that is accepted; nor if its identity isn't one, or the disk has no room for another segment.
+/// something, nothing is opened, unless that is accepted; nor if its identity isn't one, or the disk has no room for another segment. What crashes
+/// left of checkpoints is removed first.
 pub(crate) fn open_room(
     files: HostRuntime,
     dir: &str,
@@ -80,6 +81,9 @@ pub(crate) fn open_room(
     ensures seats { IfOk result (λ folder. folder.opened.room.seats ≡ seats) }
     ensures faults { IfErr result (IsOpeningFault seats) }
 {
+    if let Err(fault) = set_torn_aside(&files, dir) {
+        return Err(fault);
+    }
     let mut folder = OsFolder::new(files, dir)?;
     let space = folder.keep_space()?;
     let shelf = DirShelf::open(files.alloc(), folder)?;
@@ -119,6 +123,7 @@ fn open_locked<F: Folder + Drop>(
     }
     // Nothing is written to a folder whose identity can't be read.
     read_identity(&files, path)?;
+    remove_torn(&files, path);
     let shelf = Watched::new(files.alloc(), shelf, SumFiles::new(files, path)?)?;
     let notes = shelf.notes().share()?;
     room_of(files, FolderShelf::new(files.alloc(), shelf)?, notes, seats)

@@ -8,6 +8,7 @@ mod losing;
 mod refused;
 mod shelf;
 mod tasks;
+mod torn;
 
 pub use copies::Copies;
 pub use leasing::{KeptLease, LEASE_SECONDS, Term};
@@ -15,3 +16,4 @@ pub use losing::{guard, keep_all};
 pub use refused::{Refused, with_refusal};
 pub use shelf::{DocumentShelf, FolderShelf, NoWitness};
 pub use tasks::{Task, begin_task};
+pub use torn::{remove_torn, set_torn_aside};

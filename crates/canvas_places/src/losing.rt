@@ -53,8 +53,8 @@ fn loss_in<S: Shelf>(files: &HostRuntime, dir: &str, shelf: &mut S) -> Result<Op
     }
 }
 
-// What is left of a document beside the segments of a folder, if anything is.
-fn trace_of(files: &HostRuntime, dir: &str) -> Result<Option<Trace>, Fault>
+/// What is left of a document beside the segments of a folder, if anything is.
+pub(crate) fn trace_of(files: &HostRuntime, dir: &str) -> Result<Option<Trace>, Fault>
     ensures { IfErr result IsLossFault }
 {
     match trace_in(files, dir) {
@@ -63,8 +63,8 @@ fn trace_of(files: &HostRuntime, dir: &str) -> Result<Option<Trace>, Fault>
     }
 }
 
-// What a fault of looking at a folder is to a server of it: whatever only a command tells is a folder that can't be read.
-fn fault_of_looking(fault: Fault) -> Fault
+/// What a fault of looking at a folder is to a server of it: whatever only a command tells is a folder that can't be read.
+pub(crate) fn fault_of_looking(fault: Fault) -> Fault
     ensures fault { result ≡ fault_of_looking fault }
     ensures loss { IsLossFault result }
 {
