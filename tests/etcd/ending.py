@@ -322,6 +322,8 @@ def gone(room):
         try:
             done = subprocess.run([PROGRAM, *command, *etcd.words()], input=ROOT, capture_output=True, text=True, timeout=20)
             ends.append((command[0], done.returncode, done.stderr.strip()))
+            if etcd.keys(f"lugcurrant/{NAME}/owner"):
+                ends.append((*ends.pop(), "and keeps its document"))
         except subprocess.TimeoutExpired as error:
             ends.append((command[0], None, (error.stderr or b"").decode().strip()))
             etcd.await_free()
@@ -330,9 +332,9 @@ def gone(room):
             ends.append((*ends.pop(), "and has written", etcd.keys("lugcurrant/")))
             etcd.ctl("del", "--prefix", f"lugcurrant/{NAME}/segment/")
     require(not os.path.exists(back), "a document that has gone is moved back")
-    wrong = [end for end in ends if end[1] != 5 or told(NAME, "holds damaged or foreign keys") not in end[2]]
+    wrong = [end for end in ends if end[1] != 5 or told(NAME, "holds damaged or foreign keys") not in end[2] or len(end) > 3]
     require(not wrong, "a document that has gone:", *wrong)
-    return f"{len(ends)} commands report it with status 5, and write nothing"
+    return f"{len(ends)} commands report it with status 5, write nothing, and leave nothing behind"
 
 
 def patience(room):

@@ -11,7 +11,7 @@ use canvas_gateway::copy_hosts;
 use canvas_identity::{Address, identity_in, made_identity};
 use canvas_places::{DocumentShelf, KeptLease, LEASE_SECONDS, NoWitness, Term};
 use canvas_shelf::Shelf;
-use canvas_store::{Causes, EtcdStore, Lease};
+use canvas_store::{Causes, EtcdStore, Lease, StoreError};
 use canvas_watch::Watched;
 use canvas_words::Serving;
 use std::alloc::Global;
@@ -117,12 +117,18 @@ where
     let alloc = files.alloc();
     let store = store_of(rt, alloc, address)?;
     let causes = store.causes()?;
+    let mut own = store.lease()?;
     let term = Term::new(rt);
     let shelf = match EtcdShelf::open(alloc, store) {
         Ok(shelf) => shelf,
-        Err(error) => return Err(fault_of_etcd(error, causes.last())),
+        Err(error) => {
+            if matches!(causes.last(), Some(StoreError::Damaged)) {
+                // No server must wait for the end of a lease under which nothing can be opened.
+                let _ = own.release();
+            }
+            return Err(fault_of_etcd(error, causes.last()));
+        }
     };
-    let mut own = shelf.store().lease()?;
     let lease = KeptLease::new(rt, term, own.another()?)?;
     match open_owned(files, shelf, &mut own, &causes, seats) {
         Ok((opened, identity)) => Ok((opened, identity, Tenure { lease, causes })),

@@ -5,7 +5,7 @@ use canvas_gateway::copy_hosts;
 use canvas_identity::Address;
 use canvas_places::{KeptLease, LEASE_SECONDS, Term};
 use canvas_shelf::Shelf;
-use canvas_store::{Causes, EtcdStore, Lease};
+use canvas_store::{Causes, EtcdStore, Lease, StoreError};
 use std::alloc::AllocError;
 use std::net::{Net, TcpListener, TcpStream};
 use std::random::RandomSource;
@@ -94,12 +94,18 @@ where
 {
     let store = store_of(net, address)?;
     let causes = store.causes()?;
+    let lease = store.lease()?;
     let term = Term::new(net);
     let shelf = match EtcdShelf::open(net.alloc(), store) {
         Ok(shelf) => shelf,
-        Err(error) => return Err(fault_of_etcd(error, causes.last())),
+        Err(error) => {
+            if matches!(causes.last(), Some(StoreError::Damaged)) {
+                // No server must wait for the end of a lease under which nothing can be opened.
+                let _ = lease.release();
+            }
+            return Err(fault_of_etcd(error, causes.last()));
+        }
     };
-    let lease = shelf.store().lease()?;
     let kept = KeptLease::new(net, term, lease.another()?)?;
     Ok(Held {
         shelf,
