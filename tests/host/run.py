@@ -26,6 +26,8 @@ own; only the named groups, where some are named.
   the folder as it was; so where the segment itself can't be written. Once the bytes are free it serves. While it runs edits go on, a
   checkpoint that has no room is told once and counted, and tried again after as many entries more; so where no open file is left. (As disk.)
 - sentences: each fault that can be had has its sentence and its status.
+- rights: a folder without rights, and one below a folder without rights, are told by a sentence each and status 8. (As root alone: it starts servers as
+  nobody.)
 - rows: what `show --json` and `show --lines` write is imported to the same document; a folder that holds anything of a document isn't imported
   to; of rows that make no document the line is told, and why.
 - restored: a backup's folder is restored with another identity, with which clients of the old document aren't served; one that has lost
@@ -829,6 +831,27 @@ def drawn(room, edits):
     return known
 
 
+def rights(room):
+    if os.geteuid() != 0:
+        return "not tried: only root can start a server as nobody"
+    above = os.path.dirname(room)
+    program = shutil.copy(PROGRAM, above)
+
+    def fault(sentence, *words):
+        done = subprocess.run([program, *words], capture_output=True, text=True, timeout=60, user=65534, group=65534, extra_groups=[])
+        require(done.returncode == 8 and sentence in done.stderr, words, "end with", done.returncode, done.stderr)
+
+    os.chmod(above, 0o755)
+    closed, below = os.path.join(above, "closed"), os.path.join(above, "closed", "room")
+    os.makedirs(below, mode=0o777)
+    os.chmod(below, 0o777)
+    os.chmod(closed, 0o700)
+    fault(f"the folder {closed} can't be read and written: look at its rights", "serve", closed, "--port", "0")
+    fault(f"the folder {below} can't be reached: look at the rights of the folders above it", "serve", below, "--port", "0")
+    require(not os.listdir(below), "a folder that can't be reached is written to")
+    return "the folder's own, and those above it"
+
+
 ROOT = b'[[0,0],"document",null,[]]\n'
 
 
@@ -1390,7 +1413,7 @@ def coming(room):
     return f"{served[0]} clients in {SECONDS:.0f} s, none refused, memory {before} kB after a third, {after} kB at the end"
 
 
-GROUPS = (reuse, full, quiet, pages, origins, identity, kills, figures, sizes, copies, pieces, large, disk, space, sentences, rows, restored, whole, lost, torn, gone, moved, checked, served,
+GROUPS = (reuse, full, quiet, pages, origins, identity, kills, figures, sizes, copies, pieces, large, disk, space, sentences, rights, rows, restored, whole, lost, torn, gone, moved, checked, served,
           memory, coming)
 
 sys.exit(try_groups(GROUPS, NAMES))
