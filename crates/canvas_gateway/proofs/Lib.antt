@@ -1,8 +1,8 @@
 pub mod AnswerLemmas
 pub mod BodyLemmas
 pub mod ChangeLemmas
-pub mod Decimals
 pub mod FieldLemmas
 pub mod HostLemmas
+pub mod KeyLemmas
 pub mod OwnerLemmas
 pub mod PostLemmas

@@ -1,10 +1,9 @@
 -- The values of owners' keys are told apart.
-use Rattle.std.proofs.Common.{◌≡◌, ◌<◌, ℕ, ◌+◌, ◌-◌, ◌*◌, ◌/◌, ◌%◌, ◌^◌, List, [], ◌∷◌, ◌++◌, codes, decimal, refl, sym, ◌∙◌, ap, arith, append_assoc, length, false}
+use Rattle.std.proofs.Common.{◌≡◌, ◌<◌, ℕ, ◌+◌, ◌%◌, ◌^◌, List, [], ◌∷◌, ◌++◌, codes, decimal, refl, sym, ◌∙◌, ap, arith, append_assoc, length, false}
 use Rattle.std.specs.Prelude.{◌==◌, if◌then◌else◌}
 use Rattle.std.proofs.lemmas.Bool.{ne_eqb}
-use Rattle.std.proofs.lemmas.Fmt.{decimal_by_steps}
-use Rattle.canvas_gateway.proofs.Decimals.{backs, read_append}
-use Rattle.canvas_gateway.specs.Numbers.{read_on}
+use Rattle.std.proofs.lemmas.Fmt.{decimal_by_steps, decimal_injective}
+use Rattle.canvas_gateway.proofs.KeyLemmas.{backs}
 use Rattle.canvas_gateway.specs.Owners.{EachValueIsOneTurn, owner_value}
 
 -- what stands before the first space
@@ -25,18 +24,11 @@ decimal_has_no_space : (n : ℕ) → n < 2 ^ 64 → HasNoSpace (decimal n)
 decimal_has_no_space n small =
     decimal_by_steps (λ _ ds. HasNoSpace ds) (λ n one. (omega arith, tt)) (λ n ds more h. no_space_append ds (48 + n % 10) h (omega arith)) n small
 
-decimal_reads : (n : ℕ) → n < 2 ^ 64 → read_on 0 (decimal n) ≡ n
-decimal_reads n small =
-    decimal_by_steps (λ n ds. read_on 0 ds ≡ n) (λ n one. omega arith) (λ n ds more h. read_append 0 ds (48 + n % 10) ∙ omega (arith, h)) n small
-
 before_is : (xs rest : List ℕ) → HasNoSpace xs → before_space (xs ++ 32 ∷ rest) ≡ xs
 unfolding before_space
 before_is [] rest h = refl
 before_is (x ∷ xs) rest h =
     let other : (x == 32) ≡ false = ne_eqb x 32 (omega (arith, h.0)) in rw other (ap (λ (t : List ℕ). x ∷ t) (before_is xs rest h.1))
-
-one_decimal : (n m : ℕ) → n < 2 ^ 64 → m < 2 ^ 64 → decimal n ≡ decimal m → n ≡ m
-one_decimal n m n_small m_small e = sym (decimal_reads n n_small) ∙ ap (read_on 0) e ∙ decimal_reads m m_small
 
 pub every_value : EachValueIsOneTurn
 every_value l n m k l_small n_small m_small k_small e =
@@ -46,4 +38,4 @@ every_value l n m k l_small n_small m_small k_small e =
     sym (before_is (decimal l) (decimal n) (decimal_has_no_space l l_small)) ∙ ap before_space regrouped ∙ before_is (decimal m) (decimal k) (decimal_has_no_space m m_small) in
     let rests = backs (decimal l) (codes " " ++ decimal n) (decimal m) (codes " " ++ decimal k) (ap length leases) regrouped in
     let numbers = backs (codes " ") (decimal n) (codes " ") (decimal k) refl rests in
-    (one_decimal l m l_small m_small leases, one_decimal n k n_small k_small numbers)
+    (decimal_injective l m l_small m_small leases, decimal_injective n k n_small k_small numbers)

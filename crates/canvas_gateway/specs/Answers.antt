@@ -6,7 +6,7 @@ use Rattle.base64.specs.GeneralPurpose.{decode_of}
 use Rattle.serde_json.specs.Data as D
 use Rattle.serde_json.specs.Data.{Data, null, boolean, string, array, object, Items, no_items, item}
 use Rattle.serde_json.specs.Find.{get, as_bool, as_str, as_array, as_u64}
-use Rattle.canvas_gateway.specs.Numbers.{whole_of}
+use Rattle.canvas_decimals.specs.Decimals.{whole_of}
 use Rattle.canvas_gateway.specs.declared.answers.Committed.{Committed}
 use Rattle.canvas_gateway.specs.declared.answers.Lease.{Lease}
 use Rattle.canvas_gateway.specs.declared.answers.Refusal.{Refusal}

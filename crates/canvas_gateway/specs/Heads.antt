@@ -3,7 +3,7 @@ use Rattle.std.specs.Prelude.{◌≡◌, ℕ, ◌<◌, ◌≤◌, Bool, List, []
 use Rattle.std.specs.Str.{str_eq_ignore_ascii_case}
 use Rattle.httparse.specs.Grammar.{ResponseHead, ReadsResponse, print_response, status_code}
 use Rattle.httparse.specs.Spans.{header_bytes, name_and_value}
-use Rattle.canvas_gateway.specs.Numbers.{whole_of}
+use Rattle.canvas_decimals.specs.Decimals.{whole_of}
 use Rattle.canvas_gateway.specs.declared.fields.Fields as declared
 use Rattle.canvas_gateway.specs.declared.fields.Values as values
 use Rattle.canvas_gateway.specs.declared.fields.Values.TheVariants.{Nothing, One, Several}

@@ -1,16 +1,8 @@
 -- The keys of a document in the store.
-use Rattle.std.specs.Prelude.{◌≡◌, ℕ, zero, suc, ◌+◌, ◌/◌, ◌%◌, ◌^◌, ◌<◌, Bool, not, ◌&&◌, ◌||◌, ◌==◌, nat_eq, nat_lt, nat_le, List, [], ◌∷◌, ◌++◌, length, codes}
+use Rattle.std.specs.Prelude.{◌≡◌, ℕ, ◌^◌, ◌<◌, Bool, not, ◌&&◌, ◌||◌, ◌==◌, nat_eq, nat_lt, nat_le, List, ◌++◌, length, codes}
 use Rattle.std.specs.List.{list_all, starts_with}
 use Rattle.std.specs.Char.{is_ascii_alphanumeric}
-
--- the last so many decimal digits of a number, the highest first
-abbrev pub digits : ℕ → ℕ → List ℕ
-digits zero n = []
-digits (suc count) n = digits count (n / 10) ++ (48 + n % 10) ∷ []
-
--- the last ten decimal digits of a number
-unfoldable pub ten_digits : ℕ → List ℕ
-ten_digits n = digits 10 n
+use Rattle.canvas_decimals.specs.Decimals.{ten_digits}
 
 -- a letter, a digit, `-`, `.` or `_`
 abbrev pub is_name_byte : ℕ → Bool

@@ -4,7 +4,6 @@ pub mod Faults
 pub mod Heads
 pub mod Hosts
 pub mod Keys
-pub mod Numbers
 pub mod Owners
 pub mod Posts
 pub mod Trees

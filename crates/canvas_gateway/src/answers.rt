@@ -8,9 +8,9 @@ ghost use Rattle.canvas_gateway.specs.Answers.{bytes_at, bytes_in, committed_in,
 ghost use Rattle.canvas_gateway.specs.Faults.{IsAnswerError, IsJson, IsNotJson, IsUnread, Spells};
 
 use crate::error::GatewayError;
-use crate::numbers::whole_of;
 use base64::DecodeAllocError;
 use base64::engine::general_purpose::STANDARD;
+use canvas_decimals::whole_of;
 use serde_json::Value as Json;
 use std::alloc::Global;
 

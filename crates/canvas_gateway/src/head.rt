@@ -6,7 +6,7 @@ ghost use Rattle.canvas_gateway.specs.Heads.{Begins, framing_of, head_of, seen_f
 
 use crate::error::GatewayError;
 use crate::fields::{Fields, Values, is_same_word};
-use crate::numbers::whole_of;
+use canvas_decimals::whole_of;
 use httparse::Status as Parsed;
 use httparse::spans::{EMPTY_HEADER_SPAN, parse_response};
 

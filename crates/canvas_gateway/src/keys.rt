@@ -1,9 +1,10 @@
 // The keys of a document in the store.
-ghost use Rattle.std.specs.Prelude.{◌≡◌, ◌≢◌, ◌+◌, ◌%◌, ◌^◌, ◌<◌, ◌≤◌, ◌++◌, ℕ, [], List, codes, length, IfOk, IfSome, IfNone};
+ghost use Rattle.std.specs.Prelude.{◌≡◌, ◌≢◌, ◌^◌, ◌<◌, ◌++◌, ℕ, [], List, codes, length, IfOk, IfSome, IfNone};
 ghost use Rattle.std.specs.List.{fold, list_all};
-ghost use Rattle.canvas_gateway.specs.Keys.{EachKeyIsOneChunk, chunk_key, end_key, first_behind, first_below, identity_key, is_name, is_name_byte, owner_key, segment_key, segments_key, ten_digits};
+ghost use Rattle.canvas_gateway.specs.Keys.{EachKeyIsOneChunk, chunk_key, end_key, first_behind, first_below, identity_key, is_name, is_name_byte, owner_key, segment_key, segments_key};
+ghost use Rattle.canvas_decimals.specs.Decimals.{ten_digits};
 
-use crate::numbers::value_of;
+use canvas_decimals::{read_ten_digits, ten_digits};
 use std::alloc::{AllocError, Global};
 
 // What all keys begin with.
@@ -194,7 +195,7 @@ pub fn place_in(digits: &[u8]) -> Option<Place>
     let (segment, rest) = digits.split_at(10);
     let chunk = rest.strip_prefix(b"/")?;
     let segment = segment_of(segment)?;
-    let chunk = number_of(chunk)?;
+    let chunk = read_ten_digits(chunk)?;
     Some(Place { segment, chunk })
 }
 
@@ -209,68 +210,16 @@ fn behind_segments<'a>(name: &[u8], key: &'a [u8]) -> Option<&'a [u8]>
     Some(rest)
 }
 
-// The last decimal digit of a number.
-fn last_digit(number: u64) -> u8
-    ensures { result ≡ 48 + number % 10 }
-{
-    b'0' + (number % 10) as u8
-}
-
-// The last ten decimal digits of a number.
-fn ten_digits(number: u64) -> [u8; 10]
-    ensures { result ≡ ten_digits number }
-{
-    let n9 = number;
-    let n8 = n9 / 10;
-    let n7 = n8 / 10;
-    let n6 = n7 / 10;
-    let n5 = n6 / 10;
-    let n4 = n5 / 10;
-    let n3 = n4 / 10;
-    let n2 = n3 / 10;
-    let n1 = n2 / 10;
-    let n0 = n1 / 10;
-    [
-        last_digit(n0),
-        last_digit(n1),
-        last_digit(n2),
-        last_digit(n3),
-        last_digit(n4),
-        last_digit(n5),
-        last_digit(n6),
-        last_digit(n7),
-        last_digit(n8),
-        last_digit(n9),
-    ]
-}
-
 // The number of 32 bits whose ten digits these bytes are.
 fn segment_of(text: &[u8]) -> Option<u32>
     ensures some { IfSome result (λ number. text.now ≡ ten_digits number) }
     ensures none { IfNone result ((number : ℕ) → number < 2 ^ 32 → text.now ≢ ten_digits number) }
 {
-    let number = number_of(text)?;
+    let number = read_ten_digits(text)?;
     if number > 4294967295 {
         return None;
     }
     Some(number as u32)
-}
-
-// The number whose ten digits these bytes are.
-fn number_of(text: &[u8]) -> Option<u64>
-    ensures some { IfSome result (λ number. text.now ≡ ten_digits number) }
-    ensures small { IfSome result (λ number. number < 10 ^ 10) }
-    ensures none { IfNone result ((number : ℕ) → number < 10 ^ 10 → text.now ≢ ten_digits number) }
-{
-    let number = value_of(text)?;
-    if number > 9999999999 {
-        return None;
-    }
-    if ten_digits(number).as_slice() == text {
-        Some(number)
-    } else {
-        None
-    }
 }
 
 /// A law: different chunks of a document have different keys, while their numbers are below 10000000000.

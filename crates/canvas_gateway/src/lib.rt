@@ -9,7 +9,6 @@ mod fields;
 mod head;
 mod host;
 mod keys;
-mod numbers;
 mod owner;
 mod posts;
 mod reader;

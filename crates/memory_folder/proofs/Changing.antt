@@ -1,14 +1,13 @@
 -- Files in memory, one of which is found by its name and changed.
 use Rattle.std.proofs.Common.{◌≡◌, ◌<◌, ◌≤◌, ◌+◌, inl, inr, ℕ, zero, suc, Bool, true, false, List, [], ◌∷◌, ◌++◌, length, get_or, set, take, map, refl, sym, ◌∙◌, ap, subst, arith}
 use Rattle.std.specs.Prelude.{nat_eq, if◌then◌else◌}
-use Rattle.std.specs.Cmp.Lexicographic.{pointwise}
+use Rattle.std.specs.Cmp.Lexicographic.{other_text, pointwise, same_text}
 use Rattle.std.specs.List.{AllByRecursion}
 use Rattle.std.proofs.lemmas.List.{take_all}
 use Rattle.std.proofs.lemmas.Bool.{cases_Bool, cases_lt, true≢false}
 use Rattle.canvas_folder.specs.Names.{same}
 use Rattle.canvas_folder.specs.Files.{File, stands, bytes_at, changed, made_in, fresh, remade, as_sure}
 use Rattle.canvas_folder.specs.Sound.{same_is, same_self}
-use Rattle.canvas_folder.proofs.Numbers.{pointwise_is, pointwise_self}
 use Rattle.memory_folder.specs.Held.{file_of, held_files}
 use Rattle.memory_folder.specs.declared.held.Held.{Held}
 
@@ -17,11 +16,11 @@ abbrev pub Misses : List Held → List ℕ → ℕ → Type 0
 Misses fs N i = (k : ℕ) (d : Held) → k < i → same (get_or fs k d).name.items N ≡ false
 
 pub same_true : (a b : List ℕ) → true ≡ pointwise nat_eq a b → same a b ≡ true
-same_true a b is = ap (same a) (sym (pointwise_is a b (sym is))) ∙ same_self a
+same_true a b is = ap (same a) (sym (same_text a b is)) ∙ same_self a
 
 pub same_false : (a b : List ℕ) → false ≡ pointwise nat_eq a b → same a b ≡ false
 same_false a b is = elim (cases_Bool (same a b)) [
-  | inl e ↦ absurd (true≢false (sym (pointwise_self a) ∙ ap (pointwise nat_eq a) (same_is a b e) ∙ sym is))
+  | inl e ↦ absurd (other_text a b is (same_is a b e))
   | inr e ↦ e
 ]
 

@@ -1,5 +1,5 @@
 use Rattle.std.proofs.Common.{codes}
-use Rattle.canvas_gateway.proofs.Decimals.{front}
+use Rattle.canvas_gateway.proofs.KeyLemmas.{front}
 use Rattle.canvas_gateway.proofs.HostLemmas.{stands}
 use Rattle.canvas_gateway.proofs.host.host_in.Goals as goal
 

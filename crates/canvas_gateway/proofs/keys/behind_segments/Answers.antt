@@ -1,5 +1,5 @@
 use Rattle.std.proofs.Common.{codes}
-use Rattle.canvas_gateway.proofs.Decimals.{behind, front, no_front, unbehind, unnamed}
+use Rattle.canvas_gateway.proofs.KeyLemmas.{behind, front, no_front, unbehind, unnamed}
 use Rattle.canvas_gateway.proofs.keys.behind_segments.Goals as goal
 
 pub returns-in_err-behind-clause-none : goal.returns-in_err-behind-clause-none

@@ -1,4 +1,4 @@
-use Rattle.canvas_gateway.proofs.Decimals.{every_key}
+use Rattle.canvas_gateway.proofs.KeyLemmas.{every_key}
 use Rattle.canvas_gateway.proofs.keys.every_chunk_key.Goals as goal
 
 pub returns : goal.returns

@@ -1,6 +1,6 @@
 use Rattle.std.proofs.Common.{sym, ◌∙◌, codes, refl}
-use Rattle.canvas_gateway.specs.Keys.{ten_digits}
-use Rattle.canvas_gateway.proofs.Decimals.{backs, front, no_front, place_long, place_segment, place_chunk}
+use Rattle.canvas_decimals.specs.Decimals.{ten_digits}
+use Rattle.canvas_gateway.proofs.KeyLemmas.{backs, front, no_front, place_long, place_segment, place_chunk}
 use Rattle.canvas_gateway.proofs.keys.place_in.Goals as goal
 
 pub returns-then-digits-ne21-clause-none : goal.returns-then-digits-ne21-clause-none

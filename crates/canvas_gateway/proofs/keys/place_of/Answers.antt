@@ -1,6 +1,7 @@
 use Rattle.std.proofs.Common.{◌∙◌, sym, ap, codes, ◌++◌, List, ℕ}
+use Rattle.std.proofs.lemmas.Option.{IfSome_then}
 use Rattle.canvas_gateway.specs.Keys.{segments_key}
-use Rattle.canvas_gateway.proofs.Decimals.{key_parts, key_rest, weaker_none, weaker_some}
+use Rattle.canvas_gateway.proofs.KeyLemmas.{key_parts, key_rest, weaker_none}
 use Rattle.canvas_gateway.proofs.keys.place_of.Goals as goal
 
 pub returns-in_err-digits-clause-none : goal.returns-in_err-digits-clause-none
@@ -8,9 +9,8 @@ returns-in_err-digits-clause-none c = rw c.from_residual.ensures (λ s o s_less 
 
 pub returns-clause-some : goal.returns-clause-some
 returns-clause-some c =
-    weaker_some c.place_in.result _ _
+    IfSome_then c.place_in.result c.place_in.ensures.some
     (λ place h. c.in_ok-digits.ensures.some ∙ ap (λ (t : List ℕ). segments_key c.args.name.now ++ codes "/" ++ t) h ∙ sym (key_parts c.args.name.now place.segment place.chunk))
-    c.place_in.ensures.some
 
 pub returns-clause-none : goal.returns-clause-none
 returns-clause-none c =

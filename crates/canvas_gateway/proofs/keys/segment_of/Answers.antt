@@ -1,5 +1,5 @@
 use Rattle.std.proofs.Common.{sym, ◌∙◌, arith}
-use Rattle.canvas_gateway.proofs.Decimals.{ten_one}
+use Rattle.canvas_decimals.proofs.Decimals.{ten_one}
 use Rattle.canvas_gateway.proofs.keys.segment_of.Goals as goal
 
 pub returns-then-number-gt4294967295-clause-none : goal.returns-then-number-gt4294967295-clause-none

@@ -1,7 +1,16 @@
 -- Numbers in decimal digits.
-use Rattle.std.specs.Prelude.{ℕ, ◌+◌, ◌-◌, ◌*◌, ◌^◌, Bool, ◌&&◌, nat_lt, List, [], ◌∷◌, length, Option, Some, None, if◌then◌else◌}
+use Rattle.std.specs.Prelude.{ℕ, zero, suc, ◌+◌, ◌-◌, ◌*◌, ◌/◌, ◌%◌, ◌^◌, Bool, ◌&&◌, nat_lt, List, [], ◌∷◌, ◌++◌, length, Option, Some, None, if◌then◌else◌}
 use Rattle.std.specs.List.{list_all}
 use Rattle.std.specs.Char.{is_ascii_digit}
+
+-- the last so many decimal digits of a number, the highest first
+abbrev pub digits : ℕ → ℕ → List ℕ
+digits zero n = []
+digits (suc count) n = digits count (n / 10) ++ (48 + n % 10) ∷ []
+
+-- the last ten decimal digits of a number
+unfoldable pub ten_digits : ℕ → List ℕ
+ten_digits n = digits 10 n
 
 -- the number that digits stand for, behind others that stand for this one
 abbrev pub read_on : ℕ → List ℕ → ℕ

@@ -1,6 +1,6 @@
 use Rattle.std.proofs.Common.{sym, ◌∙◌}
-use Rattle.canvas_gateway.proofs.Decimals.{not_whole, whole_is}
-use Rattle.canvas_gateway.proofs.numbers.whole_of.Goals as goal
+use Rattle.canvas_decimals.proofs.Wholes.{not_whole, whole_is}
+use Rattle.canvas_decimals.proofs.whole_of.Goals as goal
 
 pub returns-then-are_digits : goal.returns-then-are_digits
 returns-then-are_digits c =

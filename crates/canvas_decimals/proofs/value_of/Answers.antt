@@ -1,6 +1,6 @@
 use Rattle.std.proofs.Common.{arith}
-use Rattle.canvas_gateway.proofs.Decimals.{steps}
-use Rattle.canvas_gateway.proofs.numbers.value_of.Goals as goal
+use Rattle.canvas_decimals.proofs.Wholes.{steps}
+use Rattle.canvas_decimals.proofs.value_of.Goals as goal
 
 pub returns-then-number-gt922337203685477580-clause-none : goal.returns-then-number-gt922337203685477580-clause-none
 returns-then-number-gt922337203685477580-clause-none c =

@@ -1,6 +1,6 @@
 use Rattle.std.proofs.Common.{refl}
-use Rattle.canvas_gateway.specs.Keys.{ten_digits}
-use Rattle.canvas_gateway.proofs.keys.ten_digits.Goals as goal
+use Rattle.canvas_decimals.specs.Decimals.{ten_digits}
+use Rattle.canvas_decimals.proofs.ten_digits.Goals as goal
 
 pub returns : goal.returns
 unfolding ten_digits

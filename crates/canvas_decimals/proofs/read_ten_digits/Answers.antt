@@ -1,11 +1,8 @@
 use Rattle.std.proofs.Common.{◌∙◌, sym, ap, arith}
-use Rattle.std.specs.Prelude.{nat_eq}
-use Rattle.std.specs.Cmp.Lexicographic.{pointwise}
-use Rattle.std.proofs.lemmas.Bool.{true≢false}
-use Rattle.canvas_gateway.specs.Numbers.{read_on}
-use Rattle.canvas_gateway.specs.Keys.{ten_digits}
-use Rattle.canvas_gateway.proofs.Decimals.{pointwise_is, pointwise_self, read_ten}
-use Rattle.canvas_gateway.proofs.keys.number_of.Goals as goal
+use Rattle.std.specs.Cmp.Lexicographic.{other_text, same_text}
+use Rattle.canvas_decimals.specs.Decimals.{read_on, ten_digits}
+use Rattle.canvas_decimals.proofs.Decimals.{read_ten}
+use Rattle.canvas_decimals.proofs.read_ten_digits.Goals as goal
 
 pub returns-in_err-number-clause-none : goal.returns-in_err-number-clause-none
 returns-in_err-number-clause-none c = rw c.from_residual.ensures (λ number less e.
@@ -16,9 +13,9 @@ returns-then-number-gt9999999999-clause-none c = λ number less e.
     (let is = c.in_ok-number.ensures.some ∙ ap (read_on 0) e ∙ read_ten number less in omega (arith, is, c.if-number-gt9999999999.true))
 
 pub returns-then-eq-clause-some : goal.returns-then-eq-clause-some
-returns-then-eq-clause-some c = sym (pointwise_is _ _ (sym c.if-eq.ensures)) ∙ c.as_slice.ensures ∙ c.ten_digits.ensures
+returns-then-eq-clause-some c = sym (same_text _ _ c.if-eq.ensures) ∙ c.as_slice.ensures ∙ c.ten_digits.ensures
 
 pub returns-else-eq-clause-none : goal.returns-else-eq-clause-none
 returns-else-eq-clause-none c = λ number less e.
     (let is = c.in_ok-number.ensures.some ∙ ap (read_on 0) e ∙ read_ten number (omega arith) in
-    true≢false (sym (ap (λ l. pointwise nat_eq l c.args.text.now) (c.as_slice.ensures ∙ c.ten_digits.ensures ∙ ap ten_digits is ∙ sym e) ∙ pointwise_self c.args.text.now) ∙ sym c.if-eq.ensures))
+    other_text _ _ c.if-eq.ensures (c.as_slice.ensures ∙ c.ten_digits.ensures ∙ ap ten_digits is ∙ sym e))

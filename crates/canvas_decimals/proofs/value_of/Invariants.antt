@@ -1,6 +1,6 @@
 use Rattle.std.proofs.Common.{◌≡◌, ◌≤◌, drop}
-use Rattle.canvas_gateway.specs.Numbers.{read_on}
-use Rattle.canvas_gateway.proofs.numbers.value_of.Given as goal
+use Rattle.canvas_decimals.specs.Decimals.{read_on}
+use Rattle.canvas_decimals.proofs.value_of.Given as goal
 
 abbrev pub invariant-loop-b : goal.invariant-loop-b
 invariant-loop-b l = record {

@@ -1,0 +1,4 @@
+-- Meant for the crates above too.
+pub mod Decimals
+-- For the calls of this crate alone.
+mod Wholes
