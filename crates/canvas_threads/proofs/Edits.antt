@@ -1,14 +1,11 @@
 -- What is known of the objects of edits.
-use Rattle.std.proofs.Common.{◌≡◌, ℕ, zero, suc, ◌≤◌, ◌<◌, List, [], ◌∷◌, refl, sym, arith}
-use mathlib.Core.Logic.{inl, inr}
+use Rattle.std.proofs.Common.{◌≡◌, ℕ, zero, suc, ◌<◌, List, [], ◌∷◌, refl, sym, arith}
 use Rattle.std.specs.Prelude.{Bool, true, false, ◌||◌, Some}
 use Rattle.std.specs.List.{list_any}
 use Rattle.canvas_model.specs.declared.ObjId.{ObjId}
 use Rattle.canvas_model.specs.Change.{Change, object_of}
-use Rattle.canvas_model.specs.State.{State, used}
 use Rattle.canvas_model.specs.Numbered.{nth}
 use Rattle.canvas_model.specs.View.{is_about}
-use Rattle.canvas_model.specs.Good.{IsKnown}
 use Rattle.canvas_model.proofs.Ids.{same_id_true}
 
 -- one of the changes, by its number, which is about the object
@@ -27,9 +24,3 @@ find_about q (change ∷ changes) h = by (is_about q change) refl h (λ later. f
     by : (b : Bool) → is_about q change ≡ b → (b || list_any (is_about q) changes) ≡ true → (list_any (is_about q) changes ≡ true → IsAboutAt q changes) → IsAboutAt q (change ∷ changes)
     by true is h later = (1, change, omega arith, refl, sym (same_id_true q (object_of change) is))
     by false is h later = behind q change changes (later h)
-
--- what is known stays known where more counters are used
-pub known_moves : (s t : State) (edits : List Change) (i : ℕ) (id : ObjId) → ((c : ℕ) → used s c ≤ used t c) → IsKnown s edits i id → IsKnown t edits i id
-known_moves s t edits i id more (inl h) = inl h
-known_moves s t edits i id more (inr (inl h)) = inr (inl (omega (arith, h, more id.client)))
-known_moves s t edits i id more (inr (inr h)) = inr (inr h)

@@ -1,14 +1,12 @@
 -- A client that follows a log follows it after an edit of its own.
 use Rattle.std.proofs.Common.{◌≡◌, ◌⊎◌, ℕ, suc, ◌+◌, ◌<◌, List, [], ◌∷◌, ◌++◌, length, refl, ap, sym, ◌∙◌, subst, arith, length-append}
 use mathlib.Core.Logic.{inl, inr}
-use Rattle.std.specs.Prelude.{Bool, true, false, Some}
+use Rattle.std.specs.Prelude.{true, Some}
 use Rattle.canvas_model.specs.declared.ObjId.{ObjId}
 use Rattle.canvas_model.specs.declared.Kind.{Kind}
-use Rattle.canvas_model.specs.Ids.{root, same_id}
 use Rattle.canvas_model.specs.Document.{Doc, Place, live}
-use Rattle.canvas_model.specs.Chain.{InTree}
-use Rattle.canvas_model.specs.Change.{Change, Create, object_of}
-use Rattle.canvas_model.specs.State.{State, IsSound, opening}
+use Rattle.canvas_model.specs.Change.{Change, Create, Delete, object_of}
+use Rattle.canvas_model.specs.State.{State, opening}
 use Rattle.canvas_model.specs.Log.{Entry, IsLegal, at_version}
 use Rattle.canvas_model.specs.Client.{Client}
 use Rattle.canvas_model.specs.Numbered.{nth}
@@ -18,9 +16,8 @@ use Rattle.canvas_model.specs.Standing.{OwnsWaiting, Stands}
 use Rattle.canvas_model.specs.Good.{IsCreation, IsKnown}
 use Rattle.canvas_model.specs.Laws.{EachEditStands, EachVersionIsSound}
 use Rattle.canvas_model.proofs.Lists.{drop-append, nth-append, nth-append_inv, nth-drop, nth-last, nth-within}
-use Rattle.canvas_model.proofs.Ids.{id_itself, same_id_true}
+use Rattle.canvas_model.proofs.Making.{live_known, made_id, made_object}
 use Rattle.canvas_model.proofs.Overlay.{CreatedBy, live_over}
-use Rattle.canvas_model.proofs.Trees.{below_live}
 use Rattle.canvas_client.specs.Placed.{BecomesAt, EachPlacedEditStands, MakesAt, NotShown, PlaceRequest, unplaced}
 use Rattle.canvas_client.specs.Placed as placed
 use Rattle.canvas_threads.specs.Follows.{Follows}
@@ -37,34 +34,24 @@ CreatesAs c change = (id : ObjId) (kind : Kind) (place : Place) → change ≡ C
 abbrev StandsBy : Client → Change → Doc → Type 0
 StandsBy client change d = OwnsWaiting (edited client change) × Stands (edited client change) d
 
-shown_live : (d : Doc) (q : ObjId) → ((InTree d q → ⊥) → ⊥) → live d q ≡ true
-shown_live d q shown = by (live d q) refl
-  where
-    by : (b : Bool) → live d q ≡ b → live d q ≡ true
-    by true is = is
-    by false is = absurd (shown (λ t. let alive = below_live t in cc))
-
 -- what a request makes is about an object that is shown, or a new one
 made_about : (client : Client) (c : ℕ) (request : EditRequest) (change : Change) → Becomes client c request change → (local.IsHidden client.view request → ⊥) → IsShownOrNew client.view change
-made_about client c (local.Create kind target) change b shown = inr (subst (λ (x : Change). IsCreation (Some x) (object_of x)) (sym b.2) (kind, record { parent = target.parent; pos = b.0 }, refl))
-made_about client c (local.Set id name value) change b shown = inl (subst (λ (x : Change). live client.view (object_of x) ≡ true) (sym b) (shown_live client.view id shown))
-made_about client c (local.Clear id name) change b shown = inl (subst (λ (x : Change). live client.view (object_of x) ≡ true) (sym b) (shown_live client.view id shown))
-made_about client c (local.Move id target) change b shown = inl (subst (λ (x : Change). live client.view (object_of x) ≡ true) (sym b.2) (shown_live client.view id shown))
-made_about client c (local.Delete id) change b shown = inl (subst (λ (x : Change). live client.view (object_of x) ≡ true) (sym b) (shown_live client.view id shown))
+made_about client c request change b shown = by (made_object client c request change b shown)
+  where
+    by : (live client.view (object_of change) ≡ true) ⊎ ((kind : Kind) × (place : Place) × (change ≡ Create (object_of change) kind place)) → IsShownOrNew client.view change
+    by (inl alive) = inl alive
+    by (inr new) = inr (new.0, new.1, ap Some new.2)
 
--- the same of a request at a place
+-- the same of a request at a place: an object is hidden from a move where it is hidden from a deletion
 placed_about : (client : Client) (c : ℕ) (request : PlaceRequest) (change : Change) → BecomesAt client c request change → (local.IsHidden client.view (unplaced request) → ⊥) → IsShownOrNew client.view change
 placed_about client c (placed.Create kind place) change b shown = inr (subst (λ (x : Change). IsCreation (Some x) (object_of x)) (sym b) (kind, place, refl))
-placed_about client c (placed.Move id place) change b shown = inl (subst (λ (x : Change). live client.view (object_of x) ≡ true) (sym b) (shown_live client.view id shown))
+placed_about client c (placed.Move id place) change b shown = by (made_object client c (local.Delete id) (Delete id) refl shown)
+  where
+    by : (live client.view id ≡ true) ⊎ ((kind : Kind) × (at : Place) × (Delete id ≡ Create id kind at)) → IsShownOrNew client.view change
+    by (inl alive) = inl (subst (λ (x : Change). live client.view (object_of x) ≡ true) (sym b) alive)
+    by (inr new) = let other : Delete id ≡ Create id new.0 new.1 = new.2 in absurd (cc)
 
 -- what it creates has the client's id
-made_own : (client : Client) (c : ℕ) (request : EditRequest) (id : ObjId) (kind : Kind) (place : Place) → Becomes client c request (Create id kind place) → id.client ≡ c
-made_own client c (local.Create kind target) id k p b = let same : id ≡ record { client = c; counter = client.counter + 1 } = cc (b.2) in ap (λ (i : ObjId). i.client) same
-made_own client c (local.Set i name value) id k p b = absurd (cc b)
-made_own client c (local.Clear i name) id k p b = absurd (cc b)
-made_own client c (local.Move i target) id k p b = absurd (cc (b.2))
-made_own client c (local.Delete i) id k p b = absurd (cc b)
-
 placed_own : (client : Client) (c : ℕ) (request : PlaceRequest) (id : ObjId) (kind : Kind) (place : Place) → BecomesAt client c request (Create id kind place) → id.client ≡ c
 placed_own client c (placed.Create kind at) id k p b = let same : id ≡ record { client = c; counter = client.counter + 1 } = cc b in ap (λ (i : ObjId). i.client) same
 placed_own client c (placed.Move i at) id k p b = absurd (cc b)
@@ -73,14 +60,6 @@ known_further : (s : State) (edits : List Change) (change : Change) (i : ℕ) (i
 known_further s edits change i id (inl h) = inl h
 known_further s edits change i id (inr (inl h)) = inr (inl h)
 known_further s edits change i id (inr (inr h)) = inr (inr (h.0, h.1, (h.2.0, h.2.1, nth-append edits (change ∷ []) h.0 (Create id h.2.0 h.2.1) h.2.2)))
-
--- what is live is the root, or has a counter that was used
-live_known : (s : State) → IsSound s → (edits : List Change) (i : ℕ) (q : ObjId) → live s.doc q ≡ true → IsKnown s edits i q
-live_known s sound edits i q alive = by (same_id q root) refl
-  where
-    by : (b : Bool) → same_id q root ≡ b → IsKnown s edits i q
-    by true is = inl (same_id_true q root is)
-    by false is = inr (inl (sound.counters q alive (λ p. let same : same_id q root ≡ true = ap (λ (x : ObjId). same_id x root) p ∙ id_itself root in cc)))
 
 -- the client follows the log after one more change, which is about an object that is shown or new, creates nothing but its own, and leaves it standing
 module _ (sound : EachVersionIsSound) (log : List Entry) (legal : IsLegal opening log) (c : ℕ) (edits : List Change) (client : Client) (f : Follows log c edits client) (change : Change)
@@ -130,7 +109,7 @@ module _ (sound : EachVersionIsSound) (log : List Entry) (legal : IsLegal openin
   follows_edited stands_edited request makes =
       follows_changed sound log legal c edits client f change
       (made_about client makes.1 request change makes.3 (λ hidden. makes.0 local.NotShown (inl hidden)))
-      (λ id kind place is. made_own client makes.1 request id kind place (subst (Becomes client makes.1 request) is makes.3) ∙ id_is makes.1 makes.2)
+      (λ id kind place is. (made_id client makes.1 request id kind place (subst (Becomes client makes.1 request) is makes.3)).0 ∙ id_is makes.1 makes.2)
       (stands_edited (at_version log client.version).doc client request change f.owns f.stands makes)
 
   pub follows_placed : EachPlacedEditStands → (request : PlaceRequest) → MakesAt client request change → Follows log c (edits ++ change ∷ []) (edited client change)

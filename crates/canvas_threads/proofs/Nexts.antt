@@ -21,7 +21,8 @@ use Rattle.canvas_model.proofs.Lists.{drop-drop, first-drop, nth-drop, nth-take_
 use Rattle.canvas_model.proofs.Tests.{eq_false, eq_true, from_dec}
 use Rattle.canvas_model.proofs.Log.{counted, done_apart, done_mono, done_opening, find_number, fits-take, step_at, used_mono}
 use Rattle.canvas_model.proofs.Owned.{own-drop}
-use Rattle.canvas_threads.proofs.Edits.{find_about, known_moves}
+use Rattle.canvas_model.proofs.Deliver.{known_moves}
+use Rattle.canvas_threads.proofs.Edits.{find_about}
 use Rattle.canvas_threads.proofs.Takes.{granted, takes_next}
 use Rattle.canvas_threads.specs.Follows.{AreAllOf, AreFirstOf, Follows}
 

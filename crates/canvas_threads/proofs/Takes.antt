@@ -1,7 +1,7 @@
 -- What a client of an id does with an entry and with a copy.
 use Rattle.std.proofs.Common.{◌≡◌, ◌⊎◌, ℕ, suc, ◌+◌, ◌≤◌, ◌<◌, refl, sym, subst, arith}
 use mathlib.Core.Logic.{inl, inr}
-use Rattle.std.proofs.lemmas.Bool.Decides.{nat_tests}
+use Rattle.std.proofs.lemmas.Bool.{le-ltb, lt-leb, or_parts}
 use Rattle.std.specs.Prelude.{Bool, true, false, ◌||◌, nat_le, nat_lt, Option, Some, cond}
 use Rattle.canvas_model.specs.Document.{Doc}
 use Rattle.canvas_model.specs.State.{State}
@@ -22,18 +22,12 @@ granted s e fits = by e.what fits
     by Join f = f.2
     by (Edit change) f = f.2
 
-above : (a b : ℕ) → a < b → nat_le b a ≡ false
-above a b h = grind (arith, nat_tests)
-
-not_below : (a b : ℕ) → a ≤ b → nat_lt b a ≡ false
-not_below a b h = grind (arith, nat_tests)
-
 -- the entry that comes next is taken, where an own one is the client's next edit
 pub takes_next : (c : ℕ) (client : Client) (e : Entry) → client.id ≡ Some c → (own : Bool) → is_own c e ≡ own → (own ≡ true → IsNextEdit client e)
     → Receives client (messages.Entry (suc client.version) e) Took (after_entry own client (suc client.version) e)
 takes_next c client e id own is edit =
     subst (λ (o : Option ℕ). ReceivesBy o client (messages.Entry (suc client.version) e) Took (after_entry own client (suc client.version) e)) (sym id)
-    (late (nat_le (suc client.version) client.version) (above client.version (suc client.version) (omega arith)))
+    (late (nat_le (suc client.version) client.version) (lt-leb (suc client.version) client.version (omega arith)))
   where
     next : (own : Bool) → (own ≡ true → IsNextEdit client e) → ReceivesNext own client (suc client.version) e Took (after_entry own client (suc client.version) e)
     next true edit = inl (edit refl, (refl, refl))
@@ -46,7 +40,7 @@ takes_next c client e id own is edit =
     late : (b : Bool) → b ≡ false → cond b (Yields Old client Took (after_entry own client (suc client.version) e))
         (cond (nat_lt (client.version + 1) (suc client.version)) (Yields Ahead client Took (after_entry own client (suc client.version) e)) (ReceivesNext (is_own c e) client (suc client.version) e Took (after_entry own client (suc client.version) e)))
     late true is_not = absurd (cc)
-    late false is_not = early (nat_lt (client.version + 1) (suc client.version)) (not_below (suc client.version) (client.version + 1) (omega arith))
+    late false is_not = early (nat_lt (client.version + 1) (suc client.version)) (le-ltb (client.version + 1) (suc client.version) (omega arith))
 
 -- why a client doesn't take an entry: it isn't the next, or is its own and not its next edit
 abbrev pub IsPassed : ℕ → Client → ℕ → Entry → Type 0
@@ -76,10 +70,6 @@ told c old v e answer new r = late (nat_le v old.version) refl r
     late true is t = inl (t.1, λ here. absurd (let past = le_true v old.version is in omega arith))
     late false is t = early (nat_lt (old.version + 1) v) refl (le_false v old.version is) t
 
-neither : (a b : Bool) → (a || b) ≡ false → b ≡ false
-neither true b is = absurd (cc)
-neither false b is = is
-
 -- why a client doesn't take a copy: it isn't of a later version, or counts fewer edits than are acknowledged, or more than were made
 abbrev pub IsPassedOver : Client → ℕ → ℕ → Type 0
 IsPassedOver old v n = old.version < v → (n < old.acknowledged) ⊎ (last_number old < n)
@@ -99,7 +89,7 @@ copied c old v n d answer new r = late (nat_le v old.version) refl r
         by : (nat_lt n old.acknowledged ≡ true) ⊎ (nat_lt (last_number old) n ≡ true) → (n < old.acknowledged) ⊎ (last_number old < n)
         by (inl is) = inl (lt_true n old.acknowledged is)
         by (inr is) = inr (lt_true (last_number old) n is)
-    fits false is low t = inr (low, t.1, lt_false (last_number old) n (neither (nat_lt n old.acknowledged) (nat_lt (last_number old) n) is))
+    fits false is low t = inr (low, t.1, lt_false (last_number old) n (or_parts (nat_lt n old.acknowledged) (nat_lt (last_number old) n) is).1)
 
     late : (b : Bool) → nat_le v old.version ≡ b → cond b (Yields Old old answer new) (cond (nat_lt n old.acknowledged || nat_lt (last_number old) n) (Yields NotForMe old answer new) (Yields Took (after_copy old v n d) answer new))
         → ((new ≡ old) × IsPassedOver old v n) ⊎ IsCopied old v n d new
