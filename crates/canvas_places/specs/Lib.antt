@@ -1,2 +1,3 @@
 pub mod Faults
+pub mod Leases
 pub mod Refusals

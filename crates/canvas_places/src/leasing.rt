@@ -1,10 +1,11 @@
 // The lease of a document in an etcd, which a thread keeps alive, and which is looked at by time.
-ghost use Rattle.std.specs.Prelude.{IfErr};
+ghost use Rattle.std.specs.Prelude.{◌≡◌, IfErr};
 ghost use Rattle.canvas_places.specs.Faults.{IsThreadFault};
+ghost use Rattle.canvas_places.specs.Leases.{rest_after};
 
 use crate::tasks::{Task, begin_task};
 use canvas_faults::Fault;
-use canvas_store::Lease;
+use canvas_store::{Lease, StoreError};
 use std::alloc::Global;
 use std::net::{Net, TcpListener, TcpStream};
 use std::random::RandomSource;
@@ -187,7 +188,8 @@ where
                 let _ = lease.release();
                 return term.end();
             }
-            let Some(rest) = rest_of(&rt, &mut lease, &term) else {
+            let done = renew(&rt, &mut lease, &term);
+            let Some(rest) = rest_after(done, term.left(&rt)) else {
                 return term.end();
             };
             rest_for(&rt, &term, rest);
@@ -196,20 +198,28 @@ where
     }
 }
 
-// Renews a lease. For how many milliseconds its thread rests then, or none if it has ended: if the etcd says so, and even if the etcd
-// hasn't answered for as long as it lasts.
-fn rest_of<R>(rt: &R, lease: &mut Lease<R>, term: &Term) -> Option<u64>
+// Renews a lease, and notes in its term when that was asked.
+fn renew<R>(rt: &R, lease: &mut Lease<R>, term: &Term) -> Result<bool, StoreError>
 where
     R: Net<Stream = TcpStream> + Clock + RandomSource + AllocGlobal + Clone + Drop,
 {
     let asked = term.millis(rt);
     let limit = term.left(rt).min(MOST_RENEWAL_MILLIS);
-    match lease.renew(Duration::from_millis(limit)) {
-        Ok(true) => {
-            term.renew(asked);
-            Some(REST_MILLIS)
-        }
-        Err(_) if term.left(rt) > 0 => Some(RETRY_MILLIS),
+    let done = lease.renew(Duration::from_millis(limit));
+    if let Ok(true) = done {
+        term.renew(asked);
+    }
+    done
+}
+
+// Returns how many milliseconds the thread rests after a renewal that ended so, if the lease lasts `left` milliseconds more. None if it has
+// ended: if the etcd says so, or if the etcd hasn't answered for as long as it lasts.
+fn rest_after(done: Result<bool, StoreError>, left: u64) -> Option<u64>
+    ensures { result ≡ rest_after done left }
+{
+    match done {
+        Ok(true) => Some(REST_MILLIS),
+        Err(_) if left > 0 => Some(RETRY_MILLIS),
         Ok(false) | Err(_) => None,
     }
 }
