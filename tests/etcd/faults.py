@@ -302,10 +302,10 @@ class Lone(Pair):
 
 class Accounted(Pair):
     """Two servers, one of which waits. A server ends if the test kills it or takes its document away. Other ends are wrong; they are counted
-    by the kind of the last fault."""
+    by the kind of the last fault, and what each of them told is kept."""
 
     def __init__(self, front):
-        self.kind, self.times, self.wrong_ends, self.ends = "none", Counter(), Counter(), Counter()
+        self.kind, self.times, self.wrong_ends, self.ends, self.last_words = "none", Counter(), Counter(), Counter(), []
         self.seen, self.pardoned = set(), {}
         super().__init__(front)
 
@@ -325,6 +325,8 @@ class Accounted(Pair):
                 self.seen.add(server)
                 counts = self.ends if server in self.pardoned else self.wrong_ends
                 counts[self.pardoned.get(server, self.kind)] += 1
+                if counts is self.wrong_ends:
+                    self.last_words.append(f"status {server.process.returncode}: {server.text()[-500:]}")
         super().tend()
 
 

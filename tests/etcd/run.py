@@ -610,7 +610,7 @@ def faults(room):
     done = sum(pair.times.values()) - 1
     wrong = [f"{name} after {kind} {count} of {pair.times[kind]}" for name, counts in (("ended", pair.wrong_ends), ("no edits", trial.stuck))
              for kind, count in counts.most_common() if count]
-    require(not wrong, told, "but of", done, f"faults in {seconds:.0f} s (seed {SEED}):", ", ".join(wrong))
+    require(not wrong, told, "but of", done, f"faults in {seconds:.0f} s (seed {SEED}):", ", ".join(wrong), *pair.last_words)
     ends = ", ".join(f"{kind} {count}" for kind, count in pair.ends.most_common())
     return f"{done} faults of {len(pair.times) - 1} kinds in {seconds:.0f} s (seed {SEED}), {told}; servers ended by themselves: {ends or 'none'}"
 
