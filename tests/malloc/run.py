@@ -26,6 +26,7 @@ import json
 import os
 import re
 import shutil
+import socket
 import subprocess
 import sys
 import tempfile
@@ -130,7 +131,7 @@ class Run:
         self.programs, self.at = programs, at
         self.room = tempfile.mkdtemp(prefix="malloc-", dir=ROOM)
         self.folder = f"{self.room}/folder"
-        self.port = 20000 + 7 * at % 20000
+        self.port = free_port(20000 + 7 * at % 10000)
 
     def environment(self):
         return {"PATH": os.environ["PATH"], "LD_PRELOAD": self.programs["library"], "REFUSE_FILE": f"{self.room}/asked",
@@ -154,6 +155,18 @@ class Run:
     def serve(self, connections, environment):
         return subprocess.Popen([self.programs["canvasd"], "serve", self.folder, str(self.port), str(connections)],
                                 stdout=subprocess.PIPE, stderr=subprocess.PIPE, text=True, env=environment)
+
+
+def free_port(first):
+    """The first of seven ports, which are one run's own, that no other program has."""
+    for port in range(first, first + 7):
+        with socket.socket() as probe:
+            try:
+                probe.bind(("127.0.0.1", port))
+                return port
+            except OSError:
+                pass
+    raise Wrong(f"the ports from {first} on are taken")
 
 
 def ran(words, given="", environment=None):
