@@ -306,7 +306,7 @@ class Accounted(Pair):
 
     def __init__(self, front):
         self.kind, self.times, self.wrong_ends, self.ends, self.last_words = "none", Counter(), Counter(), Counter(), []
-        self.seen, self.pardoned = set(), {}
+        self.seen, self.pardoned, self.taken = set(), {}, set()
         super().__init__(front)
 
     def begin(self, kind):
@@ -315,9 +315,29 @@ class Accounted(Pair):
         self.kind = kind
         self.times[kind] += 1
 
-    def pardon(self):
-        """The server that serves may end."""
-        self.pardoned[self.serving()] = self.kind
+    def pardon(self, is_taken):
+        """The server that serves may end; it has to if its document is taken away."""
+        server = self.serving()
+        self.pardoned[server] = self.kind
+        if is_taken:
+            self.taken.add(server)
+
+    def serving(self):
+        """The one that serves, once there is one: none whose document was taken away, which may not have ended yet."""
+        found = []
+
+        def is_found():
+            found[:] = [server for server in self.servers if server.serves() and server not in self.taken]
+            return found
+
+        self.until(is_found, 90, "no server serves")
+        return found[0]
+
+    def await_ends(self, seconds):
+        """Waits until each server has ended whose document was taken away."""
+        self.until(lambda: all(server.process.poll() is not None for server in self.taken), seconds,
+                   "a server whose document was taken away doesn't end")
+        self.tend()
 
     def tend(self):
         for server in self.servers:
@@ -326,7 +346,7 @@ class Accounted(Pair):
                 counts = self.ends if server in self.pardoned else self.wrong_ends
                 counts[self.pardoned.get(server, self.kind)] += 1
                 if counts is self.wrong_ends:
-                    self.last_words.append(f"status {server.process.returncode}: {server.text()[-500:]}")
+                    self.last_words.append(f"status {server.process.returncode}: {server.text().splitlines()[-1:]}")
         super().tend()
 
 

@@ -567,7 +567,8 @@ class Trial:
         if kind == "server killed":
             server.kill()
             return
-        self.pair.pardon()
+        # A snapshot that is put back holds what the etcd held, so the server may go on.
+        self.pair.pardon(is_taken=kind != "put back")
         if kind == "owner deleted":
             self.etcd.ctl("del", f"lugcurrant/{NAME}/owner")
         if kind == "all silent":
@@ -606,6 +607,7 @@ def faults(room):
             break
     pair, seconds = trial.pair, time.monotonic() - start
     pair.begin("end")
+    pair.await_ends(2 * LEASE)
     told = trial.crowd.settle()
     done = sum(pair.times.values()) - 1
     wrong = [f"{name} after {kind} {count} of {pair.times[kind]}" for name, counts in (("ended", pair.wrong_ends), ("no edits", trial.stuck))
