@@ -1,7 +1,6 @@
 pub mod AnswerLemmas
 pub mod BodyLemmas
 pub mod ChangeLemmas
-pub mod FieldLemmas
 pub mod HostLemmas
 pub mod KeyLemmas
 pub mod OwnerLemmas

@@ -1,23 +1,24 @@
 -- The head of a request is a head of HTTP's grammar.
-use Rattle.std.proofs.Common.{◌≡◌, ℕ, ◌+◌, ◌<◌, ◌^◌, ◌%◌, true, List, [], ◌∷◌, ◌++◌, length, codes, decimal, refl, sym, ap, ◌∙◌, append_assoc, arith, IsTrue, IsUtf8, append-nil, subst, Some}
+use Rattle.std.proofs.Common.{◌≡◌, ℕ, ◌<◌, ◌^◌, true, List, [], ◌∷◌, ◌++◌, length, codes, decimal, refl, sym, ap, ◌∙◌, append_assoc, arith, IsTrue, IsUtf8, append-nil, subst, Some}
 use Rattle.std.specs.List.{list_all, All}
 use Rattle.std.specs.Char.{is_ascii}
 use Rattle.std.proofs.lemmas.Bool.{and_parts}
 use Rattle.std.proofs.lemmas.Str.{IsUtf8-from_ascii}
 use Rattle.std.proofs.lemmas.Str.Ascii.{IsAscii-from_all}
 use Rattle.std.proofs.lemmas.Bool.Decides.{nat_tests}
-use Rattle.std.proofs.lemmas.Fmt.{decimal_by_steps}
-use Rattle.std.proofs.lemmas.List.Elements.{All-cons, All-nil, All-append, All-weaker, All-from_recursion}
+use Rattle.std.proofs.lemmas.List.Elements.{All-weaker, All-from_recursion}
 use Rattle.std.proofs.lemmas.List.Sums.{AllPass-from_list_all}
 use Rattle.httparse.specs.Ascii.{crlf_bytes, space}
 use Rattle.httparse.specs.Grammar.{AllPass, IsField, ReadsRequest, is_token_byte, is_uri_byte, is_value_byte, print_blank, print_end, print_request, print_version, crlf}
 use Rattle.serde_json.specs.Data.{Data}
 use Rattle.serde_json.specs.Read.{read}
 use Rattle.serde_json.specs.Written.{compact_text}
+use Rattle.net_heads.specs.Written.{field_line}
+use Rattle.net_heads.proofs.Written.{is_field, size_passes}
 use Rattle.canvas_gateway.specs.declared.posts.Call.{Call}
 use Rattle.canvas_gateway.specs.declared.posts.Call.TheVariants as call
 use Rattle.canvas_gateway.specs.Hosts.{is_host, is_host_byte}
-use Rattle.canvas_gateway.specs.Posts.{Asks, field, field_line, head_text, path_of, request_of}
+use Rattle.canvas_gateway.specs.Posts.{Asks, head_text, path_of, request_of}
 
 -- the lines of a head without brackets
 pub head_regroup : (a p v e n s h m t z : List ℕ)
@@ -49,24 +50,6 @@ head_text_is host asked size =
     ++ ((field_line (codes "Host") host ++ (field_line (codes "Content-Type") (codes "application/json") ++ c)) ++ crlf_bytes)) (sym (append-nil (field_line (codes "Content-Length") (decimal size))))
 
 -- ---- its parts
-
--- a field whose name and value pass the tests
-is_field : (name value : List ℕ) → 0 < length name → list_all is_token_byte name ≡ true → AllPass is_value_byte value → IsField (field name value)
-is_field name value long name_passes value_passes = record {
-  name = (long, AllPass-from_list_all is_token_byte name name_passes);
-  raw = All-cons (λ b. IsTrue (is_value_byte b)) space value refl value_passes;
-}
-
-digit_passes : (n : ℕ) → n < 10 → IsTrue (is_value_byte (48 + n))
-digit_passes n small = grind (arith, nat_tests)
-
-size_passes : (n : ℕ) → n < 2 ^ 64 → AllPass is_value_byte (decimal n)
-size_passes n small =
-    decimal_by_steps (λ _ ds. AllPass is_value_byte ds)
-    (λ n one. All-cons (λ b. IsTrue (is_value_byte b)) (48 + n) [] (digit_passes n one) (All-nil (λ b. IsTrue (is_value_byte b))))
-    (λ n ds more passes. All-append (λ b. IsTrue (is_value_byte b)) ds ((48 + n % 10) ∷ []) passes
-    (All-cons (λ b. IsTrue (is_value_byte b)) (48 + n % 10) [] (digit_passes (n % 10) (omega arith)) (All-nil (λ b. IsTrue (is_value_byte b)))))
-    n small
 
 host_byte_passes : (b : ℕ) → is_host_byte b ≡ true → IsTrue (is_value_byte b)
 host_byte_passes b host = grind (arith, nat_tests)

@@ -1,11 +1,12 @@
 -- A request of HTTP: a POST of a JSON text.
 use Rattle.std.specs.Prelude.{◌≡◌, ℕ, List, [], ◌∷◌, ◌++◌, length, codes, Some}
 use Rattle.std.specs.Fmt.{decimal}
-use Rattle.httparse.specs.Ascii.{crlf_bytes, space}
-use Rattle.httparse.specs.Grammar.{crlf, Field, RequestHead, ReadsRequest}
+use Rattle.httparse.specs.Ascii.{crlf_bytes}
+use Rattle.httparse.specs.Grammar.{crlf, RequestHead, ReadsRequest}
 use Rattle.serde_json.specs.Data.{Data}
 use Rattle.serde_json.specs.Read.{read}
 use Rattle.serde_json.specs.Written.{compact_text}
+use Rattle.net_heads.specs.Written.{field, field_line}
 use Rattle.canvas_gateway.specs.declared.posts.Call.{Call}
 use Rattle.canvas_gateway.specs.declared.posts.Call.TheVariants as call
 
@@ -17,10 +18,6 @@ path_of call.Grant = codes "/v3/lease/grant"
 path_of call.KeepAlive = codes "/v3/lease/keepalive"
 path_of call.Revoke = codes "/v3/lease/revoke"
 
--- a line of a head
-abbrev pub field_line : List ℕ → List ℕ → List ℕ
-field_line name value = name ++ codes ": " ++ value ++ crlf_bytes
-
 -- a head: what is asked of which host, and how long a JSON text follows
 abbrev pub head_text : List ℕ → Call → ℕ → List ℕ
 head_text host asked size =
@@ -29,10 +26,6 @@ head_text host asked size =
     ++ field_line (codes "Content-Type") (codes "application/json")
     ++ field_line (codes "Content-Length") (decimal size)
     ++ crlf_bytes
-
--- a field of a head: a space stands before its value
-abbrev pub field : List ℕ → List ℕ → Field
-field name value = record { name = name; raw = space ∷ value; end = crlf }
 
 -- the same head as one of HTTP's grammar
 abbrev pub request_of : List ℕ → Call → ℕ → RequestHead

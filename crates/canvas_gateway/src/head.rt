@@ -2,13 +2,14 @@
 ghost use Rattle.std.specs.Prelude.{◌≡◌, All, IfNone, IfOk, IfSome, length};
 ghost use Rattle.httparse.specs.Grammar.{HasNoResponse, ResponseHead};
 ghost use Rattle.httparse.specs.Spans.{IsHeaderWithin};
-ghost use Rattle.canvas_gateway.specs.Heads.{Begins, framing_of, head_of, seen_fields};
+ghost use Rattle.net_heads.specs.Fields.{seen_fields};
+ghost use Rattle.canvas_gateway.specs.Heads.{Begins, framing_of, head_of};
 
 use crate::error::GatewayError;
-use crate::fields::{Fields, Values, is_same_word};
 use canvas_decimals::whole_of;
 use httparse::Status as Parsed;
 use httparse::spans::{EMPTY_HEADER_SPAN, parse_response};
+use net_heads::{Fields, Values, is_same_word};
 
 /// The most bytes of an answer's head, and of the fields behind its body.
 pub const MAX_HEAD: usize = 16384;

@@ -5,7 +5,6 @@
 mod answers;
 mod chunk;
 mod error;
-mod fields;
 mod head;
 mod host;
 mod keys;

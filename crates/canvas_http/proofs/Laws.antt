@@ -4,9 +4,10 @@ use Rattle.std.specs.Option.{unwrap_or}
 use Rattle.std.specs.List.{list_all, list_any}
 use Rattle.std.specs.Str.{bytes_eq}
 use Rattle.std.proofs.lemmas.Slice.Eq.{bytes_eq-Decides}
+use Rattle.net_heads.specs.Fields.{NamesAndValues, values_named}
 use Rattle.canvas_http.specs.declared.asked.Asked.TheVariants as asked
 use Rattle.canvas_http.specs.declared.asked.PageFile.{PageFile}
-use Rattle.canvas_http.specs.Fields.{NamesAndValues, values_named, is_handshake}
+use Rattle.canvas_http.specs.Fields.{is_handshake}
 use Rattle.canvas_http.specs.Sites.{SiteValue}
 use Rattle.canvas_http.specs.Table.{asked_by_handshake, asked_by_page, asked_for, asked_file, file_at, is_document_path, is_origin_of, is_reading, is_welcome, is_well_formed, page_files, path_of, site_paths, value_at}
 

@@ -1,22 +1,23 @@
 -- The head of an answer is a head of HTTP's grammar.
-use Rattle.std.proofs.Common.{◌≡◌, ℕ, ◌+◌, ◌<◌, ◌^◌, ◌%◌, true, List, [], ◌∷◌, ◌++◌, length, codes, decimal, refl, sym, ap, ◌∙◌, append_assoc, arith, IsTrue, Some, append-nil}
+use Rattle.std.proofs.Common.{◌≡◌, ℕ, ◌<◌, ◌^◌, true, List, [], ◌∷◌, ◌++◌, length, codes, decimal, refl, sym, ap, ◌∙◌, append_assoc, arith, IsTrue, Some, append-nil}
 use Rattle.std.specs.List.{flat_map, list_all, All}
 use Rattle.std.specs.Char.{is_ascii_digit}
 use Rattle.std.proofs.lemmas.Bool.Decides.{nat_tests}
-use Rattle.std.proofs.lemmas.Fmt.{decimal_by_steps}
-use Rattle.std.proofs.lemmas.List.Elements.{All-cons, All-nil, All-append, All-weaker, All-from_recursion, recursion_from_All}
+use Rattle.std.proofs.lemmas.List.Elements.{All-cons, All-nil, All-weaker, All-from_recursion, recursion_from_All}
 use Rattle.std.proofs.lemmas.List.Sums.{AllPass-from_list_all}
 use Rattle.httparse.specs.Ascii.{crlf_bytes, space}
 use Rattle.httparse.specs.Grammar.{AllPass, IsField, ReadsResponse, is_token_byte, is_value_byte, print_blank, print_end, print_field, print_reason, print_response, print_version, crlf}
+use Rattle.net_heads.specs.Written.{field, field_line}
+use Rattle.net_heads.proofs.Written.{is_field, size_passes}
 use Rattle.canvas_http.specs.declared.texts.ContentType.{ContentType}
 use Rattle.canvas_http.specs.declared.texts.ContentType.TheVariants as kind
 use Rattle.canvas_http.specs.declared.texts.Status.{Status}
 use Rattle.canvas_http.specs.declared.texts.Status.TheVariants as status
 use Rattle.canvas_http.specs.Answers.{head_text, page_policy}
 use Rattle.canvas_http.specs.Identities.{IsIdentity, is_hex_digit}
-use Rattle.canvas_http.specs.Responses.{digits_of, field, fields_of_answer, own_fields, phrase_of, response_of}
+use Rattle.canvas_http.specs.Responses.{digits_of, fields_of_answer, own_fields, phrase_of, response_of}
 use Rattle.canvas_http.specs.Sites.{SiteValue}
-use Rattle.canvas_http.specs.Texts.{field_line, fields_of, reason_of, type_of}
+use Rattle.canvas_http.specs.Texts.{fields_of, reason_of, type_of}
 
 -- ---- the text
 
@@ -65,13 +66,6 @@ head_text_is site s k size =
 
 -- ---- its parts
 
--- a field whose name and value pass the tests
-is_field : (name value : List ℕ) → 0 < length name → list_all is_token_byte name ≡ true → AllPass is_value_byte value → IsField (field name value)
-is_field name value long name_passes value_passes = record {
-  name = (long, AllPass-from_list_all is_token_byte name name_passes);
-  raw = All-cons (λ b. IsTrue (is_value_byte b)) space value refl value_passes;
-}
-
 literal : (value : List ℕ) → list_all is_value_byte value ≡ true → AllPass is_value_byte value
 literal value passes = AllPass-from_list_all is_value_byte value passes
 
@@ -83,17 +77,6 @@ type_passes kind.Script = literal (type_of kind.Script) refl
 type_passes kind.Wasm = literal (type_of kind.Wasm) refl
 type_passes kind.Style = literal (type_of kind.Style) refl
 type_passes kind.Svg = literal (type_of kind.Svg) refl
-
-digit_passes : (n : ℕ) → n < 10 → IsTrue (is_value_byte (48 + n))
-digit_passes n small = grind (arith, nat_tests)
-
-size_passes : (n : ℕ) → n < 2 ^ 64 → AllPass is_value_byte (decimal n)
-size_passes n small =
-    decimal_by_steps (λ _ ds. AllPass is_value_byte ds)
-    (λ n one. All-cons (λ b. IsTrue (is_value_byte b)) (48 + n) [] (digit_passes n one) (All-nil (λ b. IsTrue (is_value_byte b))))
-    (λ n ds more passes. All-append (λ b. IsTrue (is_value_byte b)) ds ((48 + n % 10) ∷ []) passes
-    (All-cons (λ b. IsTrue (is_value_byte b)) (48 + n % 10) [] (digit_passes (n % 10) (omega arith)) (All-nil (λ b. IsTrue (is_value_byte b)))))
-    n small
 
 hex_passes : (b : ℕ) → is_hex_digit b ≡ true → IsTrue (is_value_byte b)
 hex_passes b hex = grind (arith, nat_tests)

@@ -1,12 +1,9 @@
 -- Words that are the same without case.
 use Rattle.std.proofs.Common.{◌≡◌, ℕ, ◌≤◌, Bool, true, false, ◌&&◌, List, [], ◌∷◌, ◌++◌, length, take, drop, refl, sym, ap, ◌∙◌, subst, arith, eqb}
 use Rattle.std.specs.Char.{to_ascii_lowercase}
+use Rattle.std.proofs.Math.Bool.{and_assoc}
 use Rattle.std.proofs.lemmas.List.{length-take, take-append-drop}
-use Rattle.canvas_http.specs.Fields.{is_same_word}
-
-and_assoc : (a b c : Bool) → (a && (b && c)) ≡ ((a && b) && c)
-and_assoc true b c = refl
-and_assoc false b c = refl
+use Rattle.net_heads.specs.Fields.{is_same_word}
 
 -- two words are the same where their beginnings are, which are as long, and their ends
 pub is_same_word-append : (a b c d : List ℕ) → length a ≡ length c → is_same_word (a ++ b) (c ++ d) ≡ (is_same_word a c && is_same_word b d)
@@ -15,7 +12,7 @@ is_same_word-append [] b (y ∷ c) d e = absurd (omega arith)
 is_same_word-append (x ∷ a) b [] d e = absurd (omega arith)
 is_same_word-append (x ∷ a) b (y ∷ c) d e =
     let rest : length a ≡ length c = omega arith in
-    ap (λ (r : Bool). eqb (to_ascii_lowercase x) (to_ascii_lowercase y) && r) (is_same_word-append a b c d rest) ∙ and_assoc (eqb (to_ascii_lowercase x) (to_ascii_lowercase y)) (is_same_word a c) (is_same_word b d)
+    ap (λ (r : Bool). eqb (to_ascii_lowercase x) (to_ascii_lowercase y) && r) (is_same_word-append a b c d rest) ∙ sym (and_assoc (eqb (to_ascii_lowercase x) (to_ascii_lowercase y)) (is_same_word a c) (is_same_word b d))
 
 -- a word is a front and a back where its beginning is that front, and its rest the back
 pub is_same_word-joined : (word front back : List ℕ) → length front ≤ length word

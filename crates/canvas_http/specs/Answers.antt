@@ -2,11 +2,12 @@
 use Rattle.std.specs.Prelude.{ℕ, Bool, List, [], ◌++◌, length, codes, if◌then◌else◌}
 use Rattle.std.specs.Fmt.{decimal}
 use Rattle.httparse.specs.Ascii.{crlf_bytes}
+use Rattle.net_heads.specs.Written.{field_line}
 use Rattle.canvas_http.specs.declared.texts.ContentType.{ContentType}
 use Rattle.canvas_http.specs.declared.texts.ContentType.TheVariants as kind
 use Rattle.canvas_http.specs.declared.texts.Status.{Status}
 use Rattle.canvas_http.specs.Sites.{SiteValue}
-use Rattle.canvas_http.specs.Texts.{reason_of, sentence_of, field_line, fields_of, type_of}
+use Rattle.canvas_http.specs.Texts.{reason_of, sentence_of, fields_of, type_of}
 
 -- a page may run its own scripts and WebAssembly, connect to its host, and stand in no frame
 abbrev pub page_policy : List ℕ

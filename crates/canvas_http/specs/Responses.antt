@@ -1,18 +1,14 @@
 -- The head of an answer as a head of HTTP's grammar.
 use Rattle.std.specs.Prelude.{ℕ, List, [], ◌∷◌, codes, Some}
 use Rattle.std.specs.Fmt.{decimal}
-use Rattle.httparse.specs.Ascii.{space}
 use Rattle.httparse.specs.Grammar.{crlf, Field, ResponseHead}
+use Rattle.net_heads.specs.Written.{field}
 use Rattle.canvas_http.specs.declared.texts.ContentType.{ContentType}
 use Rattle.canvas_http.specs.declared.texts.Status.{Status}
 use Rattle.canvas_http.specs.declared.texts.Status.TheVariants as status
 use Rattle.canvas_http.specs.Answers.{page_policy}
 use Rattle.canvas_http.specs.Sites.{SiteValue}
 use Rattle.canvas_http.specs.Texts.{type_of}
-
--- a field of an answer: a space stands before its value
-abbrev pub field : List ℕ → List ℕ → Field
-field name value = record { name = name; raw = space ∷ value; end = crlf }
 
 -- the three digits of a status
 abbrev pub digits_of : Status → List ℕ

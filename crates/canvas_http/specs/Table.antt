@@ -4,12 +4,13 @@ use Rattle.std.specs.List.{list_all, list_any, starts_with, before_first}
 use Rattle.std.specs.Str.{bytes_eq}
 use Rattle.httparse.specs.Grammar.{RequestHead}
 use Rattle.httparse.specs.Spans.{name_and_value}
+use Rattle.net_heads.specs.Fields.{NamesAndValues, is_same_word, values_named}
 use Rattle.canvas_http.specs.declared.asked.Asked.{Asked}
 use Rattle.canvas_http.specs.declared.asked.Asked.TheVariants as asked
 use Rattle.canvas_http.specs.declared.asked.PageFile.{PageFile}
 use Rattle.canvas_http.specs.declared.asked.PageFile.TheVariants as file
 use Rattle.canvas_http.specs.declared.asked.Refusal.TheVariants as refusal
-use Rattle.canvas_http.specs.Fields.{NamesAndValues, is_same_word, values_named, is_handshake}
+use Rattle.canvas_http.specs.Fields.{is_handshake}
 use Rattle.canvas_http.specs.Sites.{SiteValue}
 
 -- the byte before a query

@@ -1,6 +1,6 @@
 -- The words of answers.
-use Rattle.std.specs.Prelude.{ℕ, List, [], ◌++◌, codes}
-use Rattle.httparse.specs.Ascii.{crlf_bytes}
+use Rattle.std.specs.Prelude.{ℕ, List, [], codes}
+use Rattle.net_heads.specs.Written.{field_line}
 use Rattle.canvas_http.specs.declared.asked.PageFile.{PageFile}
 use Rattle.canvas_http.specs.declared.asked.PageFile.TheVariants as file
 use Rattle.canvas_http.specs.declared.asked.Refusal.{Refusal}
@@ -27,10 +27,6 @@ sentence_of status.Forbidden = codes "Pages of this origin may not connect here.
 sentence_of status.NotFound = codes "There is nothing at this address.\n"
 sentence_of status.NotAllowed = codes "Only GET and HEAD are answered here.\n"
 sentence_of status.Unavailable = codes "All seats of this document are taken. Try again soon.\n"
-
--- a line of a head
-abbrev pub field_line : List ℕ → List ℕ → List ℕ
-field_line name value = name ++ codes ": " ++ value ++ crlf_bytes
 
 -- the fields of this status alone: what is allowed, or when to come again
 abbrev pub fields_of : Status → List ℕ

@@ -6,11 +6,11 @@ ghost use Rattle.canvas_http.specs.Heads.{Begins, request_of};
 ghost use Rattle.canvas_http.specs.Sites.{seen_site};
 
 use crate::asked::Asked;
-use crate::fields::Fields;
 use crate::site::Site;
 use crate::table::{asked, is_equal};
 use httparse::spans::{EMPTY_HEADER_SPAN, HeaderSpan, RequestSpans, parse_request};
 use httparse::{Error as ParseError, Status as Parsed};
+use net_heads::Fields;
 use thiserror::Error;
 
 /// The most fields that a request's head may have.

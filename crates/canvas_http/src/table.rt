@@ -4,32 +4,33 @@ ghost use Rattle.std.specs.List.{list_all, list_any};
 ghost use Rattle.std.specs.Option.{option_copied, option_to_list};
 ghost use Rattle.std.specs.Str.{bytes_eq};
 ghost use Rattle.httparse.specs.Spans.{IsHeaderWithin};
-ghost use Rattle.canvas_http.specs.Fields.{is_same_word, seen_fields};
+ghost use Rattle.net_heads.specs.Fields.{is_same_word, seen_fields};
 ghost use Rattle.canvas_http.specs.Sites.{seen_site};
 ghost use Rattle.canvas_http.specs.Table.{asked_by_handshake, asked_by_page, asked_for, file_at, has_path, is_document_path, is_named, is_origin_of, is_reading, is_welcome, page_files, path_of, question_mark, site_paths, value_at};
 
 use crate::asked::{Asked, PageFile, Refusal};
-use crate::fields::{Fields, Found, is_same_word};
+use crate::fields::is_handshake;
 use crate::site::Site;
+use net_heads::{Fields, Values, is_same_word};
 
 /// What a request of this method, target and fields asks for.
 pub(crate) fn asked(site: &Site, method: &[u8], target: &[u8], fields: &Fields<'_>) -> Asked
     requires { All (IsHeaderWithin (length fields.now.bytes.now)) fields.now.spans.now }
     ensures { result ≡ asked_for (seen_site site.now) method.now target.now (seen_fields fields.now) }
 {
-    let Found::One(host) = fields.find(b"host") else {
+    let Values::One(host) = fields.find(b"host") else {
         return Asked::Refused(Refusal::BadRequest);
     };
     let origin = match fields.find(b"origin") {
-        Found::Nothing => None,
-        Found::One(origin) => Some(origin),
-        Found::Several => return Asked::Refused(Refusal::BadRequest),
+        Values::Nothing => None,
+        Values::One(origin) => Some(origin),
+        Values::Several => return Asked::Refused(Refusal::BadRequest),
     };
     if !has_path(target) {
         return Asked::Refused(Refusal::BadRequest);
     }
     let path = path_of(target);
-    if fields.is_handshake() {
+    if is_handshake(fields) {
         asked_by_handshake(site, method, path, host, origin)
     } else {
         asked_by_page(site, method, path)

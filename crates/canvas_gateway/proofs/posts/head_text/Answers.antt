@@ -1,7 +1,8 @@
 use Rattle.std.proofs.Common.{sym, ◌∙◌, codes, decimal, string_bytes}
 use Rattle.std.proofs.lemmas.Result.{IfOk-weaker}
 use Rattle.httparse.specs.Ascii.{crlf_bytes}
-use Rattle.canvas_gateway.specs.Posts.{field_line, path_of}
+use Rattle.net_heads.specs.Written.{field_line}
+use Rattle.canvas_gateway.specs.Posts.{path_of}
 use Rattle.canvas_gateway.proofs.PostLemmas.{head_regroup}
 use Rattle.canvas_gateway.proofs.posts.head_text.Goals as goal
 

@@ -2,7 +2,8 @@ use Rattle.std.proofs.Common.{sym, ◌∙◌, codes, decimal, string_bytes}
 use Rattle.std.proofs.lemmas.Result.{IfOk-weaker}
 use Rattle.httparse.specs.Ascii.{crlf_bytes}
 use Rattle.canvas_http.specs.Answers.{page_policy}
-use Rattle.canvas_http.specs.Texts.{field_line, fields_of, reason_of, type_of}
+use Rattle.net_heads.specs.Written.{field_line}
+use Rattle.canvas_http.specs.Texts.{fields_of, reason_of, type_of}
 use Rattle.canvas_http.proofs.HeadLines.{head_regroup}
 use Rattle.canvas_http.proofs.answers.head_text.Goals as goal
 

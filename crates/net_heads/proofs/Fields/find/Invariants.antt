@@ -1,7 +1,7 @@
 use Rattle.std.proofs.Common.{take, map}
 use Rattle.httparse.specs.Spans.{header_bytes}
-use Rattle.canvas_gateway.specs.Heads.{IsFound, values_named}
-use Rattle.canvas_gateway.proofs.fields.Fields.find.Given as goal
+use Rattle.net_heads.specs.Fields.{IsFound, values_named}
+use Rattle.net_heads.proofs.Fields.find.Given as goal
 
 -- what was found is of the values so far
 abbrev pub invariant-loop-span : goal.invariant-loop-span

@@ -1,13 +1,15 @@
-// The fields of an answer's head.
+//! The fields in the head of an HTTP message: found by their names, whatever their case.
+#![tactic(auto)]
+
 ghost use Rattle.std.specs.Prelude.{◌≡◌, ℕ, List, [], ◌∷◌, ◌++◌, length, All};
 ghost use Rattle.httparse.specs.Spans.{IsHeaderWithin};
-ghost use Rattle.canvas_gateway.specs.Heads.{IsFound, is_same_word, seen_fields, values_named};
+ghost use Rattle.net_heads.specs.Fields.{IsFound, is_same_word, seen_fields, values_named};
 
 use httparse::spans::HeaderSpan;
 
-/// The fields of an answer's head: where each stands in these bytes.
+/// The fields of a message's head: where each stands in these bytes.
 #[derive(Clone, Copy)]
-pub(crate) struct Fields<'a> {
+pub struct Fields<'a> {
     /// The bytes that begin with the head.
     pub bytes: &'a [u8],
     /// Where the fields stand.
@@ -15,8 +17,8 @@ pub(crate) struct Fields<'a> {
 }
 
 /// What stands under a name.
-#[derive(Clone, Copy, PartialEq, Eq)]
-pub(crate) enum Values<'a> {
+#[derive(Clone, Copy)]
+pub enum Values<'a> {
     /// No field has the name.
     Nothing,
     /// One field has the name, with this value.
@@ -53,8 +55,8 @@ impl<'a> Fields<'a> {
     }
 }
 
-/// Checks whether two words are the same, without case.
-pub(crate) fn is_same_word(a: &[u8], b: &[u8]) -> bool
+/// Checks whether two words are the same, whether their letters are upper or lower case.
+pub fn is_same_word(a: &[u8], b: &[u8]) -> bool
     ensures { result ≡ is_same_word a.now b.now }
 {
     a.eq_ignore_ascii_case(b)

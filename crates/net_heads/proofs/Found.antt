@@ -4,7 +4,7 @@ use Rattle.std.proofs.lemmas.List.{take_more, map-append}
 use Rattle.std.proofs.lemmas.List.Elements.{filter-append}
 use Rattle.httparse.specs.declared.spans.HeaderSpan.{HeaderSpan}
 use Rattle.httparse.specs.Spans.{header_bytes}
-use Rattle.canvas_gateway.specs.Heads.{NamesAndValues, has_name, values_named}
+use Rattle.net_heads.specs.Fields.{NamesAndValues, has_name, values_named}
 
 -- the value of one field, where it has the name
 pub one_value : (name : List ℕ) (field : List ℕ × List ℕ) → values_named name (field ∷ []) ≡ cond (has_name name field) (field.1 ∷ []) []

@@ -1,0 +1,3 @@
+-- Meant for the crates above too.
+pub mod Found
+pub mod Written
