@@ -10,15 +10,11 @@ use Rattle.canvas_wire.specs.declared.fault.WireError.TheVariants as wire
 use Rattle.canvas_care.specs.RowFaults.{IsTextFault, tree_fault}
 use Rattle.canvas_faults.specs.declared.row_fault.RowFault.TheVariants as why
 
--- a text has one JSON tree
-same_tree : (text : List ℕ) (d e : Data) → IsJson text d → IsJson text e → d ≡ e
-same_tree text d e one other = same_Some d e (sym one.1 ∙ other.1)
-
 pub parts_fault : (last : Option ObjId) (text : List ℕ) (d : Data) → IsJson text d → tree_fault last d ≡ None → IsRowError text wire.NotAMessage → IsTextFault last text why.Parts
-parts_fault last text d json none (e, other, not) = inr (inl (d, json, inr (none, λ shaped. not (subst IsRowShape (same_tree text d e json other) shaped))))
+parts_fault last text d json none (e, other, not) = inr (inl (d, json, inr (none, λ shaped. not (subst IsRowShape (same_Some d e (sym json.1 ∙ other.1)) shaped))))
 
 pub range_fault : (last : Option ObjId) (text : List ℕ) (d : Data) → IsJson text d → tree_fault last d ≡ None → IsRowError text wire.OutOfRange → IsTextFault last text why.Range
-range_fault last text d json none (e, other, out) = inr (inl (d, json, inr (none, subst (IsOut IsRowShape IsRowJson) (same_tree text e d other json) out)))
+range_fault last text d json none (e, other, out) = inr (inl (d, json, inr (none, subst (IsOut IsRowShape IsRowJson) (same_Some e d (sym other.1 ∙ json.1)) out)))
 
 pub depth_fault : (last : Option ObjId) (text : List ℕ) (d : Data) → IsJson text d → tree_fault last d ≡ None → IsRowError text wire.TooDeep → IsTextFault last text why.TooDeepValue
-depth_fault last text d json none (e, row, other, is, deep) = inr (inl (d, json, inr (none, (row, subst (λ (t : Data). IsRowJson t row) (same_tree text e d other json) is, deep))))
+depth_fault last text d json none (e, row, other, is, deep) = inr (inl (d, json, inr (none, (row, subst (λ (t : Data). IsRowJson t row) (same_Some e d (sym other.1 ∙ json.1)) is, deep))))

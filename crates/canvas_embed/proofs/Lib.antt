@@ -1,5 +1,4 @@
 pub mod Stacks
 pub mod Touched
 pub mod Saved
-pub mod IdTexts
 pub mod PlacedEdits

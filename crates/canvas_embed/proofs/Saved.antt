@@ -6,7 +6,7 @@ use Rattle.std.proofs.Math.Bool.{and-true}
 use Rattle.std.proofs.lemmas.Bool.{cases_lt}
 use Rattle.std.proofs.lemmas.List.{map-append}
 use Rattle.std.proofs.lemmas.List.Elements.{All-append, All-head, All-tail}
-use Rattle.std.proofs.lemmas.Option.{get_or_from_slice_get, slice_get-get_or}
+use Rattle.std.proofs.lemmas.Option.{get_or_from_slice_get, same_Some, slice_get-get_or}
 use Rattle.std.proofs.Math.Seq.{take-suc}
 use Rattle.serde_json.specs.Data as D
 use Rattle.serde_json.specs.Data.{Data, string, array, Items, no_items, item}
@@ -39,6 +39,7 @@ use Rattle.canvas_forms.proofs.Ranges.{version_fits}
 use Rattle.canvas_forms.proofs.RowForms.{rows_is}
 use Rattle.canvas_forms.proofs.Texts.{change_nests, change_no_float}
 use Rattle.canvas_wire.specs.Faults.{IsJson, Means, IsOut}
+use Rattle.canvas_wire.proofs.Tested.{neither, tested_case, unread_case}
 use Rattle.canvas_client.specs.Kept.{IsKept}
 use Rattle.canvas_embed.specs.Saves.{Numbers, SavedParts, any_form, numbers_form, waiting_form, saved_members, saved_form, parts_of, client_of, third_in_order, is_orderly, saved_in, saved_after, IsSavedShape, IsSavedJson, IsShallowClient, SpellsClient, IsSoundChange, IsSavedFault, IsLoadError, IsUnfinished, refusal}
 use Rattle.canvas_embed.specs.declared.fault.LoadError.{LoadError}
@@ -74,21 +75,9 @@ saved_shaped d c (o, s) = (o, (parts_of c, s.0, ap shape s.2))
 
 -- ---- what is read only where the rows stand in order
 
-neither : {X : Type 0} (b : Bool) → ◌≡◌ {A = Option X} (cond b None None) None
-neither true = refl
-neither false = refl
-
-tested : {X : Type 0} (b : Bool) (o : Option X) (x : X) → cond b o None ≡ Some x → (b ≡ true) × (o ≡ Some x)
-tested true o x e = (refl, e)
-tested false o x e = cc
-
-unread : {X : Type 0} (b : Bool) (o : Option X) → cond b o None ≡ None → b ≡ true → o ≡ None
-unread true o e t = e
-unread false o e t = cc
-
 -- what a fault of the shape says of the JSON tree
 pub saved_fault : (d : Data) (f : JsonFault) → RefusesShape (saved_in d) f → IsSavedFault d (refusal f)
-saved_fault d value.NotAValue e = λ s. no_shape saved_form saved_is d (unread (is_orderly d) (saved_form.read d) e s.0) s.1
+saved_fault d value.NotAValue e = λ s. no_shape saved_form saved_is d (unread_case (is_orderly d) (saved_form.read d) e s.0) s.1
 saved_fault d value.OutOfRange e = absurd e
 saved_fault d value.Memory e = tt
 
@@ -113,7 +102,7 @@ module _ (a b r : Data) (numbers : Numbers) (numbers_fit : Bool) (h : numbers_fo
     pub saved_read : (es : List (ObjId × Object)) (fits : Bool) → rows_in r ≡ Some (es, fits)
         → saved_after (codes "client") (item a (item b (item r no_items))) ≡ Some ((numbers, (waiting, (es, tt))), numbers_fit && (waiting_fit && fits))
     saved_read es fits e =
-        let t = tested (are_in_order r) (rows_form.read r) (es, fits) e in
+        let t = tested_case (are_in_order r) (rows_form.read r) (es, fits) e in
         rw (t.0, h, k, t.1, and-true fits) refl
 
     rows_case : (t : Bool) (o : Option (List (ObjId × Object) × Bool)) → are_in_order r ≡ t → rows_form.read r ≡ o → cond t o None ≡ None
@@ -130,7 +119,7 @@ module _ (a b r : Data) (numbers : Numbers) (numbers_fit : Bool) (h : numbers_fo
 
 module _ (d : Data) (p : SavedParts) (b : Bool) (e : saved_in d ≡ Some (p, b)) where
   was : (is_orderly d ≡ true) × (saved_form.read d ≡ Some (p, b))
-  was = tested (is_orderly d) (saved_form.read d) (p, b) e
+  was = tested_case (is_orderly d) (saved_form.read d) (p, b) e
 
   stands : b ≡ true → StandsFor saved_form d p
   stands t = stands_for saved_form saved_is d p (was.1 ∙ ap (λ (f : Bool). Some (p, f)) t)
@@ -160,13 +149,10 @@ module _ (d : Data) (p : SavedParts) (b : Bool) (e : saved_in d ≡ Some (p, b))
 
 -- ---- bytes
 
-same_json : (bytes : List ℕ) (d e : Data) → IsJson bytes d → IsJson bytes e → d ≡ e
-same_json bytes d e h k = let f : Some d ≡ Some e = sym h.1 ∙ k.1 in cc
-
 -- bytes that spell a client have one JSON tree, and it is this client's
 module _ (bytes : List ℕ) (d : Data) (j : IsJson bytes d) (client : Client) (spells : SpellsClient bytes client) where
   its_json : IsSavedJson d client
-  its_json = subst (λ e. IsSavedJson e client) (same_json bytes spells.0 d spells.1 j) spells.2.0
+  its_json = subst (λ e. IsSavedJson e client) (same_Some spells.0 d (sym spells.1.1 ∙ j.1)) spells.2.0
 
   pub spells_one : (other : Client) → Means IsSavedJson IsShallowClient d other → other ≡ client
   spells_one other m = one_client d other client m.0 its_json

@@ -1,25 +1,8 @@
 -- Segments that are copied one by one.
-use Rattle.std.proofs.Common.{◌≡◌, ◌++◌, ◌∙◌, ◌+◌, ◌<◌, ℕ, List, [], ◌∷◌, length, sym, ap, subst, append_assoc, drop, get_or}
-use Rattle.std.specs.List.{AllByRecursion}
-use Rattle.std.proofs.Math.Seq.{drop-cons}
-use Rattle.std.proofs.Math.Numerals.{suc-eq-add-one}
+use Rattle.std.proofs.Common.{◌≡◌, ◌++◌, ◌∙◌, ◌+◌, ◌<◌, ℕ, List, [], ◌∷◌, length, sym, ap, append_assoc, drop, get_or}
 use Rattle.canvas_shelf.specs.Disk.{Content, Segment, bytes_of}
 use Rattle.canvas_journal.specs.Opening.{paired}
-
--- the next of a list, and those behind it
-next : (i : ℕ) (l : List ℕ) → i < length l → drop i l ≡ get_or l i 0 ∷ drop (i + 1) l
-next i l less = drop-cons l i 0 less ∙ ap (λ (k : ℕ). get_or l i 0 ∷ drop k l) (suc-eq-add-one i)
-
-pub others_listed : (P : ℕ → Type 0) (i : ℕ) (l : List ℕ) → i < length l → AllByRecursion P (drop i l) → AllByRecursion P (drop (i + 1) l)
-others_listed P i l less all = let both : AllByRecursion P (get_or l i 0 ∷ drop (i + 1) l) = subst (AllByRecursion P) (next i l less) all in both.1
-
--- the next segment, and those behind it
-pairs_at : (disk : List Segment) (i : ℕ) (l : List ℕ) (n : ℕ) (bytes : List ℕ) → i < length l → n ≡ get_or l i 0 → bytes ≡ bytes_of n disk
-    → paired disk (drop i l) ≡ (n, bytes) ∷ paired disk (drop (i + 1) l)
-pairs_at disk i l n bytes less is held =
-    ap (paired disk) (next i l less)
-    ∙ ap (λ (k : ℕ). (k, bytes_of k disk) ∷ paired disk (drop (i + 1) l)) (sym is)
-    ∙ ap (λ (b : List ℕ). (n, b) ∷ paired disk (drop (i + 1) l)) (sym held)
+use Rattle.canvas_care.proofs.Lines.{pairs_at}
 
 -- one more copy
 pub copied_on : (disk : List Segment) (i : ℕ) (l : List ℕ) (n : ℕ) (bytes : List ℕ) (old new whole : Content) → i < length l → n ≡ get_or l i 0 → bytes ≡ bytes_of n disk

@@ -1,12 +1,12 @@
 -- Meant for the crates above too.
 pub mod Stored
+pub mod Tested
 -- For the calls of this crate alone.
 mod EntryForms
 mod MessageForms
 mod CheckpointForms
 mod HeadForms
 mod Decoding
-mod Tested
 mod Entry
 mod Message
 mod CopyTexts

@@ -1,8 +1,8 @@
 use Rattle.std.proofs.Common.{◌≤◌, Some, ap, sym, subst, ◌∙◌, arith}
 use Rattle.serde_json.specs.Data as D
 use Rattle.serde_json.specs.Written.{has_float, compact_text}
+use Rattle.canvas_forms.proofs.Texts.{ids_nest, ids_no_float}
 use Rattle.canvas_embed.specs.Ids.{ids_form}
-use Rattle.canvas_embed.proofs.IdTexts.{ids_no_float, ids_nest}
 use Rattle.canvas_embed.proofs.ids.ids_text.Goals as goal
 
 pub returns : goal.returns

@@ -1,7 +1,7 @@
 use Rattle.std.proofs.Common.{◌≡◌, ◌∙◌, true, sym, subst}
 use Rattle.std.specs.List.{AllByRecursion}
 use Rattle.canvas_shelf.specs.Disk.{is_listed}
-use Rattle.canvas_journal_tests.proofs.Listed.{each_listed}
+use Rattle.canvas_journal.proofs.Paired.{each_listed}
 use Rattle.canvas_journal_tests.proofs.takeovers.holds.Goals as goal
 
 pub loop-number-init : goal.loop-number-init

@@ -4,7 +4,8 @@ use Rattle.std.specs.List.{AllByRecursion}
 use Rattle.canvas_shelf.specs.Disk.{Content, bytes_of, is_listed}
 use Rattle.canvas_journal.specs.Opening.{paired}
 use Rattle.canvas_journal.proofs.Paired.{each_listed, seen_paired}
-use Rattle.canvas_places.proofs.Copying.{copied_on, others_listed}
+use Rattle.canvas_care.proofs.Lines.{tail_listed}
+use Rattle.canvas_places.proofs.Copying.{copied_on}
 use Rattle.canvas_places.proofs.losing.keep_each.Goals as goal
 
 pub loop-number-init : goal.loop-number-init
@@ -33,7 +34,7 @@ loop-number-preserved g c =
       honest = c.read.ensures.honest ∙ inv.honest;
       keeps = c.put.ensures.honest ∙ inv.keeps;
       disk = λ h. (c.read.ensures.disk (still h)).0 ∙ inv.disk h;
-      listed = λ h. others_listed (λ n. is_listed n disk ≡ true) i l c.loop-number-test.true (inv.listed h);
+      listed = λ h. tail_listed (λ n. is_listed n disk ≡ true) i l c.loop-number-test.true (inv.listed h);
       kept = λ h k. copied_on disk i l n bytes (g.C.Copies.kept c.loop-number.copies) (g.C.Copies.kept c.put.new.self) _ c.loop-number-test.true refl
           (c.deref.ensures.value ∙ c.in_ok-bytes.ensures.bytes (still h) ∙ ap (bytes_of n) (inv.disk h)) (c.in_ok-put.ensures.kept (keeps k)) (inv.kept h k);
     }
