@@ -138,6 +138,7 @@ impl<R: Net<Stream = TcpStream> + Clock + RandomSource + AllocGlobal + Clone + D
         revision: &mut u64,
         last: &mut Vec<Place>,
     ) -> Result<bool, StoreError> {
+        self.owner.turns.require_unreleased()?;
         let found = self.owner.wire.names(keys, NAMES, *revision)?;
         if *revision == 0 {
             *revision = found.revision;
@@ -191,6 +192,7 @@ impl<R: Net<Stream = TcpStream> + Clock + RandomSource + AllocGlobal + Clone + D
         let mut keys = chunks_of(self.alloc(), &self.owner.name, number)?;
         let revision = self.revision();
         for _ in 0..u64::MAX {
+            self.owner.turns.require_unreleased()?;
             let found = self.owner.wire.names(&keys, NAMES, revision)?;
             if !note_starts(&self.owner.name, number, &found, &mut keys, &mut starts)? {
                 break;
@@ -214,6 +216,7 @@ impl<R: Net<Stream = TcpStream> + Clock + RandomSource + AllocGlobal + Clone + D
         })?;
         let count = starts.len() as u64;
         let revision = self.revision();
+        self.owner.turns.require_unreleased()?;
         let found = self.owner.wire.values(&keys, count, revision)?;
         join_found(&self.owner.name, &found, number, starts, bytes)
     }

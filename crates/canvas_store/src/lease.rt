@@ -42,10 +42,12 @@ impl<R: Net<Stream = TcpStream> + Clock + RandomSource + AllocGlobal + Clone + D
         self.owner.renew(limit)
     }
 
-    /// Ends the lease, so that another can take the document over at once. Call it once nothing is written any more.
+    /// Ends the lease, so that another can take the document over at once. From then on no handle of this owner reads a chunk or begins a
+    /// transaction: `Lost`. So a store that is being opened by another thread stops at its next request.
     ///
     /// Any error but `Memory` says that no endpoint told: then the lease ends by itself. `Memory` if memory runs out.
     pub fn release(mut self) -> Result<(), StoreError> {
+        self.owner.turns.release();
         let lease = self.owner.turns.lease();
         self.owner.revoke(lease)
     }

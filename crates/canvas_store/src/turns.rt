@@ -8,7 +8,7 @@ use canvas_etcd::{Mark, Turn};
 use canvas_gateway::{Committed, owner_value};
 use std::alloc::{AllocError, Global};
 use std::sync::Arc;
-use std::sync::atomic::{AtomicU64, Ordering};
+use std::sync::atomic::{AtomicBool, AtomicU64, Ordering};
 
 // The cells.
 #[derive(Drop)]
@@ -19,6 +19,8 @@ struct Cells {
     begun: AtomicU64,
     // That of the last transaction that was done.
     done: AtomicU64,
+    // True once the lease was released.
+    is_released: AtomicBool,
 }
 
 // The transactions of an owner, numbered for all its handles. Of two that are under way at once, one is refused.
@@ -39,6 +41,7 @@ impl Turns {
             lease: AtomicU64::new(0),
             begun: AtomicU64::new(0),
             done: AtomicU64::new(0),
+            is_released: AtomicBool::new(false),
         };
         Ok(Turns {
             cells: Arc::new(alloc, cells)?,
@@ -68,8 +71,22 @@ impl Turns {
         }
     }
 
-    // The next turn, with a number that no other has. `Lost` where the document wasn't taken over.
+    // The lease is released: no handle of this owner reads a chunk or begins a transaction from now on.
+    pub(crate) fn release(&self) {
+        self.cells.is_released.store(true, Ordering::SeqCst);
+    }
+
+    // `Lost` if the lease was released.
+    pub(crate) fn require_unreleased(&self) -> Result<(), StoreError> {
+        if self.cells.is_released.load(Ordering::SeqCst) {
+            return Err(StoreError::Lost);
+        }
+        Ok(())
+    }
+
+    // The next turn, with a number that no other has. `Lost` where the document wasn't taken over, or the lease was released.
     pub(crate) fn next(&self) -> Result<Turn, StoreError> {
+        self.require_unreleased()?;
         let Some(last) = self.mark() else {
             return Err(StoreError::Lost);
         };
