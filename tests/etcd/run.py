@@ -17,7 +17,8 @@ own on loopback; only the named groups, where some are named.
   member is killed, and the leader moves: no server ends, and every acknowledged edit is there exactly once.
 - slow: all members are silent, send a byte each 1.5 seconds, errors or nonsense; only the lease isn't renewed; the owner's key is deleted.
   Each server, idle, reports `serving` for at most a lease and a second, and ends with status 10.
-- opens: documents of 30,000 chunks and of 300,000 objects open, with each answer 10 ms late, while a standby waits.
+- opens: documents of 30,000 chunks and of 300,000 objects open, with each answer 10 ms late, while a standby waits. A server whose stop file
+  comes while it opens them releases its lease within a second and a half, and ends with status 0.
 - backs: a snapshot is put back under an idle server, as the same cluster and as another: the next edit isn't acknowledged, the server ends with
   status 4 or 10, and no edit that is acknowledged later is lost.
 - doubles: transactions are sent again, late, also past a checkpoint, and also if the first was lost: the server continues, and `check` and
@@ -425,21 +426,44 @@ def many_chunks(etcd, name, objects, chunks):
     put_all(etcd, pairs)
 
 
+def stopped_openings(etcd, front, name, moments, most):
+    """Stops a server at each of these seconds after it took the document over, while it opens it, and requires that it ends in so many seconds at
+    most: it notices only between two requests. After how many seconds the document was free, and the server had ended."""
+    told = []
+    for number, moment in enumerate(moments):
+        file = os.path.join(etcd.room, f"stop-{name}-{number}")
+        server = Served(front, *["--standby"][:number % 2], "--stop-file", file, name=name, listens=False)
+        until(lambda: etcd.keys(f"lugcurrant/{name}/owner"), 30, "nobody takes the document over", tend=server.require_running)
+        time.sleep(moment)
+        require(not server.serves(), "a document is open", moment, "s after it was taken over")
+        ending.touch(file)
+        start = time.monotonic()
+        free = etcd.await_free(name)
+        require(free <= 1.5, "a server that is stopped while it opens its document has it for", free, "s")
+        until(lambda: server.process.poll() is not None, most, "a server that is stopped while it opens its document doesn't end")
+        require(server.process.returncode == 0, "a server that is stopped while it opens ends with", server.process.returncode, server.text()[-300:])
+        lines = server.text().splitlines()
+        require(all(line.startswith(f"opening the document {name}: ") for line in lines), "a server that is stopped tells", lines[-3:])
+        told.append(f"{free:.1f} ({time.monotonic() - start:.1f})")
+    return told
+
+
 def opens(room):
     etcd, told = Etcd(room), []
     many_chunks(etcd, "chunks", 30_000, 30_000)
     rows = [ROOT] + [text_of([[1, number], *page(1, number)[2:], [["text", "x" * 64]]]) + "\n" for number in range(1, 300_001)]
     call("import", *etcd.words("objects"), text="".join(rows).encode())
-    for name, version, count in (("chunks", 30_002, 30_001), ("objects", 2, 300_001)):
+    for name, version, count, moments, most in (("chunks", 30_002, 30_001, (0.3, 1.2, 2.5), 3), ("objects", 2, 300_001, (1, 3, 5), 30)):
         etcd.await_free(name)
         front = Front(etcd, name)
         front.begin("late", millis=10)
+        stops = stopped_openings(etcd, front, name, moments, most)
         start = time.monotonic()
         server = Served(front, "--standby", name=name, listens=False)
         until(lambda: etcd.keys(f"lugcurrant/{name}/owner"), 30, "nobody takes the document over", tend=server.require_running)
         other = Served(front, "--standby", name=name, listens=False).await_waiting()
         server.await_serving(45)
-        told.append(f"{name} {time.monotonic() - start:.1f} s")
+        told.append(f"{name} {time.monotonic() - start:.1f} s, and free (ended) after a stop in {', '.join(stops)} s")
         found, shown = read_all(server.port)
         require((found, len(shown)) == (version, count), "a document of", name, "has version", found, "and", len(shown), "rows")
         draw(server, 3)

@@ -1,10 +1,11 @@
 // What a server of a document in an etcd has before it serves: the document, which it has taken over, and the lease of that.
 ghost use Rattle.std.specs.Prelude.{◌≡◌, ◌⊎◌, IfErr, IfOk, string_bytes};
 ghost use Rattle.canvas_http.specs.Identities.{IsIdentity};
-ghost use Rattle.canvas_places.specs.Faults.{IsNamingFault, IsOpeningFault, IsPreparingFault, IsThreadFault};
+ghost use Rattle.canvas_places.specs.Faults.{IsNamingFault, IsOpeningFault, IsPreparingFault, IsStopFault, IsThreadFault};
 
 use crate::opening::{Counted, OpenRoom, listen, room_of};
 use crate::progress::Progress;
+use crate::stopping::StopFile;
 use canvas_etcd::EtcdShelf;
 use canvas_faults::{Fault, fault_of_etcd, of_document};
 use canvas_gateway::copy_hosts;
@@ -55,12 +56,13 @@ pub(crate) struct Taken<S: Shelf> {
 }
 
 /// Listens, and takes a document over. Its lease is kept alive from the takeover on. If opening it takes long, a line is logged every two
-/// seconds.
+/// seconds. `Stopped` if the file that stops the server comes while the document is being opened: then the lease is released.
 pub(crate) fn take_document<R>(
     rt: &R,
     files: HostRuntime,
     address: &Address,
     serving: &Serving,
+    stop: &StopFile,
 ) -> Result<Taken<DocumentShelf<R>>, Fault>
 where
     R: Net<Listener = TcpListener, Stream = TcpStream>
@@ -75,13 +77,20 @@ where
         + Drop
         + 'static,
     ensures named { IfOk result (λ taken. IsIdentity (string_bytes taken.identity)) }
-    ensures faults { IfErr result (λ fault. IsPreparingFault serving.now.clients fault ⊎ IsThreadFault fault) }
+    ensures faults { IfErr result (λ fault. IsPreparingFault serving.now.clients fault ⊎ IsThreadFault fault ⊎ IsStopFault stop.now.path fault) }
 {
     let listener = listen(rt, serving.port)?;
-    let progress = Progress::begin(rt, &address.name, serving.quiet)?;
-    let opened = take_over(rt, files, address, serving.clients as usize);
+    let store = store_of(rt, files.alloc(), address)?;
+    let progress = Progress::begin(rt, &address.name, serving.quiet, stop, store.lease()?)?;
+    let taken = take_over(rt, files, store, serving.clients as usize);
     progress.end();
-    let (opened, identity, tenure) = opened?;
+    if stop.has_come() {
+        if let Ok((_, _, tenure)) = &taken {
+            tenure.lease.release(rt);
+        }
+        return Err(Fault::Stopped);
+    }
+    let (opened, identity, tenure) = taken?;
     Ok(Taken {
         listener,
         opened,
@@ -97,7 +106,7 @@ type OpenDocument<R> = (OpenRoom<DocumentShelf<R>>, String, Tenure);
 fn take_over<R>(
     rt: &R,
     files: HostRuntime,
-    address: &Address,
+    store: EtcdStore<R>,
     seats: usize,
 ) -> Result<OpenDocument<R>, Fault>
 where
@@ -115,15 +124,14 @@ where
     ensures faults { IfErr result (λ fault. IsOpeningFault seats fault ⊎ IsThreadFault fault) }
 {
     let alloc = files.alloc();
-    let store = store_of(rt, alloc, address)?;
     let causes = store.causes()?;
     let mut own = store.lease()?;
     let term = Term::new(rt);
     let shelf = match EtcdShelf::open(alloc, store) {
         Ok(shelf) => shelf,
         Err(error) => {
-            if matches!(causes.last(), Some(StoreError::Damaged)) {
-                // No server must wait for the end of a lease under which nothing can be opened.
+            if matches!(causes.last(), Some(StoreError::Damaged | StoreError::Lost)) {
+                // No server must wait for the end of a lease under which nothing can be opened, or isn't any more.
                 let _ = own.release();
             }
             return Err(fault_of_etcd(error, causes.last()));

@@ -44,7 +44,8 @@ const DOORS: u32 = 16;
 /// connection has ended serves the next one. A client more is turned away, and other requests are answered as `canvas_http` says.
 /// A folder is made where it is missing, and nobody else can open it to write meanwhile. A document in an etcd is taken over, under a
 /// lease that a thread keeps alive from then on; a standby waits until nobody has it, and doesn't listen before. A `kill` at any moment is
-/// safe. Once the file of `stop_file` is there, nothing more is judged, the lease is released, and the server ends: `Stopped`.
+/// safe. Once the file of `stop_file` is there, nothing more is judged, the lease is released, and the server ends: `Stopped`. A document
+/// in an etcd isn't opened to its end then.
 ///
 /// The faults: `StopFile`, if that file is there before, and then nothing was touched; `NoPage`, where the options name the folder of a page
 /// and no file `index.html` can be read in it, and `PortInUse`, `PortDenied` and `NoPort`, where the port can't be had, and then the document is left alone; `ClientCount`, only for fewer clients than 1 or more than
@@ -220,7 +221,7 @@ where
     let taken = if serving.is_standby {
         await_document(rt, files, address, &serving, stop)?
     } else {
-        take_document(rt, files, address, &serving)?
+        take_document(rt, files, address, &serving, stop)?
     };
     let Taken {
         listener,

@@ -48,6 +48,7 @@ pub(crate) type OwnFolder = FolderShelf<OsFolder<HostRuntime>>;
 pub(crate) type FolderJournal = Counted<OwnFolder>;
 
 /// The room of a document, without a name yet, and what is counted and noted of its journal.
+#[derive(Drop)]
 pub(crate) struct OpenRoom<S: Shelf> {
     /// The room.
     pub(crate) room: BlankRoom<Counted<S>>,

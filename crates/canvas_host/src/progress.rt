@@ -1,17 +1,21 @@
-// What is logged while a document in an etcd is being opened.
+// What is done while a document in an etcd is being opened: that is logged, and its lease is released if the server is stopped.
 ghost use Rattle.std.specs.Prelude.{IfErr};
 ghost use Rattle.canvas_places.specs.Faults.{IsThreadFault};
 
+use crate::stopping::StopFile;
 use canvas_faults::Fault;
 use canvas_places::{Task, begin_task};
+use canvas_store::Lease;
 use std::alloc::Global;
 use std::io::Eprint;
+use std::net::{Net, TcpListener, TcpStream};
+use std::random::RandomSource;
 use std::sync::Arc;
 use std::sync::atomic::{AtomicBool, Ordering};
 use std::thread::{Threads, sleep};
 use std::time::{Clock, Duration};
 
-// How often a thread looks whether the document is open.
+// How often a thread looks whether the document is open, and whether the server must stop.
 const LOOK_MILLIS: u64 = 100;
 
 // How many looks a second are, and after how many a line is logged.
@@ -19,7 +23,8 @@ const LOOKS_A_SECOND: u64 = 10;
 
 const LOOKS_A_LINE: u64 = 20;
 
-/// A thread that logs every two seconds for how long a document has been being opened, until it is.
+/// A thread that runs until a document is open. Every two seconds it logs for how long the document has been being opened. If the file comes that
+/// stops the server, it releases the lease, and the opening fails.
 pub(crate) struct Progress {
     is_done: Arc<AtomicBool, Global>,
 }
@@ -31,21 +36,37 @@ impl Drop for Progress {
 }
 
 impl Progress {
-    /// Logs the document of this name, unless only faults are logged.
-    pub(crate) fn begin<R>(rt: &R, name: &str, quiet: bool) -> Result<Progress, Fault>
+    /// Begins it for the document of this name, which is opened under this lease. If only faults are logged, it logs nothing.
+    pub(crate) fn begin<R>(
+        rt: &R,
+        name: &str,
+        quiet: bool,
+        stop: &StopFile,
+        lease: Lease<R>,
+    ) -> Result<Progress, Fault>
     where
-        R: Threads + Clock + Eprint + AllocGlobal + Clone + Send + Drop + 'static,
+        R: Net<Listener = TcpListener, Stream = TcpStream>
+            + Threads
+            + Clock
+            + RandomSource
+            + Eprint
+            + AllocGlobal
+            + Clone
+            + Send
+            + Drop
+            + 'static,
         ensures { IfErr result IsThreadFault }
     {
-        let is_done = Arc::new(rt.alloc(), AtomicBool::new(quiet))?;
-        if !quiet {
-            let task = ProgressTask {
-                rt: rt.clone()?,
-                name: String::from_str(rt.alloc(), name)?,
-                is_done: Arc::try_clone(&is_done)?,
-            };
-            begin_task(rt, task)?;
-        }
+        let is_done = Arc::new(rt.alloc(), AtomicBool::new(false))?;
+        let task = ProgressTask {
+            rt: rt.clone()?,
+            name: String::from_str(rt.alloc(), name)?,
+            quiet,
+            stop: stop.another()?,
+            lease,
+            is_done: Arc::try_clone(&is_done)?,
+        };
+        begin_task(rt, task)?;
         Ok(Progress { is_done })
     }
 
@@ -56,22 +77,54 @@ impl Progress {
 }
 
 /// What the thread has.
-#[derive(Drop)]
-struct ProgressTask<R: Drop> {
+struct ProgressTask<
+    R: Net<Stream = TcpStream> + Clock + RandomSource + AllocGlobal + Clone + Drop,
+> {
     rt: R,
     name: String,
+    quiet: bool,
+    stop: StopFile,
+    lease: Lease<R>,
     is_done: Arc<AtomicBool, Global>,
 }
 
-impl<R: Clock + Eprint + Drop> Task for ProgressTask<R> {
+impl<R: Net<Stream = TcpStream> + Clock + RandomSource + AllocGlobal + Clone + Drop> Drop
+    for ProgressTask<R> {
+    fn drop(self) {
+        let ProgressTask {
+            rt: _,
+            name: _,
+            quiet: _,
+            stop: _,
+            lease: _,
+            is_done: _,
+        } = self;
+    }
+}
+
+impl<R> Task for ProgressTask<R>
+where
+    R: Net<Stream = TcpStream> + Clock + RandomSource + Eprint + AllocGlobal + Clone + Drop,
+{
     fn run(self) {
-        let ProgressTask { rt, name, is_done } = self;
+        let ProgressTask {
+            rt,
+            name,
+            quiet,
+            stop,
+            lease,
+            is_done,
+        } = self;
         for look in 1..u64::MAX {
             sleep(&rt, Duration::from_millis(LOOK_MILLIS));
             if is_done.load(Ordering::SeqCst) {
                 return;
             }
-            if look % LOOKS_A_LINE == 0 {
+            if stop.has_come() {
+                let _ = lease.release();
+                return;
+            }
+            if !quiet && look % LOOKS_A_LINE == 0 {
                 tell(&rt, &name, look / LOOKS_A_SECOND);
             }
         }

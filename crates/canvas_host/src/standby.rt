@@ -71,7 +71,7 @@ where
     let mut store = store_of(rt, files.alloc(), address)?;
     let mut told = None;
     for _ in rt.forever() {
-        let obstacle = match try_document(rt, files, address, serving, &mut store)? {
+        let obstacle = match try_document(rt, files, address, serving, stop, &mut store)? {
             Ok(taken) => return Ok(taken),
             Err(obstacle) => obstacle,
         };
@@ -92,6 +92,7 @@ fn try_document<R>(
     files: HostRuntime,
     address: &Address,
     serving: &Serving,
+    stop: &StopFile,
     store: &mut EtcdStore<R>,
 ) -> Result<Result<Taken<DocumentShelf<R>>, Obstacle>, Fault>
 where
@@ -107,14 +108,14 @@ where
         + Drop
         + 'static,
     ensures named { IfOk result (λ tried. IfOk tried (λ taken. IsIdentity (string_bytes taken.identity))) }
-    ensures faults { IfErr result (λ fault. IsPreparingFault serving.now.clients fault ⊎ IsThreadFault fault) }
+    ensures faults { IfErr result (λ fault. IsPreparingFault serving.now.clients fault ⊎ IsThreadFault fault ⊎ IsStopFault stop.now.path fault) }
 {
     match store.is_owned() {
         Ok(true) => return Ok(Err(Obstacle::Owner)),
         Ok(false) => {}
         Err(why) => return Ok(Err(Obstacle::Silence(why))),
     }
-    match take_document(rt, files, address, serving) {
+    match take_document(rt, files, address, serving, stop) {
         Ok(taken) => Ok(Ok(taken)),
         Err(Fault::InUse) => Ok(Err(Obstacle::Owner)),
         Err(Fault::NoStore { why }) if why != StoreError::Damaged => Ok(Err(Obstacle::Failure(

@@ -3,6 +3,7 @@ ghost use Rattle.std.specs.Prelude.{◌≡◌, IfErr, IsSome, IsTrue};
 ghost use Rattle.canvas_places.specs.Faults.{IsStopFault};
 
 use canvas_faults::Fault;
+use std::alloc::AllocError;
 use std::fs;
 
 /// The file at which a server ends, if one is named.
@@ -20,6 +21,14 @@ impl Drop for StopFile {
 }
 
 impl StopFile {
+    /// The same file, for another thread. Errors: out of memory.
+    pub(crate) fn another(&self) -> Result<StopFile, AllocError> {
+        Ok(StopFile {
+            files: self.files,
+            path: self.path.clone()?,
+        })
+    }
+
     /// Looks whether the file isn't there yet, before a server starts: `StopFile` if it is, or can't be looked at.
     pub(crate) fn look_first(&self) -> Result<(), Fault>
         ensures { IfErr result (IsStopFault self.now.path) }
