@@ -9,7 +9,7 @@
 - `canvasd serve` with a session of a client, which asks what is answered No 7 once more, and comes back where its connection ends. Each of
   its edits then stands once, in order, also in the folder. Where the server can't begin to serve, or to write its last line, it ends with
   status 3; what was answered stands then too.
-- `canvas_stops` with a room's script, of which it says what each line is answered; then with two calls in a row refused. Each answer is that
+- `test_stops` with a room's script, of which it says what each line is answered; then with two calls in a row refused. Each answer is that
   of a room in the state that stands then: a line that is refused memory has changed nothing and is answered as usual the next time; an entry
   that is owed (by a submit, a batch, or told by a checkpoint) is published by the next line, before that one's own; where memory is
   refused inside of the shelf, Device is answered once, and then Failed. Each of the three is met. A program whose own call is refused ends

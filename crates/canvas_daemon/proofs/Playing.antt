@@ -5,8 +5,8 @@ use Rattle.std.proofs.KnownBytes.{Appends-nil, Appends-trans}
 use Rattle.std.specs.Io.KnownBytes.{Appends}
 use Rattle.canvas_model.specs.Client.{Client}
 use Rattle.canvas_nodes.specs.GoesOn.{GoesOn}
-use Rattle.canvas_daemon.specs.declared.fault.Fault.{Fault}
-use Rattle.canvas_daemon.specs.declared.fault.Fault.TheVariants.{Usage, BadLine, Memory, Device, Damaged, TooLarge}
+use Rattle.canvas_daemon.specs.declared.fault.DaemonFault.{DaemonFault}
+use Rattle.canvas_daemon.specs.declared.fault.DaemonFault.TheVariants.{Usage, BadLine, Memory, Device, Damaged, TooLarge}
 use Rattle.canvas_daemon.specs.Faults.{IsMemoryOrDevice}
 use Rattle.canvas_daemon.specs.Answered.{AnswersLine, HasJoined, IsUnreadable, PlaysEach, PlaysLine, WritesBlock, version_line}
 use Rattle.canvas_daemon.specs.Edited.{HasEnded, IsCutBy, IsCutShort, IsLeftBy, IsLineCutBy, IsPlayed, Plays, PlaysAll, TakesLines}
@@ -60,7 +60,7 @@ cut_short old mid read left written after plays = record {
 }
 
 -- a fault of the input ends the lines
-pub cut_at_reading : (old mid : Client) (read between left written after : Option (List ℕ)) (fault : Fault) → Plays old read between written after mid → IsMemoryOrDevice fault → IsCutBy old read left written after fault
+pub cut_at_reading : (old mid : Client) (read between left written after : Option (List ℕ)) (fault : DaemonFault) → Plays old read between written after mid → IsMemoryOrDevice fault → IsCutBy old read left written after fault
 cut_at_reading old mid read between left written after Usage plays is = is
 cut_at_reading old mid read between left written after (BadLine n) plays is = absurd is
 cut_at_reading old mid read between left written after Memory plays is = cut_short old mid read between written after plays
@@ -69,7 +69,7 @@ cut_at_reading old mid read between left written after (Damaged segment offset) 
 cut_at_reading old mid read between left written after TooLarge plays is = is
 
 -- a fault of the next line ends the lines
-pub cut_at_line : (old mid : Client) (read between left written told after : Option (List ℕ)) (line : List ℕ) (number : ℕ) (fault : Fault) → PlaysBefore old read between written told mid number
+pub cut_at_line : (old mid : Client) (read between left written told after : Option (List ℕ)) (line : List ℕ) (number : ℕ) (fault : DaemonFault) → PlaysBefore old read between written told mid number
     → TakesLines between left (line ∷ []) → IsLineCutBy number (IsUnreadable line) told after fault → IsCutBy old read left written after fault
 cut_at_line old mid read between left written told after line number Usage plays taken cut = cut
 cut_at_line old mid read between left written told after line number (BadLine n) (plays, counted) taken (is, unreadable, same) = record {
@@ -90,7 +90,7 @@ cut_at_line old mid read between left written told after line number (Damaged se
 cut_at_line old mid read between left written told after line number TooLarge plays taken cut = cut
 
 -- a client that had joined was cut in its lines
-pub left_by_cut : (joined : Client) (read left written after : Option (List ℕ)) (fault : Fault) → HasJoined joined → IsCutBy joined read left written after fault → IsLeftBy read left written after fault
+pub left_by_cut : (joined : Client) (read left written after : Option (List ℕ)) (fault : DaemonFault) → HasJoined joined → IsCutBy joined read left written after fault → IsLeftBy read left written after fault
 left_by_cut joined read left written after Usage has cut = cut
 left_by_cut joined read left written after (BadLine n) has cut = (joined, has, cut)
 left_by_cut joined read left written after Memory has cut = inr (inl (joined, has, cut))
@@ -99,7 +99,7 @@ left_by_cut joined read left written after (Damaged segment offset) has cut = cu
 left_by_cut joined read left written after TooLarge has cut = cut
 
 -- after all lines nothing more was written
-pub left_at_end : (joined between : Client) (read left written told after : Option (List ℕ)) (fault : Fault) → HasJoined joined → PlaysAll joined read left written told between → IsMemoryOrDevice fault
+pub left_at_end : (joined between : Client) (read left written told after : Option (List ℕ)) (fault : DaemonFault) → HasJoined joined → PlaysAll joined read left written told between → IsMemoryOrDevice fault
     → ((fault ≡ Device → ⊥) → after ≡ told) → IsLeftBy read left written after fault
 left_at_end joined between read left written told after Usage has all is same = is
 left_at_end joined between read left written told after (BadLine n) has all is same = absurd is
@@ -111,7 +111,7 @@ left_at_end joined between read left written told after (Damaged segment offset)
 left_at_end joined between read left written told after TooLarge has all is same = is
 
 -- after all lines and the version nothing more was written
-pub left_unshown : (joined between last : Client) (read left written answered told after : Option (List ℕ)) (fault : Fault) → HasJoined joined → PlaysAll joined read left written answered between → GoesOn between last
+pub left_unshown : (joined between last : Client) (read left written answered told after : Option (List ℕ)) (fault : DaemonFault) → HasJoined joined → PlaysAll joined read left written answered between → GoesOn between last
     → Appends answered told (version_line last) → IsMemoryOrDevice fault → ((fault ≡ Device → ⊥) → after ≡ told) → IsLeftBy read left written after fault
 left_unshown joined between last read left written answered told after Usage has all goes_on tells is same = is
 left_unshown joined between last read left written answered told after (BadLine n) has all goes_on tells is same = absurd is

@@ -4,8 +4,8 @@ use Rattle.std.specs.Io.KnownBytes.{Appends, IsAtEnd}
 use Rattle.canvas_model.specs.Client.{Client}
 use Rattle.canvas_nodes.specs.GoesOn.{GoesOn}
 use Rattle.canvas_lines.specs.Lines.{lines_of}
-use Rattle.canvas_daemon.specs.declared.fault.Fault.{Fault}
-use Rattle.canvas_daemon.specs.declared.fault.Fault.TheVariants.{Usage, BadLine, Memory, Device, Damaged, TooLarge}
+use Rattle.canvas_daemon.specs.declared.fault.DaemonFault.{DaemonFault}
+use Rattle.canvas_daemon.specs.declared.fault.DaemonFault.TheVariants.{Usage, BadLine, Memory, Device, Damaged, TooLarge}
 use Rattle.canvas_daemon.specs.Answered.{HasJoined, IsOwnBlock, IsUnreadable, PlaysEach, version_line}
 
 -- these lines were taken from the front of the input, where what it holds is known
@@ -56,7 +56,7 @@ pub record IsCutShort (old : Client) (read written after : Option (List ℕ)) : 
   pub is_written : Appends written after answers
 
 -- the fault ended a line of this number, which P says can't be read, and nothing was written; with a failed device that isn't known
-abbrev pub IsLineCutBy : ℕ → Type 0 → Option (List ℕ) → Option (List ℕ) → Fault → Type 0
+abbrev pub IsLineCutBy : ℕ → Type 0 → Option (List ℕ) → Option (List ℕ) → DaemonFault → Type 0
 IsLineCutBy number P written after Usage = ⊥
 IsLineCutBy number P written after (BadLine n) = (n ≡ number) × P × (after ≡ written)
 IsLineCutBy number P written after Memory = after ≡ written
@@ -65,7 +65,7 @@ IsLineCutBy number P written after (Damaged segment offset) = ⊥
 IsLineCutBy number P written after TooLarge = ⊥
 
 -- the fault ended the lines; with a failed device what was written isn't known
-abbrev pub IsCutBy : Client → (read left written after : Option (List ℕ)) → Fault → Type 0
+abbrev pub IsCutBy : Client → (read left written after : Option (List ℕ)) → DaemonFault → Type 0
 IsCutBy old read left written after Usage = ⊥
 IsCutBy old read left written after (BadLine n) = IsCutAt old read left written after n
 IsCutBy old read left written after Memory = IsCutShort old read written after
@@ -106,7 +106,7 @@ pub record IsUnshown (read left written after : Option (List ℕ)) : Type 0 wher
 
 -- What a fault leaves: for a bad line what a client wrote that had joined and was cut there; for want of memory nothing, or what it wrote
 -- that was cut, maybe before its block; with a failed device what was written isn't known.
-abbrev pub IsLeftBy : (read left written after : Option (List ℕ)) → Fault → Type 0
+abbrev pub IsLeftBy : (read left written after : Option (List ℕ)) → DaemonFault → Type 0
 IsLeftBy read left written after Usage = ⊥
 IsLeftBy read left written after (BadLine n) = (joined : Client) × HasJoined joined × IsCutAt joined read left written after n
 IsLeftBy read left written after Memory = (after ≡ written) ⊎ ((joined : Client) × HasJoined joined × IsCutShort joined read written after) ⊎ IsUnshown read left written after

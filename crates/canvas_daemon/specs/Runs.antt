@@ -1,7 +1,7 @@
 -- What a run of the program does, by the words that it is called with.
 use Rattle.std.specs.Prelude.{◌≡◌, ◌⊎◌, ℕ, Bool, true, false, List, Option}
-use Rattle.canvas_daemon.specs.declared.fault.Fault.{Fault}
-use Rattle.canvas_daemon.specs.declared.fault.Fault.TheVariants.{Usage, Device}
+use Rattle.canvas_daemon.specs.declared.fault.DaemonFault.{DaemonFault}
+use Rattle.canvas_daemon.specs.declared.fault.DaemonFault.TheVariants.{Usage, Device}
 use Rattle.canvas_daemon.specs.Faults.{IsEnd}
 use Rattle.canvas_daemon.specs.Words.{Asked, AsksServe, AsksEdit, AsksShow, AsksTrial, AskFor}
 use Rattle.canvas_daemon.specs.Served.{BeginsServing, IsServeFault, WritesServed}
@@ -27,11 +27,11 @@ IsDone (AsksShow dir) status read left written after = (status ≡ 0) × (left �
 IsDone (AsksTrial dir) status read left written after = (equal : Bool) × (status ≡ trial_status equal) × (left ≡ read) × WritesTrial equal written after
 
 -- a fault other than a failed device leaves the output so
-abbrev pub Leaves : Fault → Type 0 → Type 0
+abbrev pub Leaves : DaemonFault → Type 0 → Type 0
 Leaves fault P = (fault ≡ Device → ⊥) → P
 
 -- what was asked for was ended by this fault: which it may be, and what was read and written
-abbrev pub IsEndedBy : Asked → Fault → (read left written after : Option (List ℕ)) → Type 0
+abbrev pub IsEndedBy : Asked → DaemonFault → (read left written after : Option (List ℕ)) → Type 0
 IsEndedBy (AsksServe dir port count) fault read left written after = IsServeFault count fault × (left ≡ read) × Leaves fault (BeginsServing port written after)
 IsEndedBy (AsksEdit port) fault read left written after = IsLeftBy read left written after fault
 IsEndedBy (AsksShow dir) fault read left written after = IsShowFault fault × (left ≡ read) × Leaves fault (after ≡ written)
@@ -46,7 +46,7 @@ abbrev pub Does : List (List ℕ) → ℕ → (read left written after : Option 
 Does words status read left written after = (asked : Asked) × AskFor words asked × IsDone asked status read left written after
 
 -- the words ask for something that this fault ended; or they ask for nothing, which is the fault
-abbrev pub Fails : List (List ℕ) → (read left written after : Option (List ℕ)) → Fault → Type 0
+abbrev pub Fails : List (List ℕ) → (read left written after : Option (List ℕ)) → DaemonFault → Type 0
 Fails words read left written after fault =
     ((asked : Asked) × AskFor words asked × IsEndedBy asked fault read left written after)
     ⊎ ((fault ≡ Usage) × IsUnasked words read left written after)
@@ -56,4 +56,4 @@ Fails words read left written after fault =
 abbrev pub IsRun : List (List ℕ) → ℕ → (read left written after faults told : Option (List ℕ)) → Type 0
 IsRun words status read left written after faults told =
     (Does words status read left written after × (told ≡ faults))
-    ⊎ ((fault : Fault) × Fails words read left written after fault × IsEnd fault status faults told)
+    ⊎ ((fault : DaemonFault) × Fails words read left written after fault × IsEnd fault status faults told)

@@ -2,8 +2,8 @@
 use Rattle.std.specs.Prelude.{◌≡◌, ◌⊎◌, ℕ, List, [], ◌∷◌, ◌++◌, codes, Option}
 use Rattle.std.specs.Fmt.{decimal}
 use Rattle.std.specs.Io.KnownBytes.{Appends}
-use Rattle.canvas_daemon.specs.declared.fault.Fault.{Fault}
-use Rattle.canvas_daemon.specs.declared.fault.Fault.TheVariants.{Usage, BadLine, Memory, Device, Damaged, TooLarge}
+use Rattle.canvas_daemon.specs.declared.fault.DaemonFault.{DaemonFault}
+use Rattle.canvas_daemon.specs.declared.fault.DaemonFault.TheVariants.{Usage, BadLine, Memory, Device, Damaged, TooLarge}
 use Rattle.canvas_daemon.specs.Words.{IsConnectionCount}
 
 -- the line of a server at this port that begins at this version
@@ -35,7 +35,7 @@ abbrev pub BeginsServing : ℕ → Option (List ℕ) → Option (List ℕ) → T
 BeginsServing port before after = (after ≡ before) ⊎ WritesServing port before after
 
 -- the fault is none of lines, and one of words only where so many connections aren't served
-abbrev pub IsServeFault : ℕ → Fault → Type 0
+abbrev pub IsServeFault : ℕ → DaemonFault → Type 0
 IsServeFault count Usage = IsConnectionCount count → ⊥
 IsServeFault count (BadLine n) = ⊥
 IsServeFault count Memory = Unit {0}

@@ -5,8 +5,8 @@ use Rattle.canvas_lines.specs.Reports.{IsReportText}
 use Rattle.canvas_shelf.specs.Disk.{Segment, seen}
 use Rattle.canvas_journal.specs.Meaning.{Versioned}
 use Rattle.canvas_journal.specs.Found.{Finds, IsState}
-use Rattle.canvas_daemon.specs.declared.fault.Fault.{Fault}
-use Rattle.canvas_daemon.specs.declared.fault.Fault.TheVariants.{Usage, BadLine, Memory, Device, Damaged, TooLarge}
+use Rattle.canvas_daemon.specs.declared.fault.DaemonFault.{DaemonFault}
+use Rattle.canvas_daemon.specs.declared.fault.DaemonFault.TheVariants.{Usage, BadLine, Memory, Device, Damaged, TooLarge}
 
 -- the text of the state that recovery finds on the disk
 abbrev pub IsReportOf : List Segment → List ℕ → Type 0
@@ -17,7 +17,7 @@ abbrev pub WritesReportOf : List Segment → Option (List ℕ) → Option (List 
 WritesReportOf disk before after = (text : List ℕ) × IsReportOf disk text × Appends before after text
 
 -- the fault is none of words, lines or room
-abbrev pub IsShowFault : Fault → Type 0
+abbrev pub IsShowFault : DaemonFault → Type 0
 IsShowFault Usage = ⊥
 IsShowFault (BadLine n) = ⊥
 IsShowFault Memory = Unit {0}

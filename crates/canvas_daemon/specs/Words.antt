@@ -1,8 +1,8 @@
 -- The words that the program is called with.
 use Rattle.std.specs.Prelude.{◌≡◌, ℕ, ◌≤◌, List, [], ◌∷◌, codes}
 use Rattle.std.specs.Fmt.{decimal}
-use Rattle.canvas_daemon.specs.declared.words.Command as declared
-use Rattle.canvas_daemon.specs.declared.words.Command.TheVariants as command
+use Rattle.canvas_daemon.specs.declared.args.DaemonCommand as declared
+use Rattle.canvas_daemon.specs.declared.args.DaemonCommand.TheVariants as command
 
 -- what is asked for
 pub data Asked : Type 0 where
@@ -16,7 +16,7 @@ pub data Asked : Type 0 where
   AsksTrial : List ℕ → Asked
 
 -- what contracts see of a command
-abbrev pub seen_command : declared.Command → Asked
+abbrev pub seen_command : declared.DaemonCommand → Asked
 seen_command (command.Serve dir port connections) = AsksServe dir.now port connections
 seen_command (command.Edit port) = AsksEdit port
 seen_command (command.Show dir) = AsksShow dir.now

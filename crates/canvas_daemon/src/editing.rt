@@ -4,8 +4,8 @@ ghost use Rattle.canvas_daemon.specs.Answered.{AnswersEdit, AnswersLine, IsUnrea
 ghost use Rattle.canvas_daemon.specs.Edited.{HasEnded, IsCutBy, IsLeftBy, IsLineCutBy, IsPlayed, PlaysAll, TakesLines};
 ghost use Rattle.canvas_daemon.specs.Faults.{IsMemoryOrDevice};
 
-use crate::fault::Fault;
-use crate::node::Node;
+use crate::fault::DaemonFault;
+use crate::node::LinkedClient;
 use canvas_client::{EditError, EditRequest};
 use canvas_edit_lines::{edit_line, read_edit, refused_line};
 use canvas_lines::lines::is_passed;
@@ -25,7 +25,7 @@ use std::random::RandomSource;
 /// The errors: `BadLine`, for the first line that can't be read, and then the answers to the lines before it were written, and no more;
 /// `Device`, where the socket, the input or the output failed, or the server answered a No; `Memory`, if memory runs out, and
 /// then the answers to some of the first lines were written, with the version at most behind those to all.
-pub fn edit<R, I, W>(rt: &R, port: u16, input: &mut I, output: &mut W) -> Result<(), Fault>
+pub fn edit<R, I, W>(rt: &R, port: u16, input: &mut I, output: &mut W) -> Result<(), DaemonFault>
 where
     R: Net<Stream = TcpStream> + RandomSource + AllocGlobal + Clone + Drop,
     I: BufRead,
@@ -38,27 +38,30 @@ where
         (W.contents output.old) (W.contents output.new)) }
 {
     let alloc = rt.alloc();
-    let mut node = Node::joined(rt, connect(rt, port)?)?;
+    let mut node = LinkedClient::joined(rt, connect(rt, port)?)?;
     play(alloc, &mut node, input, output)?;
     node.exchange_and_tell(alloc, output)?;
     node.show(alloc, output)
 }
 
 /// Connects to a port of the own machine.
-pub(crate) fn connect<R: Net<Stream = TcpStream>>(rt: &R, port: u16) -> Result<TcpStream, Fault>
-    ensures { IfErr result (λ fault. fault ≡ Fault.Device) }
+pub(crate) fn connect<R: Net<Stream = TcpStream>>(
+    rt: &R,
+    port: u16,
+) -> Result<TcpStream, DaemonFault>
+    ensures { IfErr result (λ fault. fault ≡ DaemonFault.Device) }
 {
     let address = SocketAddr::from((Ipv4Addr::LOCALHOST, port));
-    TcpStream::connect(rt, address).map_err(|_| Fault::Device)
+    TcpStream::connect(rt, address).map_err(|_| DaemonFault::Device)
 }
 
 // Plays the lines of the input, in order.
 fn play<R, I, W>(
     alloc: Global,
-    node: &mut Node<R>,
+    node: &mut LinkedClient<R>,
     input: &mut I,
     output: &mut W,
-) -> Result<(), Fault>
+) -> Result<(), DaemonFault>
 where
     R: RandomSource + AllocGlobal + Clone + Drop,
     I: BufRead,
@@ -76,11 +79,11 @@ where
         };
         play_line(alloc, node, number, &line, output)?;
     }
-    Err(Fault::Device)
+    Err(DaemonFault::Device)
 }
 
 // The next line of the input, without its line feed; `None` at its end.
-fn next_line<I: BufRead>(alloc: Global, input: &mut I) -> Result<Option<Vec<u8>>, Fault>
+fn next_line<I: BufRead>(alloc: Global, input: &mut I) -> Result<Option<Vec<u8>>, DaemonFault>
     ensures taken { IfOk result (λ next. MatchOption next
         (TakesLines (I.remaining input.old) (I.remaining input.new) []
         × HasEnded (I.remaining input.old) (I.remaining input.new))
@@ -93,9 +96,9 @@ fn next_line<I: BufRead>(alloc: Global, input: &mut I) -> Result<Option<Vec<u8>>
         Ok(_) => {}
         Err(error) => {
             return Err(if error.kind() == ErrorKind::OutOfMemory {
-                Fault::Memory
+                DaemonFault::Memory
             } else {
-                Fault::Device
+                DaemonFault::Device
             });
         }
     }
@@ -118,11 +121,11 @@ fn ends_with_feed(text: &[u8]) -> bool
 // Does what a line asks for, and writes its answer.
 fn play_line<R, W>(
     alloc: Global,
-    node: &mut Node<R>,
+    node: &mut LinkedClient<R>,
     number: u64,
     line: &[u8],
     output: &mut W,
-) -> Result<(), Fault>
+) -> Result<(), DaemonFault>
 where
     R: RandomSource + AllocGlobal + Clone + Drop,
     W: Write,
@@ -144,11 +147,11 @@ where
 // Makes the edit that a line spells, and writes its answer.
 fn play_edit<R, W>(
     alloc: Global,
-    node: &mut Node<R>,
+    node: &mut LinkedClient<R>,
     number: u64,
     line: &[u8],
     output: &mut W,
-) -> Result<(), Fault>
+) -> Result<(), DaemonFault>
 where
     R: RandomSource + AllocGlobal + Clone + Drop,
     W: Write,
@@ -159,8 +162,8 @@ where
 {
     let request = match read_edit(alloc, line) {
         Ok(request) => request,
-        Err(LineError::Unreadable) => return Err(Fault::BadLine(number)),
-        Err(LineError::Memory) => return Err(Fault::Memory),
+        Err(LineError::Unreadable) => return Err(DaemonFault::BadLine(number)),
+        Err(LineError::Memory) => return Err(DaemonFault::Memory),
     };
     let answer = made(node, &request)?;
     let line = answer_line(alloc, answer)?;
@@ -178,7 +181,7 @@ pub(crate) enum EditAnswer {
 }
 
 // Makes an edit, and answers its number, or why the client refuses it. Errors: out of memory.
-fn made<R>(node: &mut Node<R>, request: &EditRequest) -> Result<EditAnswer, AllocError>
+fn made<R>(node: &mut LinkedClient<R>, request: &EditRequest) -> Result<EditAnswer, AllocError>
 where
     R: RandomSource + AllocGlobal + Clone + Drop,
     ensures { IfOk result (λ answer. MakesEdit node.old.client request.now answer node.new.client) }

@@ -14,7 +14,7 @@ use std::io::Write;
 
 /// What ends the program early.
 #[derive(Clone, Copy, Debug, PartialEq, Eq)]
-pub enum Fault {
+pub enum DaemonFault {
     /// The words that the program is called with ask for no command.
     Usage,
     /// The first line of the input that can't be read, counted from 1.
@@ -34,7 +34,7 @@ pub enum Fault {
     TooLarge,
 }
 
-impl fmt::Display for Fault {
+impl fmt::Display for DaemonFault {
     ghost use Rattle.std.specs.Prelude.{Some};
     ghost use Rattle.canvas_daemon.specs.Faults.{fault_text};
 
@@ -42,135 +42,135 @@ impl fmt::Display for Fault {
 
     fn fmt<W: fmt::Write>(&self, f: &mut fmt::Formatter<W>) -> fmt::Result {
         match self {
-            Fault::Usage => {
+            DaemonFault::Usage => {
                 write!(
                     f,
                     "usage: canvasd serve DIR PORT N | edit PORT | show DIR | trial DIR"
                 )
             }
-            Fault::BadLine(line) => write!(f, "line {line}: cannot read"),
-            Fault::Memory => write!(f, "out of memory"),
-            Fault::Device => write!(f, "device or socket failed"),
-            Fault::Damaged { segment, offset } => {
+            DaemonFault::BadLine(line) => write!(f, "line {line}: cannot read"),
+            DaemonFault::Memory => write!(f, "out of memory"),
+            DaemonFault::Device => write!(f, "device or socket failed"),
+            DaemonFault::Damaged { segment, offset } => {
                 write!(f, "damaged segment {segment} offset {offset}")
             }
-            Fault::TooLarge => write!(f, "too large"),
+            DaemonFault::TooLarge => write!(f, "too large"),
         }
     }
 }
 
-impl Error for Fault {}
+impl Error for DaemonFault {}
 
-impl From<AllocError> for Fault {
-    ghost use Rattle.canvas_daemon.specs.declared.fault.Fault.TheVariants.{Memory};
-
-    ghost from_gives = { λ _ fault. fault ≡ Memory };
-
-    fn from(_: AllocError) -> Fault {
-        Fault::Memory
-    }
-}
-
-impl<T: Drop> From<AllocFailed<T>> for Fault {
-    ghost use Rattle.canvas_daemon.specs.declared.fault.Fault.TheVariants.{Memory};
+impl From<AllocError> for DaemonFault {
+    ghost use Rattle.canvas_daemon.specs.declared.fault.DaemonFault.TheVariants.{Memory};
 
     ghost from_gives = { λ _ fault. fault ≡ Memory };
 
-    fn from(_: AllocFailed<T>) -> Fault {
-        Fault::Memory
+    fn from(_: AllocError) -> DaemonFault {
+        DaemonFault::Memory
     }
 }
 
-impl From<OpenError> for Fault {
+impl<T: Drop> From<AllocFailed<T>> for DaemonFault {
+    ghost use Rattle.canvas_daemon.specs.declared.fault.DaemonFault.TheVariants.{Memory};
+
+    ghost from_gives = { λ _ fault. fault ≡ Memory };
+
+    fn from(_: AllocFailed<T>) -> DaemonFault {
+        DaemonFault::Memory
+    }
+}
+
+impl From<OpenError> for DaemonFault {
     ghost use Rattle.canvas_daemon.specs.Faults.{fault_of_opening};
 
     ghost from_gives = { λ error fault. fault ≡ fault_of_opening error };
 
-    fn from(error: OpenError) -> Fault {
+    fn from(error: OpenError) -> DaemonFault {
         match error {
-            OpenError::Device => Fault::Device,
-            OpenError::Damaged { segment, offset } => Fault::Damaged { segment, offset },
-            OpenError::TooLarge => Fault::TooLarge,
-            OpenError::Memory => Fault::Memory,
+            OpenError::Device => DaemonFault::Device,
+            OpenError::Damaged { segment, offset } => DaemonFault::Damaged { segment, offset },
+            OpenError::TooLarge => DaemonFault::TooLarge,
+            OpenError::Memory => DaemonFault::Memory,
         }
     }
 }
 
-impl From<RoomError> for Fault {
+impl From<RoomError> for DaemonFault {
     ghost use Rattle.canvas_daemon.specs.Faults.{fault_of_room};
 
     ghost from_gives = { λ error fault. fault ≡ fault_of_room error };
 
-    fn from(error: RoomError) -> Fault {
+    fn from(error: RoomError) -> DaemonFault {
         match error {
-            RoomError::SeatCount => Fault::Usage,
-            RoomError::NoPlace | RoomError::Memory => Fault::Memory,
+            RoomError::SeatCount => DaemonFault::Usage,
+            RoomError::NoPlace | RoomError::Memory => DaemonFault::Memory,
         }
     }
 }
 
-impl From<LinkError> for Fault {
+impl From<LinkError> for DaemonFault {
     ghost use Rattle.canvas_daemon.specs.Faults.{fault_of_link};
 
     ghost from_gives = { λ error fault. fault ≡ fault_of_link error };
 
-    fn from(error: LinkError) -> Fault {
+    fn from(error: LinkError) -> DaemonFault {
         match error {
-            LinkError::Memory => Fault::Memory,
-            LinkError::Ended | LinkError::Refused(_) | LinkError::NotRead => Fault::Device,
+            LinkError::Memory => DaemonFault::Memory,
+            LinkError::Ended | LinkError::Refused(_) | LinkError::NotRead => DaemonFault::Device,
         }
     }
 }
 
-impl From<FolderError> for Fault {
+impl From<FolderError> for DaemonFault {
     ghost use Rattle.canvas_daemon.specs.Faults.{fault_of_folder};
 
     ghost from_gives = { λ error fault. fault ≡ fault_of_folder error };
 
-    fn from(error: FolderError) -> Fault {
+    fn from(error: FolderError) -> DaemonFault {
         match error {
             FolderError::InUse
             | FolderError::Denied
             | FolderError::AboveDenied
             | FolderError::NoDescriptor
             | FolderError::NoSpace
-            | FolderError::Device => Fault::Device,
-            FolderError::Memory => Fault::Memory,
+            | FolderError::Device => DaemonFault::Device,
+            FolderError::Memory => DaemonFault::Memory,
         }
     }
 }
 
-impl From<LineFault> for Fault {
+impl From<LineFault> for DaemonFault {
     ghost use Rattle.canvas_daemon.specs.Faults.{fault_of_lines};
 
     ghost from_gives = { λ line_fault fault. fault ≡ fault_of_lines line_fault };
 
-    fn from(fault: LineFault) -> Fault {
+    fn from(fault: LineFault) -> DaemonFault {
         match fault {
-            LineFault::BadLine(line) => Fault::BadLine(line),
-            LineFault::Memory => Fault::Memory,
-            LineFault::Stream => Fault::Device,
+            LineFault::BadLine(line) => DaemonFault::BadLine(line),
+            LineFault::Memory => DaemonFault::Memory,
+            LineFault::Stream => DaemonFault::Device,
         }
     }
 }
 
-impl Fault {
+impl DaemonFault {
     /// The program's status.
     pub fn status(&self) -> u8
         ensures { IsFaultStatus self.now result }
     {
         match self {
-            Fault::Usage | Fault::BadLine(_) => 2,
-            Fault::Memory => 3,
-            Fault::Device => 4,
-            Fault::Damaged { .. } => 5,
-            Fault::TooLarge => 6,
+            DaemonFault::Usage | DaemonFault::BadLine(_) => 2,
+            DaemonFault::Memory => 3,
+            DaemonFault::Device => 4,
+            DaemonFault::Damaged { .. } => 5,
+            DaemonFault::TooLarge => 6,
         }
     }
 }
 
 /// Tells of a fault on `faults`: its text and a line feed. The program's status: the fault's, or 4 where it can't be told.
-pub fn end<F: Write>(fault: &Fault, faults: &mut F) -> u8
+pub fn end<F: Write>(fault: &DaemonFault, faults: &mut F) -> u8
     ensures { IsEnd fault.now result (F.contents faults.old) (F.contents faults.new) }
 {
     if writeln!(faults, "{fault}").is_err() || faults.flush().is_err() {

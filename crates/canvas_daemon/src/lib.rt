@@ -2,6 +2,7 @@
 //! and its commands.
 #![tactic(auto)]
 
+mod args;
 mod closing;
 mod editing;
 mod fault;
@@ -10,12 +11,11 @@ mod running;
 mod serving;
 mod showing;
 mod trying;
-mod words;
 
+pub use args::{DaemonCommand, read_command, read_connections};
 pub use editing::edit;
-pub use fault::{Fault, end};
+pub use fault::{DaemonFault, end};
 pub use running::run;
 pub use serving::{FolderRoom, Opened, open_room, opened, serve};
 pub use showing::{report, show, show_shelf};
 pub use trying::trial;
-pub use words::{Command, read_command, read_connections};

@@ -7,7 +7,7 @@ ghost use Rattle.canvas_nodes.specs.GoesOn.{GoesOn};
 ghost use Rattle.canvas_daemon.specs.Answered.{HasJoined, WritesBlock, version_line};
 ghost use Rattle.canvas_daemon.specs.Faults.{IsMemoryOrDevice};
 
-use crate::fault::Fault;
+use crate::fault::DaemonFault;
 use canvas_client::{Client, EditError, EditRequest};
 use canvas_doc::{Kind, ObjId};
 use canvas_edit_lines::write_client;
@@ -29,7 +29,7 @@ const MOST_ANSWER_BYTES: usize = 1 << 30;
 
 /// A client that has joined, and its link to the server.
 #[derive(Drop)]
-pub(crate) struct Node<R: Drop> {
+pub(crate) struct LinkedClient<R: Drop> {
     client: Client,
     link: SocketLink<TcpStream, RandomKeys<R>>,
     ghost joined: { IsSome client.id },
@@ -39,7 +39,7 @@ pub(crate) struct Node<R: Drop> {
 fn shake_hands<R: RandomSource + AllocGlobal + Clone + Drop>(
     rt: &R,
     stream: TcpStream,
-) -> Result<SocketLink<TcpStream, RandomKeys<R>>, Fault>
+) -> Result<SocketLink<TcpStream, RandomKeys<R>>, DaemonFault>
     ensures { IfErr result IsMemoryOrDevice }
 {
     let alloc = rt.alloc();
@@ -47,7 +47,7 @@ fn shake_hands<R: RandomSource + AllocGlobal + Clone + Drop>(
     // Each message leaves at once; without this some would wait for an acknowledgement.
     let _ = stream.set_nodelay(true);
     let Ok(request) = request_of(alloc, "ws://127.0.0.1/") else {
-        return Err(Fault::Memory);
+        return Err(DaemonFault::Memory);
     };
     match client(alloc, keys, request, stream) {
         Ok((mut socket, _response)) => {
@@ -58,16 +58,16 @@ fn shake_hands<R: RandomSource + AllocGlobal + Clone + Drop>(
             socket.set_config(limits);
             Ok(SocketLink::new(alloc, socket))
         }
-        Err(HandshakeError::Failure(Error::OutOfMemory)) => Err(Fault::Memory),
-        Err(_) => Err(Fault::Device),
+        Err(HandshakeError::Failure(Error::OutOfMemory)) => Err(DaemonFault::Memory),
+        Err(_) => Err(DaemonFault::Device),
     }
 }
 
-impl<R: RandomSource + AllocGlobal + Clone + Drop> Node<R> {
+impl<R: RandomSource + AllocGlobal + Clone + Drop> LinkedClient<R> {
     /// A client that joins the server at the other end of a stream.
     ///
     /// The errors: `Device`, where the handshake or the socket failed, or the server answered a No; `Memory`, if memory runs out.
-    pub fn joined(rt: &R, stream: TcpStream) -> Result<Node<R>, Fault>
+    pub fn joined(rt: &R, stream: TcpStream) -> Result<LinkedClient<R>, DaemonFault>
         ensures joined { IfOk result (λ node. HasJoined node.client) }
         ensures faults { IfErr result IsMemoryOrDevice }
     {
@@ -75,7 +75,7 @@ impl<R: RandomSource + AllocGlobal + Clone + Drop> Node<R> {
         let mut link = shake_hands(rt, stream)?;
         let mut client = Client::new(alloc)?;
         join(&mut client, &mut link)?;
-        Ok(Node { client, link })
+        Ok(LinkedClient { client, link })
     }
 
     /// The client.
@@ -109,7 +109,7 @@ impl<R: RandomSource + AllocGlobal + Clone + Drop> Node<R> {
     /// Sends what waits, and asks for what is new.
     ///
     /// The errors: `Device`, where the socket failed or the server answered a No; `Memory`, if memory runs out.
-    pub fn exchange(&mut self, alloc: Global) -> Result<(), Fault>
+    pub fn exchange(&mut self, alloc: Global) -> Result<(), DaemonFault>
         ensures goes_on { GoesOn self.old.client self.new.client }
         ensures faults { IfErr result IsMemoryOrDevice }
     {
@@ -122,11 +122,11 @@ impl<R: RandomSource + AllocGlobal + Clone + Drop> Node<R> {
         &mut self,
         alloc: Global,
         output: &mut W,
-    ) -> Result<(), Fault>
+    ) -> Result<(), DaemonFault>
         ensures goes_on { GoesOn self.old.client self.new.client }
         ensures told { OnOk result
             (Appends (W.contents output.old) (W.contents output.new) (version_line self.new.client)) }
-        ensures unwritten { IfErr result (λ fault. (fault ≡ Fault.Device → ⊥) → W.contents output.new ≡ W.contents output.old) }
+        ensures unwritten { IfErr result (λ fault. (fault ≡ DaemonFault.Device → ⊥) → W.contents output.new ≡ W.contents output.old) }
         ensures faults { IfErr result IsMemoryOrDevice }
     {
         self.exchange(alloc)?;
@@ -134,10 +134,10 @@ impl<R: RandomSource + AllocGlobal + Clone + Drop> Node<R> {
     }
 
     /// Writes `version B waiting W`.
-    pub fn tell<W: Write>(&self, alloc: Global, output: &mut W) -> Result<(), Fault>
+    pub fn tell<W: Write>(&self, alloc: Global, output: &mut W) -> Result<(), DaemonFault>
         ensures told { OnOk result
             (Appends (W.contents output.old) (W.contents output.new) (version_line self.now.client)) }
-        ensures unwritten { IfErr result (λ fault. (fault ≡ Fault.Device → ⊥) → W.contents output.new ≡ W.contents output.old) }
+        ensures unwritten { IfErr result (λ fault. (fault ≡ DaemonFault.Device → ⊥) → W.contents output.new ≡ W.contents output.old) }
         ensures faults { IfErr result IsMemoryOrDevice }
     {
         let version = self.client.version();
@@ -148,10 +148,10 @@ impl<R: RandomSource + AllocGlobal + Clone + Drop> Node<R> {
     }
 
     /// Writes the client's block.
-    pub fn show<W: Write>(&self, alloc: Global, output: &mut W) -> Result<(), Fault>
+    pub fn show<W: Write>(&self, alloc: Global, output: &mut W) -> Result<(), DaemonFault>
         ensures shown { OnOk result
             (WritesBlock self.now.client (W.contents output.old) (W.contents output.new)) }
-        ensures unwritten { IfErr result (λ fault. (fault ≡ Fault.Device → ⊥) → W.contents output.new ≡ W.contents output.old) }
+        ensures unwritten { IfErr result (λ fault. (fault ≡ DaemonFault.Device → ⊥) → W.contents output.new ≡ W.contents output.old) }
         ensures faults { IfErr result IsMemoryOrDevice }
     {
         let mut block = Vec::new(alloc);

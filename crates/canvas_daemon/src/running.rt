@@ -2,12 +2,12 @@
 ghost use Rattle.std.specs.Prelude.{IfErr, IfOk, map, string_bytes};
 ghost use Rattle.canvas_daemon.specs.Runs.{Does, Fails, IsRun};
 
+use crate::args::{DaemonCommand, read_command};
 use crate::editing::edit;
-use crate::fault::{Fault, end};
+use crate::fault::{DaemonFault, end};
 use crate::serving::serve;
 use crate::showing::show;
 use crate::trying::trial;
-use crate::words::{Command, read_command};
 use std::io::{BufRead, Write};
 use std::net::{Net, TcpListener, TcpStream};
 use std::random::RandomSource;
@@ -56,7 +56,7 @@ fn perform<R, I, W>(
     words: &[String],
     input: &mut I,
     output: &mut W,
-) -> Result<u8, Fault>
+) -> Result<u8, DaemonFault>
 where
     R: Net<Listener = TcpListener, Stream = TcpStream>
         + RandomSource
@@ -77,17 +77,17 @@ where
         (W.contents output.old) (W.contents output.new)) }
 {
     let Some(command) = read_command(words) else {
-        return Err(Fault::Usage);
+        return Err(DaemonFault::Usage);
     };
     match command {
-        Command::Serve {
+        DaemonCommand::Serve {
             dir,
             port,
             connections,
         } => serve(rt, files, dir, port, connections, output)?,
-        Command::Edit { port } => edit(rt, port, input, output)?,
-        Command::Show { dir } => show(files, dir, output)?,
-        Command::Trial { dir } => {
+        DaemonCommand::Edit { port } => edit(rt, port, input, output)?,
+        DaemonCommand::Show { dir } => show(files, dir, output)?,
+        DaemonCommand::Trial { dir } => {
             if !trial(rt, files, dir, output)? {
                 return Ok(1);
             }

@@ -8,15 +8,15 @@ ghost use Rattle.canvas_daemon.specs.Faults.{IsMemoryOrDevice};
 ghost use Rattle.canvas_daemon.specs.Served.{BeginsServing, BeginsServingAt, IsServeFault, WritesServed, WritesServedAt, served_line, serving_line};
 
 use crate::closing::Closing;
-use crate::fault::Fault;
+use crate::fault::DaemonFault;
 use canvas_board::{Opening, RoomName};
 use canvas_desk::Desk;
 use canvas_folder::{DirShelf, OsFolder, Removed};
-use canvas_front::SeatAnswerer;
 use canvas_journal::{Journal, Keeper, open};
 use canvas_room::{BlankRoom, Lock, Room, Seat, blank_room};
 use canvas_shelf::Shelf;
 use canvas_sockets::serve_one;
+use room_handler::SeatAnswerer;
 use std::alloc::{AllocError, Global};
 use std::io::Write;
 use std::marker::Brand;
@@ -40,7 +40,7 @@ pub fn serve<R, W>(
     port: u16,
     connections: u32,
     output: &mut W,
-) -> Result<(), Fault>
+) -> Result<(), DaemonFault>
 where
     R: Net<Listener = TcpListener, Stream = TcpStream>
         + Threads
@@ -53,7 +53,7 @@ where
     W: Write,
     ensures told { OnOk result
         (WritesServed port connections (W.contents output.old) (W.contents output.new)) }
-    ensures begun { IfErr result (λ fault. (fault ≡ Fault.Device → ⊥) →
+    ensures begun { IfErr result (λ fault. (fault ≡ DaemonFault.Device → ⊥) →
         BeginsServing port (W.contents output.old) (W.contents output.new)) }
     ensures faults { IfErr result (IsServeFault connections) }
 {
@@ -77,7 +77,7 @@ pub type FolderRoom = (
 /// removes. The folder is made where it is missing.
 ///
 /// The errors are those of `serve`.
-pub fn open_room(files: HostRuntime, dir: &str, seats: u32) -> Result<FolderRoom, Fault>
+pub fn open_room(files: HostRuntime, dir: &str, seats: u32) -> Result<FolderRoom, DaemonFault>
     ensures seats { IfOk result (λ opened. opened.0.seats ≡ seats) }
     ensures version { IfOk result (λ opened. opened.1 ≡ opened.0.opening.version) }
     ensures faults { IfErr result (IsServeFault seats) }
@@ -96,7 +96,7 @@ fn room_of<S: Shelf + Drop>(
     alloc: Global,
     shelf: S,
     seats: u32,
-) -> Result<(BlankRoom<Journal<S>>, u64), Fault>
+) -> Result<(BlankRoom<Journal<S>>, u64), DaemonFault>
     requires top { IsTrue (S.honest shelf) → top_is_listed (S.disk shelf) ≡ true }
     requires counted { IsTrue (S.honest shelf) → (s : Versioned) → Finds (seen (S.disk shelf)) (IsState s) → IsCounted s }
     ensures found { IsTrue (S.honest shelf) → IfOk result (λ opened. Finds (seen (S.disk shelf)) (IsState (opened.0.opening.state, opened.0.opening.version))) }
@@ -106,21 +106,21 @@ fn room_of<S: Shelf + Drop>(
 {
     let (journal, state, version) = match open(alloc, shelf) {
         Ok(opened) => opened,
-        Err((_shelf, error)) => return Err(Fault::from(error)),
+        Err((_shelf, error)) => return Err(DaemonFault::from(error)),
     };
     let opening = Opening { state, version };
     match blank_room(alloc, journal, opening, seats as usize) {
         Ok(room) => Ok((room, version)),
-        Err((_journal, error)) => Err(Fault::from(error)),
+        Err((_journal, error)) => Err(DaemonFault::from(error)),
     }
 }
 
 /// Listens at a port of the own machine, or at any free one for 0.
-pub(crate) fn listen<R: Net>(rt: &R, port: u16) -> Result<R::Listener, Fault>
-    ensures { IfErr result (λ fault. fault ≡ Fault.Device) }
+pub(crate) fn listen<R: Net>(rt: &R, port: u16) -> Result<R::Listener, DaemonFault>
+    ensures { IfErr result (λ fault. fault ≡ DaemonFault.Device) }
 {
     let address = SocketAddr::from((Ipv4Addr::LOCALHOST, port));
-    TcpListener::bind(rt, address).map_err(|_| Fault::Device)
+    TcpListener::bind(rt, address).map_err(|_| DaemonFault::Device)
 }
 
 /// Where connections come from, and the files that are closed beside them.
@@ -134,7 +134,7 @@ pub(crate) struct Door<'a> {
 pub type Opened<K, N, R> = (Room<K, N, R>, Vec<Seat<N, Lock<K, N, R>>>);
 
 /// The room with its seats, under a name. A room isn't opened only if memory runs out.
-pub fn opened<N, K, R>(rt: &R, room: BlankRoom<K>) -> Result<Opened<K, N, R>, Fault>
+pub fn opened<N, K, R>(rt: &R, room: BlankRoom<K>) -> Result<Opened<K, N, R>, DaemonFault>
 where
     N: RoomName,
     K: Keeper + Drop,
@@ -142,11 +142,11 @@ where
     requires book { room.book ≡ N.book }
     requires opening { room.opening ≡ N.opening }
     ensures seats { IfOk result (λ opened. length opened.1.items ≡ room.seats) }
-    ensures fault { IfErr result (λ fault. fault ≡ Fault.Memory) }
+    ensures fault { IfErr result (λ fault. fault ≡ DaemonFault.Memory) }
 {
     match room.open::<N, R>(rt.clone()?) {
         Ok(opened) => Ok(opened),
-        Err(_) => Err(Fault::Memory),
+        Err(_) => Err(DaemonFault::Memory),
     }
 }
 
@@ -158,7 +158,7 @@ fn serve_room<N, K, R, W>(
     door: Door<'_>,
     port: u16,
     output: &mut W,
-) -> Result<(), Fault>
+) -> Result<(), DaemonFault>
 where
     N: RoomName + Send + Sync,
     K: Keeper + Drop + Send,
@@ -169,7 +169,7 @@ where
     requires version { version ≡ room.opening.version }
     ensures told { OnOk result
         (WritesServedAt room.opening.version port room.seats (W.contents output.old) (W.contents output.new)) }
-    ensures begun { IfErr result (λ fault. (fault ≡ Fault.Device → ⊥) →
+    ensures begun { IfErr result (λ fault. (fault ≡ DaemonFault.Device → ⊥) →
         BeginsServingAt room.opening.version port (W.contents output.old) (W.contents output.new)) }
     ensures faults { IfErr result IsMemoryOrDevice }
 {
@@ -186,12 +186,14 @@ where
 }
 
 // That the journal hasn't failed, or Device.
-fn check_journal<K: Keeper, N: RoomName, R: Wait + Drop>(desk: &Desk<K, N, R>) -> Result<(), Fault>
+fn check_journal<K: Keeper, N: RoomName, R: Wait + Drop>(
+    desk: &Desk<K, N, R>,
+) -> Result<(), DaemonFault>
     ensures ok { OnOk result (desk.now.failed ≡ false) }
-    ensures err { IfErr result (λ fault. (fault ≡ Fault.Device) × (desk.now.failed ≡ true)) }
+    ensures err { IfErr result (λ fault. (fault ≡ DaemonFault.Device) × (desk.now.failed ≡ true)) }
 {
     if desk.has_failed() {
-        return Err(Fault::Device);
+        return Err(DaemonFault::Device);
     }
     Ok(())
 }
@@ -217,7 +219,7 @@ fn serve_seats<N, K, R>(
     rt: &R,
     door: Door<'_>,
     seats: Vec<Seat<N, Lock<K, N, R>>>,
-) -> Result<(), Fault>
+) -> Result<(), DaemonFault>
 where
     N: RoomName + Send + Sync,
     K: Keeper + Drop + Send,
@@ -238,14 +240,14 @@ pub(crate) fn serve_next<N, K, R>(
     rt: &R,
     door: Door<'_>,
     seat: Seat<N, Lock<K, N, R>>,
-) -> Result<(), Fault>
+) -> Result<(), DaemonFault>
 where
     N: RoomName,
     K: Keeper + Drop,
     R: Wait + AllocGlobal + Clone + Drop,
     ensures { IfErr result IsMemoryOrDevice }
 {
-    let (stream, _address) = door.listener.accept().map_err(|_| Fault::Device)?;
+    let (stream, _address) = door.listener.accept().map_err(|_| DaemonFault::Device)?;
     serve_stream(rt, seat, stream, door.removed.share()?)
 }
 
@@ -256,7 +258,7 @@ pub(crate) fn serve_stream<N, K, R>(
     seat: Seat<N, Lock<K, N, R>>,
     stream: TcpStream,
     removed: Removed,
-) -> Result<(), Fault>
+) -> Result<(), DaemonFault>
 where
     N: RoomName,
     K: Keeper + Drop,
@@ -274,10 +276,10 @@ where
 }
 
 // Writes a line, and flushes the output.
-fn write_line<W: Write>(output: &mut W, line: String) -> Result<(), Fault>
+fn write_line<W: Write>(output: &mut W, line: String) -> Result<(), DaemonFault>
     ensures bytes { OnOk result
         (Appends (W.contents output.old) (W.contents output.new) (string_bytes line)) }
-    ensures fault { IfErr result (λ fault. fault ≡ Fault.Device) }
+    ensures fault { IfErr result (λ fault. fault ≡ DaemonFault.Device) }
 {
     canvas_lines::write_out(output, line.as_bytes())?;
     Ok(())

@@ -6,7 +6,7 @@ ghost use Rattle.canvas_shelf.specs.Moments.{CountsFailure};
 ghost use Rattle.canvas_lines.specs.Reports.{IsReport, WritesReport};
 ghost use Rattle.canvas_daemon.specs.Shown.{IsReportOf, IsShowFault, WritesReportOf};
 
-use crate::fault::Fault;
+use crate::fault::DaemonFault;
 use canvas_folder::DirShelf;
 use canvas_journal::look;
 use canvas_lines::{report_text, write_out};
@@ -21,13 +21,13 @@ use std::rt::Files;
 ///
 /// The errors: `Device`, where the device failed; `Damaged`, for the first record that isn't what it has to be; `Memory`, where
 /// memory ran out.
-pub fn report<S: Shelf>(alloc: Global, shelf: &mut S) -> Result<Vec<u8>, Fault>
+pub fn report<S: Shelf>(alloc: Global, shelf: &mut S) -> Result<Vec<u8>, DaemonFault>
     ensures found { IsTrue (S.honest shelf.old) → IfOk result (λ text. IsReportOf (S.disk shelf.old) text.items) }
     ensures form { IfOk result (λ text. IsReport text.items) }
-    ensures damaged { IsTrue (S.honest shelf.old) → (n : ℕ) (at : ℕ) → IsErrOf result (Fault.Damaged n at) → Finds (seen (S.disk shelf.old)) (IsDamaged n at) }
+    ensures damaged { IsTrue (S.honest shelf.old) → (n : ℕ) (at : ℕ) → IsErrOf result (DaemonFault.Damaged n at) → Finds (seen (S.disk shelf.old)) (IsDamaged n at) }
     ensures disk { IsTrue (S.honest shelf.old) → (S.disk shelf.new ≡ S.disk shelf.old) × (S.past shelf.new ≡ S.past shelf.old) }
     ensures honest { S.honest shelf.new ≡ S.honest shelf.old }
-    ensures cause { CountsFailure (S.failure_count shelf.old) (S.failure_count shelf.new) (IsErrOf result Fault.Device) }
+    ensures cause { CountsFailure (S.failure_count shelf.old) (S.failure_count shelf.new) (IsErrOf result DaemonFault.Device) }
     ensures faults { IfErr result IsShowFault }
 {
     let (state, version) = look(alloc, shelf)?;
@@ -43,12 +43,12 @@ pub fn show_shelf<S: Shelf, W: Write>(
     alloc: Global,
     shelf: &mut S,
     output: &mut W,
-) -> Result<(), Fault>
+) -> Result<(), DaemonFault>
     ensures found { IsTrue (S.honest shelf.old) → OnOk result
         (WritesReportOf (S.disk shelf.old) (W.contents output.old) (W.contents output.new)) }
     ensures form { OnOk result (WritesReport (W.contents output.old) (W.contents output.new)) }
-    ensures damaged { IsTrue (S.honest shelf.old) → (n : ℕ) (at : ℕ) → IsErrOf result (Fault.Damaged n at) → Finds (seen (S.disk shelf.old)) (IsDamaged n at) }
-    ensures unwritten { IfErr result (λ fault. (fault ≡ Fault.Device → ⊥) → W.contents output.new ≡ W.contents output.old) }
+    ensures damaged { IsTrue (S.honest shelf.old) → (n : ℕ) (at : ℕ) → IsErrOf result (DaemonFault.Damaged n at) → Finds (seen (S.disk shelf.old)) (IsDamaged n at) }
+    ensures unwritten { IfErr result (λ fault. (fault ≡ DaemonFault.Device → ⊥) → W.contents output.new ≡ W.contents output.old) }
     ensures disk { IsTrue (S.honest shelf.old) → (S.disk shelf.new ≡ S.disk shelf.old) × (S.past shelf.new ≡ S.past shelf.old) }
     ensures honest { S.honest shelf.new ≡ S.honest shelf.old }
     ensures faults { IfErr result IsShowFault }
@@ -65,9 +65,9 @@ pub fn show<R: Files<File = File> + AllocGlobal + Clone + Drop, W: Write>(
     files: R,
     dir: &str,
     output: &mut W,
-) -> Result<(), Fault>
+) -> Result<(), DaemonFault>
     ensures form { OnOk result (WritesReport (W.contents output.old) (W.contents output.new)) }
-    ensures unwritten { IfErr result (λ fault. (fault ≡ Fault.Device → ⊥) → W.contents output.new ≡ W.contents output.old) }
+    ensures unwritten { IfErr result (λ fault. (fault ≡ DaemonFault.Device → ⊥) → W.contents output.new ≡ W.contents output.old) }
     ensures faults { IfErr result IsShowFault }
 {
     let alloc = files.alloc();

@@ -6,8 +6,8 @@ ghost use Rattle.canvas_lines.specs.Reports.{IsReportText};
 ghost use Rattle.canvas_daemon.specs.Trials.{WritesTrial, equal_word, trial_line};
 
 use crate::editing::connect;
-use crate::fault::Fault;
-use crate::node::Node;
+use crate::fault::DaemonFault;
+use crate::node::LinkedClient;
 use crate::serving::{Door, listen, open_room, opened, serve_next};
 use canvas_board::RoomName;
 use canvas_client::{Client, EditError};
@@ -36,7 +36,12 @@ const SILENCE_SECONDS: u64 = 60;
 ///
 /// The errors: `Device`, where the folder, a socket or the output failed, a thread couldn't be made, or an edit was refused; `Damaged`,
 /// `TooLarge` and `Memory`, as `serve` answers them. With an error other than `Device` nothing was written.
-pub fn trial<R, W>(rt: &R, files: HostRuntime, dir: &str, output: &mut W) -> Result<bool, Fault>
+pub fn trial<R, W>(
+    rt: &R,
+    files: HostRuntime,
+    dir: &str,
+    output: &mut W,
+) -> Result<bool, DaemonFault>
 where
     R: Net<Listener = TcpListener, Stream = TcpStream>
         + RandomSource
@@ -50,7 +55,7 @@ where
     W: Write,
     ensures told { IfOk result (λ equal.
         WritesTrial equal (W.contents output.old) (W.contents output.new)) }
-    ensures unwritten { IfErr result (λ fault. (fault ≡ Fault.Device → ⊥) → W.contents output.new ≡ W.contents output.old) }
+    ensures unwritten { IfErr result (λ fault. (fault ≡ DaemonFault.Device → ⊥) → W.contents output.new ≡ W.contents output.old) }
     ensures faults { IfErr result (IsServeFault 2) }
 {
     let listener = listen(rt, 0)?;
@@ -81,7 +86,7 @@ fn equal_word(equal: bool) -> &'static str
 }
 
 // Serves two clients from a room of two seats. Answers the first one's version, and whether they agree.
-fn try_room<N, K, R>(rt: &R, room: BlankRoom<K>, door: Door<'_>) -> Result<(u64, bool), Fault>
+fn try_room<N, K, R>(rt: &R, room: BlankRoom<K>, door: Door<'_>) -> Result<(u64, bool), DaemonFault>
 where
     N: RoomName + Send + Sync,
     K: Keeper + Drop + Send,
@@ -99,11 +104,11 @@ where
     ensures { IfErr result IsMemoryOrDevice }
 {
     let (_room, seats) = opened::<N, K, R>(rt, room)?;
-    let address = door.listener.local_addr().map_err(|_| Fault::Device)?;
+    let address = door.listener.local_addr().map_err(|_| DaemonFault::Device)?;
     // Both connections stand before one is accepted, so that none is waited for that never comes.
     let first = connect_for_a_while(rt, address.port())?;
     let second = connect_for_a_while(rt, address.port())?;
-    let serve = |seat: Seat<N, Lock<K, N, R>>| -> Result<(), Fault>
+    let serve = |seat: Seat<N, Lock<K, N, R>>| -> Result<(), DaemonFault>
         ensures { IfErr result IsMemoryOrDevice }
     { serve_next(rt, door, seat) };
     edit_both(rt, seats, &serve, first, second)
@@ -111,12 +116,17 @@ where
 
 // Connects to a port of the own machine. Reading fails where nothing comes for a minute: so a client ends whose connection no seat took,
 // since accepting one failed.
-fn connect_for_a_while<R: Net<Stream = TcpStream>>(rt: &R, port: u16) -> Result<TcpStream, Fault>
-    ensures { IfErr result (λ fault. fault ≡ Fault.Device) }
+fn connect_for_a_while<R: Net<Stream = TcpStream>>(
+    rt: &R,
+    port: u16,
+) -> Result<TcpStream, DaemonFault>
+    ensures { IfErr result (λ fault. fault ≡ DaemonFault.Device) }
 {
     let stream = connect(rt, port)?;
     let silence = Some(Duration::from_secs(SILENCE_SECONDS));
-    stream.set_read_timeout(silence).map_err(|_| Fault::Device)?;
+    stream
+        .set_read_timeout(silence)
+        .map_err(|_| DaemonFault::Device)?;
     Ok(stream)
 }
 
@@ -124,12 +134,12 @@ fn connect_for_a_while<R: Net<Stream = TcpStream>>(rt: &R, port: u16) -> Result<
 #[derive(Clone, Copy)]
 struct MemoryOrDevice;
 
-impl<T> Promise<Result<T, Fault>> for MemoryOrDevice {
+impl<T> Promise<Result<T, DaemonFault>> for MemoryOrDevice {
     ghost kept_by = { λ _ result. IfErr result IsMemoryOrDevice };
 }
 
 // A thread that serves a connection.
-type Server = PromisedHandle<Result<(), Fault>, MemoryOrDevice>;
+type Server = PromisedHandle<Result<(), DaemonFault>, MemoryOrDevice>;
 
 // Edits by two clients at once, while each seat serves one of them. Answers the first one's version, and whether they show the same.
 //
@@ -141,13 +151,13 @@ fn edit_both<S, F, R>(
     serve: &F,
     first: TcpStream,
     second: TcpStream,
-) -> Result<(u64, bool), Fault>
+) -> Result<(u64, bool), DaemonFault>
 where
     S: Send + Drop,
-    F: Fn(S) -> Result<(), Fault> + Sync,
+    F: Fn(S) -> Result<(), DaemonFault> + Sync,
     R: RandomSource + Threads + Wait + AllocGlobal + Clone + Send + Sync + Drop,
     requires runs { (seat : S) → F.pre serve.now seat }
-    requires keeps { (seat : S) (result : Result Unit Fault) → F.post serve.now seat result → IfErr result IsMemoryOrDevice }
+    requires keeps { (seat : S) (result : Result Unit DaemonFault) → F.post serve.now seat result → IfErr result IsMemoryOrDevice }
     ensures { IfErr result IsMemoryOrDevice }
 {
     let both = Barrier::new(2);
@@ -155,20 +165,20 @@ where
     scope(
         scope_env(),
         rt,
-        move |threads| -> Result<(u64, bool), Fault>
+        move |threads| -> Result<(u64, bool), DaemonFault>
             requires runs { (seat : S) → F.pre serve.now seat }
-            requires keeps { (seat : S) (result : Result Unit Fault) → F.post serve.now seat result → IfErr result IsMemoryOrDevice }
+            requires keeps { (seat : S) (result : Result Unit DaemonFault) → F.post serve.now seat result → IfErr result IsMemoryOrDevice }
             ensures { IfErr result IsMemoryOrDevice }
         {
             let mut servers = Vec::new(rt.alloc());
             for seat in seats {
                 let run = move || serve(seat);
                 let server = threads.spawn_with(MemoryOrDevice, run);
-                servers.push(server.map_err(|_| Fault::Device)?)?;
+                servers.push(server.map_err(|_| DaemonFault::Device)?)?;
             }
             let edit = move || edited(rt, first, both);
             let client = threads.spawn_with(MemoryOrDevice, edit);
-            let client = client.map_err(|_| Fault::Device)?;
+            let client = client.map_err(|_| DaemonFault::Device)?;
             let second = edited(rt, second, both);
             let first = client.join(rt);
             all_served(rt, servers)?;
@@ -178,7 +188,7 @@ where
 }
 
 // Waits until all have ended. The error is that of the first that failed.
-fn all_served<R: Threads>(rt: &R, servers: Vec<Server>) -> Result<(), Fault>
+fn all_served<R: Threads>(rt: &R, servers: Vec<Server>) -> Result<(), DaemonFault>
     ensures { IfErr result IsMemoryOrDevice }
 {
     for served in join_promised(rt, servers)? {
@@ -203,7 +213,7 @@ struct Shown {
 }
 
 // What a client shows that has made its page and sent it, once the other has too.
-fn edited<R>(rt: &R, stream: TcpStream, both: &Barrier) -> Result<Shown, Fault>
+fn edited<R>(rt: &R, stream: TcpStream, both: &Barrier) -> Result<Shown, DaemonFault>
 where
     R: RandomSource + Wait + AllocGlobal + Clone + Drop,
     ensures { IfErr result IsMemoryOrDevice }
@@ -227,23 +237,23 @@ fn show_client(alloc: Global, client: &Client) -> Result<Shown, AllocError>
 }
 
 // A client that has made its page and sent it.
-fn sent<R>(rt: &R, stream: TcpStream) -> Result<Node<R>, Fault>
+fn sent<R>(rt: &R, stream: TcpStream) -> Result<LinkedClient<R>, DaemonFault>
 where
     R: RandomSource + AllocGlobal + Clone + Drop,
     ensures { IfErr result IsMemoryOrDevice }
 {
-    let mut node = Node::joined(rt, stream)?;
+    let mut node = LinkedClient::joined(rt, stream)?;
     match make_page(&mut node) {
         Ok(()) => {}
-        Err(EditError::Memory) => return Err(Fault::Memory),
-        Err(_) => return Err(Fault::Device),
+        Err(EditError::Memory) => return Err(DaemonFault::Memory),
+        Err(_) => return Err(DaemonFault::Device),
     }
     node.exchange(rt.alloc())?;
     Ok(node)
 }
 
 // Makes a page, and shapes on it, each after the former.
-fn make_page<R>(node: &mut Node<R>) -> Result<(), EditError>
+fn make_page<R>(node: &mut LinkedClient<R>) -> Result<(), EditError>
 where
     R: RandomSource + AllocGlobal + Clone + Drop,
 {

@@ -1,3 +1,6 @@
+pub mod Keeping
+pub mod Boards
+pub mod Batching
 pub mod Running
 pub mod Told
 pub mod Batched

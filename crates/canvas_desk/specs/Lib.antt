@@ -1,3 +1,7 @@
+pub mod Faults
+pub mod Ready
+pub mod Judging
+pub mod Fates
 pub mod Desks
 pub mod Submitting
 pub mod Flooring

@@ -1,9 +1,13 @@
-//! The desk of a room: its one writer, which judges requests, has their entries kept, and publishes them.
+//! The desk of a room: its one writer, which judges requests, one by one or as a batch, has their entries kept, owes these to the board, and
+//! publishes them.
 #![tactic(auto)]
 
+mod batch;
 mod desk;
+mod faults;
+mod judging;
 mod laws;
 
-pub use canvas_intake::{Refusal, SubmitError};
 pub use desk::Desk;
+pub use faults::{Refusal, SubmitError};
 pub use laws::found_after_every_crash;

@@ -25,15 +25,15 @@ use Rattle.canvas_codec.specs.declared.json_fault.JsonFault.TheVariants as value
 use Rattle.canvas_codec.proofs.Forms.{first, stands_for, reads_what_stands, out_of_range, no_shape, whole_is, maybe_is, end_is, member_is, each_is, array_is, headed_is, after_is}
 use Rattle.canvas_doc.specs.Whole.{AreDocument}
 use Rattle.canvas_forms.specs.Ids.{client_form}
-use Rattle.canvas_json.specs.JsonTree.{worded}
+use Rattle.canvas_forms.specs.JsonTree.{worded}
 use Rattle.canvas_forms.specs.Changes.{change_form}
 use Rattle.canvas_forms.specs.Rows.{rows_form}
-use Rattle.canvas_json.specs.RowOrder.{are_in_order}
+use Rattle.canvas_forms.specs.RowOrder.{are_in_order}
 use Rattle.canvas_forms.specs.InOrder.{rows_in}
 use Rattle.canvas_forms.proofs.Docs.{rows_nest, rows_no_float}
 use Rattle.canvas_doc.proofs.Shallow.{same_doc}
 use Rattle.canvas_forms.proofs.Forms.{client_is, version_is, change_is}
-use Rattle.canvas_json.proofs.Members.{no_word, word_first}
+use Rattle.canvas_forms.proofs.Members.{no_word, word_first}
 use Rattle.canvas_forms.proofs.Orders.{ordered_document}
 use Rattle.canvas_forms.proofs.Ranges.{version_fits}
 use Rattle.canvas_forms.proofs.RowForms.{rows_is}

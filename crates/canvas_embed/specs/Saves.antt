@@ -18,7 +18,7 @@ use Rattle.canvas_doc.specs.Seen.{seen}
 use Rattle.canvas_forms.specs.Ids.{client_form, version_form}
 use Rattle.canvas_forms.specs.Changes.{change_form}
 use Rattle.canvas_forms.specs.Rows.{rows_form}
-use Rattle.canvas_json.specs.RowOrder.{are_in_order}
+use Rattle.canvas_forms.specs.RowOrder.{are_in_order}
 use Rattle.canvas_wire.specs.Faults.{IsJson, Means, IsTextOf, IsOut}
 use Rattle.canvas_client.specs.Kept.{IsKept}
 use Rattle.canvas_embed.specs.declared.saves.SavedNumbers.{SavedNumbers}

@@ -4,7 +4,7 @@ ghost use Rattle.serde_json.specs.View.{view};
 ghost use Rattle.canvas_embed.specs.Ids.{EncodesIds, ids_form};
 
 use canvas_doc::ObjId;
-use canvas_json::json_tree::array;
+use canvas_forms::json_tree::array;
 use serde_json::Value as Json;
 use std::alloc::{AllocError, Global};
 

@@ -4,7 +4,7 @@ use Rattle.canvas_shelf.specs.Disk.{Segment, Content, Image, IsSound, top_is_lis
 use Rattle.canvas_shelf.specs.Moments.{LeftSince}
 use Rattle.canvas_etcd.specs.Safe.{IsSafe}
 use Rattle.canvas_etcd.specs.Stores.{Stored, NumbersFall, IsFresh, MayFind, may_be, changed_by, disks_of}
-use Rattle.canvas_etcd.specs.declared.change.Change.{Change}
+use Rattle.canvas_etcd.specs.declared.change.ShelfChange.{ShelfChange}
 
 -- what a freshly opened shelf is: sound, its highest segment listed, and left as it stands by whatever happens
 pub record IsAsFound (v : Stored) : Type 0 where
@@ -31,4 +31,4 @@ EachTakeoverIsACrash = (past : List Stored) (now : Stored) (t : ℕ) (found : Co
 
 -- a sound disk stays sound, whatever the shelf becomes that it may
 abbrev pub EachNoteKeepsSound : Type 0
-EachNoteKeepsSound = (change : Change) (n : ℕ) (bytes : List ℕ) (disk : List Segment) → IsSound disk → may_be change n disk ≡ true → IsSound (changed_by change n bytes disk)
+EachNoteKeepsSound = (change : ShelfChange) (n : ℕ) (bytes : List ℕ) (disk : List Segment) → IsSound disk → may_be change n disk ≡ true → IsSound (changed_by change n bytes disk)

@@ -3,18 +3,18 @@ use Rattle.std.specs.Prelude.{◌≡◌, ◌≢◌, ◌⊎◌, ◌<◌, ◌≤�
 use Rattle.std.specs.List.{AllByRecursion}
 use Rattle.canvas_shelf.specs.Disk.{Content}
 use Rattle.canvas_etcd.specs.Stores.{Transaction, done}
-use Rattle.canvas_etcd.specs.declared.turn.Mark.{Mark}
+use Rattle.canvas_etcd.specs.declared.turn.OwnerMark.{OwnerMark}
 use Rattle.canvas_etcd.specs.declared.turn.Turn.{Turn}
 
 -- what stands: what the owner's key says, if it is there, and the segments
 pub record Owned : Type 0 where
-  pub mark : Option Mark
+  pub mark : Option OwnerMark
   pub held : Content
 
 -- WHAT A TRANSACTION MAKES OF IT
 
 -- the owner's key says this
-abbrev pub says : Option Mark → Option Mark → Bool
+abbrev pub says : Option OwnerMark → Option OwnerMark → Bool
 says None None = true
 says None (Some n) = false
 says (Some m) None = false
@@ -51,32 +51,32 @@ run (step ∷ steps) s = run steps (stepped step s)
 -- NUMBERS
 
 -- a turn of this mark's owner, with a higher number
-pub record Rises (last : Mark) (turn : Turn) : Type 0 where
+pub record Rises (last : OwnerMark) (turn : Turn) : Type 0 where
   pub from : turn.from ≡ Some last
   pub owner : turn.to.owner ≡ last.owner
   pub number : last.number < turn.to.number
 
 -- the turn after this mark, with the number after the highest that was given
-pub record IsNext (last : Mark) (begun : ℕ) (turn : Turn) : Type 0 where
+pub record IsNext (last : OwnerMark) (begun : ℕ) (turn : Turn) : Type 0 where
   pub rises : Rises last turn
   pub number : turn.to.number ≡ begun + 1
 
 -- the mark is another owner's, or this one's from this number on
-abbrev pub IsFrom : Mark → Mark → Type 0
+abbrev pub IsFrom : OwnerMark → OwnerMark → Type 0
 IsFrom least mark = (mark.owner ≡ least.owner → ⊥) ⊎ (least.number ≤ mark.number)
 
 -- what a step writes isn't below this mark
-abbrev pub WritesFrom : Mark → Step → Type 0
+abbrev pub WritesFrom : OwnerMark → Step → Type 0
 WritesFrom least (Commits turn changes) = IsFrom least turn.to
 WritesFrom least Ends = Unit {0}
 
 -- a step writes another mark
-abbrev pub WritesAnother : Mark → Step → Type 0
+abbrev pub WritesAnother : OwnerMark → Step → Type 0
 WritesAnother mark (Commits turn changes) = says (Some turn.to) (Some mark) ≡ false
 WritesAnother mark Ends = Unit {0}
 
 -- the owner's key isn't there, is another's, or was written before this mark
-abbrev pub IsBefore : Mark → Option Mark → Type 0
+abbrev pub IsBefore : OwnerMark → Option OwnerMark → Type 0
 IsBefore mark None = Unit {0}
 IsBefore mark (Some n) = (n.owner ≡ mark.owner → ⊥) ⊎ (n.number < mark.number)
 
@@ -90,7 +90,7 @@ abbrev pub EachRepeatIsDoneOnce : Type 0
 EachRepeatIsDoneOnce = (turn : Turn) (changes : List Transaction) (s : Owned) → says (Some turn.to) turn.from ≡ false → IsDoneOnce turn changes s
 
 abbrev pub EachLateOneChangesNothing : Type 0
-EachLateOneChangesNothing = (last : Mark) (turn : Turn) (changes : List Transaction) (later : List Step) (s : Owned)
+EachLateOneChangesNothing = (last : OwnerMark) (turn : Turn) (changes : List Transaction) (later : List Step) (s : Owned)
     → Rises last turn → s.mark ≡ Some turn.to → AllByRecursion (WritesFrom turn.to) later → committed turn changes (run later s) ≡ run later s
 
 pub record IsRefused (turn : Turn) (changes : List Transaction) (s : Owned) : Type 0 where
@@ -98,7 +98,7 @@ pub record IsRefused (turn : Turn) (changes : List Transaction) (s : Owned) : Ty
   pub told : is_told turn s ≡ false
 
 abbrev pub EachPutBackIsRefused : Type 0
-EachPutBackIsRefused = (last : Mark) (turn : Turn) (changes : List Transaction) (s : Owned) → Rises last turn → IsBefore last s.mark → IsRefused turn changes s
+EachPutBackIsRefused = (last : OwnerMark) (turn : Turn) (changes : List Transaction) (s : Owned) → Rises last turn → IsBefore last s.mark → IsRefused turn changes s
 
 abbrev pub EachToldOneWasDone : Type 0
 EachToldOneWasDone = (turn : Turn) (steps : List Step) (s : Owned)

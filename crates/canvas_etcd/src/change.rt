@@ -2,7 +2,7 @@
 
 /// What a shelf became by a call.
 #[derive(Clone, Copy, Debug, PartialEq, Eq)]
-pub enum Change {
+pub enum ShelfChange {
     /// A segment was made.
     Created,
     /// A segment got more bytes.

@@ -14,7 +14,7 @@ mod store;
 mod turn;
 mod writing;
 
-pub use change::Change;
+pub use change::ShelfChange;
 pub use error::EtcdError;
 pub use laws::{
     every_note_keeps_a_shelf_sound, every_takeover_is_a_crash, every_takeover_of_what_stands,
@@ -22,6 +22,6 @@ pub use laws::{
 pub use shelf::EtcdShelf;
 pub use store::{CHUNK, Standing, Store};
 pub use turn::{
-    Mark, Turn, every_late_one_changes_nothing, every_put_back_is_refused,
+    OwnerMark, Turn, every_late_one_changes_nothing, every_put_back_is_refused,
     every_repeat_is_done_once, every_told_one_was_done,
 };

@@ -4,7 +4,7 @@ ghost use Rattle.canvas_shelf.specs.Moments.{CountsFailure};
 ghost use Rattle.canvas_etcd.specs.Stores.{Stored, Puts, Removes, Passes, IsFresh, IsSoundStore, bytes_at, size_at, answered, left_open, noted, may_be};
 ghost use Rattle.canvas_etcd.specs.Listed.{listed_in};
 
-use crate::change::Change;
+use crate::change::ShelfChange;
 use canvas_shelf::{DeviceFailed, ShelfError};
 use std::alloc::{Allocator, Global};
 
@@ -132,7 +132,7 @@ pub trait Store {
     /// stands.
     ///
     /// Fails where it couldn't be noted.
-    fn note(&mut self, change: Change, number: u32, bytes: &[u8]) -> Result<(), DeviceFailed>
+    fn note(&mut self, change: ShelfChange, number: u32, bytes: &[u8]) -> Result<(), DeviceFailed>
         requires { IsTrue (honest self.old) → may_be change number (value self.old).disk ≡ true }
         ensures value { IsTrue (honest self.old) → MatchResult result
             (λ _. value self.new ≡ noted change number bytes.now (value self.old))

@@ -4,7 +4,7 @@ ghost use Rattle.canvas_etcd.specs.Turns.{EachLateOneChangesNothing, EachPutBack
 
 /// What the key of a document's owner says.
 #[derive(Clone, Copy, Debug, PartialEq, Eq)]
-pub struct Mark {
+pub struct OwnerMark {
     /// Who owns the document: no other owner ever has this number.
     pub owner: u64,
     /// By which of the owner's transactions it was written, counted from the takeover, which is 0.
@@ -15,9 +15,9 @@ pub struct Mark {
 #[derive(Clone, Copy, Debug, PartialEq, Eq)]
 pub struct Turn {
     /// What the owner's key has to say; `None` if it isn't to be there.
-    pub from: Option<Mark>,
+    pub from: Option<OwnerMark>,
     /// What it says from then on.
-    pub to: Mark,
+    pub to: OwnerMark,
 }
 
 impl Turn {
@@ -28,13 +28,13 @@ impl Turn {
     {
         Turn {
             from: None,
-            to: Mark { owner, number: 0 },
+            to: OwnerMark { owner, number: 0 },
         }
     }
 
     /// The next transaction of an owner, of whom `last` was done last, and `begun` is the highest number that was given to one. `None`
     /// after the last number, and where `begun` is below that of `last`.
-    pub fn after(last: Mark, begun: u64) -> Option<Turn>
+    pub fn after(last: OwnerMark, begun: u64) -> Option<Turn>
         ensures next { IfSome result (λ turn. IsNext last begun turn) }
         ensures none { IfNone result ((last.number ≤ begun) → 2 ^ 64 ≤ begun + 1) }
     {
@@ -42,7 +42,7 @@ impl Turn {
             return None;
         }
         let number = begun.checked_add(1)?;
-        let to = Mark {
+        let to = OwnerMark {
             owner: last.owner,
             number,
         };

@@ -1,5 +1,5 @@
 // The folders above one.
-use crate::fault::Fault;
+use crate::fault::OsFault;
 use crate::opened::{open_folder, require_folder, sync};
 use crate::path::FolderPath;
 use std::fs;
@@ -8,7 +8,7 @@ use std::io::ErrorKind;
 use std::rt::Files;
 
 // Opens the folder that holds this one.
-fn open_above<R: Files<File = File> + AllocGlobal>(files: &R, path: &str) -> Result<File, Fault> {
+fn open_above<R: Files<File = File> + AllocGlobal>(files: &R, path: &str) -> Result<File, OsFault> {
     let above = format!(in files.alloc(); "{path}/..")?;
     match open_folder(files, above.as_str()) {
         Ok(folder) => Ok(folder),
@@ -21,33 +21,33 @@ fn add_above<R: Files<File = File> + AllocGlobal>(
     files: &R,
     path: &str,
     above: &mut Vec<File>,
-) -> Result<(), Fault> {
+) -> Result<(), OsFault> {
     let one = open_above(files, path)?;
     match above.push(one) {
         Ok(()) => Ok(()),
-        Err(_) => Err(Fault::Memory),
+        Err(_) => Err(OsFault::Memory),
     }
 }
 
 // Makes a folder. It may stand there by now.
-fn make<R: Files>(files: &R, path: &str) -> Result<bool, Fault> {
+fn make<R: Files>(files: &R, path: &str) -> Result<bool, OsFault> {
     match fs::create_dir(files, path) {
         Ok(()) => Ok(true),
         Err(e) if e.kind() == ErrorKind::AlreadyExists => Ok(true),
-        Err(e) => Err(Fault::from(e).above()),
+        Err(e) => Err(OsFault::from(e).above()),
     }
 }
 
 // Checks whether there is a folder. Fails if the folders above it can't be searched.
-pub(crate) fn is_there<R: Files>(files: &R, path: &str) -> Result<bool, Fault> {
+pub(crate) fn is_there<R: Files>(files: &R, path: &str) -> Result<bool, OsFault> {
     match fs::exists(files, path) {
         Ok(is_there) => Ok(is_there),
-        Err(e) => Err(Fault::from(e).above()),
+        Err(e) => Err(OsFault::from(e).above()),
     }
 }
 
 // Makes a folder where it is missing, and tells whether it was.
-fn make_one<R: Files>(files: &R, path: &str) -> Result<bool, Fault> {
+fn make_one<R: Files>(files: &R, path: &str) -> Result<bool, OsFault> {
     if is_there(files, path)? {
         Ok(false)
     } else {
@@ -60,7 +60,7 @@ fn make_above<R: Files<File = File> + AllocGlobal>(
     files: &R,
     path: &str,
     above: &mut Vec<File>,
-) -> Result<(), Fault> {
+) -> Result<(), OsFault> {
     if make_one(files, path)? {
         add_above(files, path, above)?;
     }
@@ -73,7 +73,7 @@ pub(crate) fn make_all<R: Files<File = File> + AllocGlobal + Clone + Drop>(
     files: &R,
     path: &str,
     above: &mut Vec<File>,
-) -> Result<(), Fault> {
+) -> Result<(), OsFault> {
     for end in 1..path.len() {
         if let Some((front, rest)) = path.split_at_checked(end) {
             if rest.starts_with('/') {
@@ -91,7 +91,7 @@ fn know_above<R: Files<File = File> + AllocGlobal>(
     files: &R,
     path: &mut FolderPath,
     above: &mut Vec<File>,
-) -> Result<(), Fault> {
+) -> Result<(), OsFault> {
     if above.is_empty() {
         add_above(files, path.folder()?, above)?;
     }
@@ -103,7 +103,7 @@ pub(crate) fn sync_all<R: Files<File = File> + AllocGlobal>(
     files: &R,
     path: &mut FolderPath,
     above: &mut Vec<File>,
-) -> Result<(), Fault> {
+) -> Result<(), OsFault> {
     know_above(files, path, above)?;
     for one in above.as_slice() {
         sync(one)?;

@@ -5,7 +5,7 @@ use std::io::ErrorKind;
 
 // Why a call of the system failed, as far as anybody asks.
 #[derive(Clone, Copy, Drop)]
-pub(crate) enum Fault {
+pub(crate) enum OsFault {
     // Memory ran out.
     Memory,
     // This process has no descriptor left, or no process has.
@@ -25,32 +25,32 @@ const EMFILE: i32 = 24;
 
 const ENFILE: i32 = 23;
 
-impl Fault {
+impl OsFault {
     // The same of a call that needs the folders above.
-    pub(crate) fn above(self) -> Fault {
+    pub(crate) fn above(self) -> OsFault {
         match self {
-            Fault::Denied => Fault::AboveDenied,
+            OsFault::Denied => OsFault::AboveDenied,
             fault => fault,
         }
     }
 }
 
-impl From<io::Error> for Fault {
-    fn from(e: io::Error) -> Fault {
+impl From<io::Error> for OsFault {
+    fn from(e: io::Error) -> OsFault {
         match e.kind() {
-            ErrorKind::OutOfMemory => Fault::Memory,
-            ErrorKind::StorageFull | ErrorKind::QuotaExceeded => Fault::Full,
-            ErrorKind::PermissionDenied => Fault::Denied,
+            ErrorKind::OutOfMemory => OsFault::Memory,
+            ErrorKind::StorageFull | ErrorKind::QuotaExceeded => OsFault::Full,
+            ErrorKind::PermissionDenied => OsFault::Denied,
             _ => match e.raw_os_error() {
-                Some(EMFILE | ENFILE) => Fault::NoDescriptor,
-                _ => Fault::Device,
+                Some(EMFILE | ENFILE) => OsFault::NoDescriptor,
+                _ => OsFault::Device,
             },
         }
     }
 }
 
-impl From<AllocError> for Fault {
-    fn from(_: AllocError) -> Fault {
-        Fault::Memory
+impl From<AllocError> for OsFault {
+    fn from(_: AllocError) -> OsFault {
+        OsFault::Memory
     }
 }

@@ -29,4 +29,4 @@ pub use opening::make_ready;
 pub use os::OsFolder;
 pub use removed::Removed;
 pub use shelf::DirShelf;
-pub use space::{Refusal, Space};
+pub use space::{Space, SpaceRefusal};

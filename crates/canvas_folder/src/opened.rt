@@ -1,5 +1,5 @@
 // Calls of the system on files and folders.
-use crate::fault::Fault;
+use crate::fault::OsFault;
 use std::alloc::{AllocError, Allocator, Global};
 use std::fs::{DirEntry, File, Metadata, OpenOptions, ReadDir, TryLockError};
 use std::io::{ErrorKind, Read, Write};
@@ -7,11 +7,11 @@ use std::rt::Files;
 use std::{fs, io};
 
 // Nothing but a regular file is opened.
-fn require_file(found: io::Result<Metadata>) -> Result<(), Fault> {
+fn require_file(found: io::Result<Metadata>) -> Result<(), OsFault> {
     match found {
         Ok(found) if found.is_file() => Ok(()),
-        Ok(_) => Err(Fault::Device),
-        Err(e) => Err(Fault::from(e)),
+        Ok(_) => Err(OsFault::Device),
+        Err(e) => Err(OsFault::from(e)),
     }
 }
 
@@ -20,10 +20,10 @@ pub(crate) fn open<R: Files<File = File>>(
     files: &R,
     how: &OpenOptions,
     path: &str,
-) -> Result<File, Fault> {
+) -> Result<File, OsFault> {
     match how.open(files, path) {
         Ok(file) => Ok(file),
-        Err(e) => Err(Fault::from(e)),
+        Err(e) => Err(OsFault::from(e)),
     }
 }
 
@@ -32,7 +32,7 @@ pub(crate) fn open_regular<R: Files<File = File>>(
     files: &R,
     how: &OpenOptions,
     path: &str,
-) -> Result<File, Fault> {
+) -> Result<File, OsFault> {
     require_file(fs::symlink_metadata(files, path))?;
     let file = open(files, how, path)?;
     require_file(file.metadata())?;
@@ -40,43 +40,46 @@ pub(crate) fn open_regular<R: Files<File = File>>(
 }
 
 // Opens a folder.
-pub(crate) fn open_folder<R: Files<File = File>>(files: &R, path: &str) -> Result<File, Fault> {
+pub(crate) fn open_folder<R: Files<File = File>>(files: &R, path: &str) -> Result<File, OsFault> {
     match fs::open(files, path) {
         Ok(folder) => Ok(folder),
-        Err(e) => Err(Fault::from(e)),
+        Err(e) => Err(OsFault::from(e)),
     }
 }
 
 // Locks a folder that was opened. None where another has its lock.
-pub(crate) fn lock(folder: File) -> Result<Option<File>, Fault> {
+pub(crate) fn lock(folder: File) -> Result<Option<File>, OsFault> {
     match folder.try_lock() {
         Ok(()) => Ok(Some(folder)),
         Err(TryLockError::WouldBlock) => Ok(None),
-        Err(TryLockError::Error(e)) => Err(Fault::from(e)),
+        Err(TryLockError::Error(e)) => Err(OsFault::from(e)),
     }
 }
 
 // Adds the bytes of a file.
-pub(crate) fn read_all<A: Allocator>(mut file: File, bytes: &mut Vec<u8, A>) -> Result<(), Fault> {
+pub(crate) fn read_all<A: Allocator>(
+    mut file: File,
+    bytes: &mut Vec<u8, A>,
+) -> Result<(), OsFault> {
     match file.read_to_end(bytes) {
         Ok(_) => Ok(()),
-        Err(e) => Err(Fault::from(e)),
+        Err(e) => Err(OsFault::from(e)),
     }
 }
 
 // Puts bytes at the end of a file.
-pub(crate) fn write(file: &mut File, bytes: &[u8]) -> Result<(), Fault> {
+pub(crate) fn write(file: &mut File, bytes: &[u8]) -> Result<(), OsFault> {
     match file.write_all(bytes) {
         Ok(()) => Ok(()),
-        Err(e) => Err(Fault::from(e)),
+        Err(e) => Err(OsFault::from(e)),
     }
 }
 
 // Syncs a file or a folder.
-pub(crate) fn sync(file: &File) -> Result<(), Fault> {
+pub(crate) fn sync(file: &File) -> Result<(), OsFault> {
     match file.sync_all() {
         Ok(()) => Ok(()),
-        Err(e) => Err(Fault::from(e)),
+        Err(e) => Err(OsFault::from(e)),
     }
 }
 
@@ -84,14 +87,14 @@ pub(crate) fn sync(file: &File) -> Result<(), Fault> {
 pub(crate) fn require_folder<R: Files<File = File> + AllocGlobal + Clone + Drop>(
     files: &R,
     path: &str,
-) -> Result<(), Fault> {
+) -> Result<(), OsFault> {
     if let Err(e) = fs::read_dir(files, path) {
-        return Err(Fault::from(e));
+        return Err(OsFault::from(e));
     }
     let inside = format!(in files.alloc(); "{path}/.")?;
     match fs::symlink_metadata(files, inside.as_str()) {
         Ok(_) => Ok(()),
-        Err(e) => Err(Fault::from(e)),
+        Err(e) => Err(OsFault::from(e)),
     }
 }
 
@@ -100,7 +103,7 @@ pub(crate) fn require_folder<R: Files<File = File> + AllocGlobal + Clone + Drop>
 pub(crate) fn require_descriptors<R: Files<File = File>>(
     files: &R,
     path: &str,
-) -> Result<(), Fault> {
+) -> Result<(), OsFault> {
     let _lock = open_folder(files, path)?;
     let _segment = open_folder(files, path)?;
     let _former = open_folder(files, path)?;
@@ -119,11 +122,11 @@ fn add_entry<R: Files + Drop>(
     alloc: Global,
     names: &mut Vec<String>,
     entry: io::Result<DirEntry<R>>,
-) -> Result<(), Fault> {
+) -> Result<(), OsFault> {
     match entry {
         Ok(entry) => Ok(add_name(alloc, names, entry.file_name())?),
         Err(e) if e.kind() == ErrorKind::InvalidFilename => Ok(()),
-        Err(e) => Err(Fault::from(e)),
+        Err(e) => Err(OsFault::from(e)),
     }
 }
 
@@ -132,7 +135,7 @@ fn add_entries<R: Files + Clone + Drop>(
     alloc: Global,
     names: &mut Vec<String>,
     entries: ReadDir<R, Global>,
-) -> Result<(), Fault> {
+) -> Result<(), OsFault> {
     for entry in entries {
         add_entry(alloc, names, entry)?;
     }
@@ -144,9 +147,9 @@ pub(crate) fn add_names<R: Files<File = File> + AllocGlobal + Clone + Drop>(
     files: &R,
     path: &str,
     names: &mut Vec<String>,
-) -> Result<(), Fault> {
+) -> Result<(), OsFault> {
     match fs::read_dir(files, path) {
         Ok(entries) => add_entries(files.alloc(), names, entries),
-        Err(e) => Err(Fault::from(e)),
+        Err(e) => Err(OsFault::from(e)),
     }
 }

@@ -1,5 +1,5 @@
 // The path of a folder, and what is opened by it.
-use crate::fault::Fault;
+use crate::fault::OsFault;
 use crate::opened::{lock, open, open_folder, open_regular, read_all, sync};
 use std::alloc::{AllocError, Allocator, Global};
 use std::fs::{File, OpenOptions};
@@ -43,34 +43,34 @@ impl FolderPath {
     }
 
     // The path as text, which it has to be.
-    fn text(&self) -> Result<&str, Fault> {
+    fn text(&self) -> Result<&str, OsFault> {
         match str::from_utf8(&self.bytes) {
             Ok(path) => Ok(path),
-            Err(_) => Err(Fault::Device),
+            Err(_) => Err(OsFault::Device),
         }
     }
 
     // The path of the folder itself.
-    pub(crate) fn folder(&mut self) -> Result<&str, Fault> {
+    pub(crate) fn folder(&mut self) -> Result<&str, OsFault> {
         self.bytes.truncate(self.base);
         self.text()
     }
 
     // The path of a file.
-    fn file(&mut self, name: &[u8]) -> Result<&str, Fault> {
+    fn file(&mut self, name: &[u8]) -> Result<&str, OsFault> {
         self.go_to(name)?;
         self.text()
     }
 
     // Syncs the folder.
-    pub(crate) fn sync<R: Files<File = File>>(&mut self, files: &R) -> Result<(), Fault> {
+    pub(crate) fn sync<R: Files<File = File>>(&mut self, files: &R) -> Result<(), OsFault> {
         let folder = open_folder(files, self.folder()?)?;
         sync(&folder)
     }
 
     // Makes the path lead to this open folder, by its descriptor (proc(5), `/proc/pid/fd`): whatever is put at the folder's name from then
     // on, it is the folder that was opened. It leads there for as long as the folder is open. There is room for it: no memory is asked for.
-    pub(crate) fn pin(&mut self, folder: &File) -> Result<(), Fault> {
+    pub(crate) fn pin(&mut self, folder: &File) -> Result<(), OsFault> {
         let number = folder.as_raw_fd();
         self.bytes.clear();
         match write!(self.bytes, "/proc/self/fd/{number}/") {
@@ -78,21 +78,24 @@ impl FolderPath {
                 self.base = self.bytes.len();
                 Ok(())
             }
-            Err(error) => Err(Fault::from(error)),
+            Err(error) => Err(OsFault::from(error)),
         }
     }
 
     // A copy of the folder's path.
-    pub(crate) fn copied(&self, alloc: Global) -> Result<String, Fault> {
+    pub(crate) fn copied(&self, alloc: Global) -> Result<String, OsFault> {
         let (folder, _) = self.bytes.split_at(self.base.min(self.bytes.len()));
         match str::from_utf8(folder) {
             Ok(path) => Ok(String::from_str(alloc, path)?),
-            Err(_) => Err(Fault::Device),
+            Err(_) => Err(OsFault::Device),
         }
     }
 
     // Locks the folder. None where another has its lock.
-    pub(crate) fn lock<R: Files<File = File>>(&mut self, files: &R) -> Result<Option<File>, Fault> {
+    pub(crate) fn lock<R: Files<File = File>>(
+        &mut self,
+        files: &R,
+    ) -> Result<Option<File>, OsFault> {
         let folder = open_folder(files, self.folder()?)?;
         lock(folder)
     }
@@ -103,7 +106,7 @@ impl FolderPath {
         files: &R,
         how: &OpenOptions,
         name: &[u8],
-    ) -> Result<File, Fault> {
+    ) -> Result<File, OsFault> {
         open_regular(files, how, self.file(name)?)
     }
 
@@ -113,7 +116,7 @@ impl FolderPath {
         files: &R,
         name: &[u8],
         bytes: &mut Vec<u8, A>,
-    ) -> Result<(), Fault> {
+    ) -> Result<(), OsFault> {
         let file = self.open(files, OpenOptions::new().read(true), name)?;
         read_all(file, bytes)
     }
@@ -123,7 +126,7 @@ impl FolderPath {
         &mut self,
         files: &R,
         name: &[u8],
-    ) -> Result<File, Fault> {
+    ) -> Result<File, OsFault> {
         let path = self.file(name)?;
         let mut how = OpenOptions::new();
         how.append(true).create_new(true);
@@ -135,10 +138,10 @@ impl FolderPath {
         &mut self,
         files: &R,
         name: &[u8],
-    ) -> Result<(), Fault> {
+    ) -> Result<(), OsFault> {
         match fs::remove_file(files, self.file(name)?) {
             Ok(()) => Ok(()),
-            Err(e) => Err(Fault::from(e)),
+            Err(e) => Err(OsFault::from(e)),
         }
     }
 }

@@ -1,7 +1,7 @@
 // Disk space for a file that is about to be made, and why one wasn't made.
 ghost use Rattle.std.specs.Prelude.{◌≡◌, Some, MatchOption};
 
-use crate::fault::Fault;
+use crate::fault::OsFault;
 use crate::path::FolderPath;
 use std::alloc::{AllocError, Global};
 use std::fs::File;
@@ -12,7 +12,7 @@ use std::sync::atomic::{AtomicU64, Ordering};
 
 /// Why a file wasn't made.
 #[derive(Clone, Copy, Debug, PartialEq, Eq)]
-pub enum Refusal {
+pub enum SpaceRefusal {
     /// The disk has no room for it.
     NoSpace {
         /// How many bytes are missing.
@@ -22,7 +22,7 @@ pub enum Refusal {
     NoDescriptor,
 }
 
-impl Refusal {
+impl SpaceRefusal {
     ghost use Rattle.canvas_folder.specs.Refusals.{code_of, refusal_of};
 
     // As a number: one more than the bytes that are missing.
@@ -30,19 +30,19 @@ impl Refusal {
         ensures { result ≡ code_of self }
     {
         match self {
-            Refusal::NoSpace { missing } => missing.min(MOST_MISSING) + 1,
-            Refusal::NoDescriptor => u64::MAX,
+            SpaceRefusal::NoSpace { missing } => missing.min(MOST_MISSING) + 1,
+            SpaceRefusal::NoDescriptor => u64::MAX,
         }
     }
 
     // What a number says. 0 says that nothing was refused.
-    fn of_code(code: u64) -> Option<Refusal>
+    fn of_code(code: u64) -> Option<SpaceRefusal>
         ensures { result ≡ refusal_of code }
     {
         match code {
             0 => None,
-            u64::MAX => Some(Refusal::NoDescriptor),
-            _ => Some(Refusal::NoSpace { missing: code - 1 }),
+            u64::MAX => Some(SpaceRefusal::NoDescriptor),
+            _ => Some(SpaceRefusal::NoSpace { missing: code - 1 }),
         }
     }
 }
@@ -93,12 +93,12 @@ impl Space {
     }
 
     /// Why the last file that was to be made wasn't; None if it was.
-    pub fn last(&self) -> Option<Refusal> {
-        Refusal::of_code(self.cells.last.load(Ordering::SeqCst))
+    pub fn last(&self) -> Option<SpaceRefusal> {
+        SpaceRefusal::of_code(self.cells.last.load(Ordering::SeqCst))
     }
 
     // A file wasn't made.
-    pub(crate) fn refuse(&self, refusal: Refusal) {
+    pub(crate) fn refuse(&self, refusal: SpaceRefusal) {
         self.cells.last.store(refusal.code(), Ordering::SeqCst);
         self.cells.refused.fetch_add(1, Ordering::SeqCst);
     }
@@ -124,13 +124,13 @@ pub(crate) fn missing<R: Files<File = File>>(
     files: &R,
     path: &mut FolderPath,
     bytes: u64,
-) -> Result<Option<u64>, Fault> {
+) -> Result<Option<u64>, OsFault> {
     // It may be there if a server was killed.
     let _ = path.remove(files, SCRATCH);
     let wanted = bytes.saturating_add(BESIDE);
     let left = match path.make(files, SCRATCH) {
         Ok(mut scratch) => write_zeros(&mut scratch, wanted),
-        Err(Fault::Full) => return Ok(Some(wanted)),
+        Err(OsFault::Full) => return Ok(Some(wanted)),
         Err(fault) => return Err(fault),
     };
     path.remove(files, SCRATCH)?;
@@ -141,7 +141,7 @@ pub(crate) fn missing<R: Files<File = File>>(
 }
 
 // Writes `count` zeros. Returns how many were left when the disk was full, and 0 if it wasn't.
-fn write_zeros<W: Write>(output: &mut W, count: u64) -> Result<u64, Fault> {
+fn write_zeros<W: Write>(output: &mut W, count: u64) -> Result<u64, OsFault> {
     let mut left = count;
     for _ in 0..count {
         let size = left.min(ZEROS.len() as u64) as usize;
@@ -151,16 +151,16 @@ fn write_zeros<W: Write>(output: &mut W, count: u64) -> Result<u64, Fault> {
         let (zeros, _) = ZEROS.split_at(size);
         match output.write(zeros) {
             Ok(written) => left = left.saturating_sub(written as u64),
-            Err(error) => return left_of(left, Fault::from(error)),
+            Err(error) => return left_of(left, OsFault::from(error)),
         }
     }
     Ok(left)
 }
 
 // What is left if the disk is full.
-fn left_of(left: u64, fault: Fault) -> Result<u64, Fault> {
+fn left_of(left: u64, fault: OsFault) -> Result<u64, OsFault> {
     match fault {
-        Fault::Full => Ok(left),
+        OsFault::Full => Ok(left),
         _ => Err(fault),
     }
 }

@@ -30,10 +30,10 @@ use Rattle.canvas_doc.proofs.Props.{names_total}
 use Rattle.canvas_forms.specs.Kinds.{kind_form}
 use Rattle.canvas_forms.specs.Places.{place_form}
 use Rattle.canvas_forms.specs.Rows.{prop_form, row_form, rows_form}
-use Rattle.canvas_json.specs.RowOrder.{are_in_order}
+use Rattle.canvas_forms.specs.RowOrder.{are_in_order}
 use Rattle.canvas_doc.specs.Shallow.{is_shallow_row}
 use Rattle.canvas_forms.proofs.Tested.{t_true}
-use Rattle.canvas_json.proofs.Members.{each_view}
+use Rattle.canvas_forms.proofs.Members.{each_view}
 use Rattle.canvas_forms.proofs.Positions.{is_position_from}
 use Rattle.canvas_forms.proofs.Orders.{document_ordered}
 use Rattle.canvas_doc.proofs.Shallow.{each_entry, object_told, same_doc}

@@ -1,4 +1,5 @@
 -- Meant for the crates above too.
+pub mod Members
 pub mod Forms
 pub mod RowForms
 pub mod Orders
@@ -7,6 +8,7 @@ pub mod Ranges
 pub mod Texts
 pub mod Plain
 -- For the calls of this crate alone.
+mod RowHeads
 mod Tested
 mod Positions
 mod RowReading

@@ -19,9 +19,9 @@ use Rattle.canvas_codec.specs.Parts.{each_written, maybe_written}
 use Rattle.canvas_value.proofs.Tests.{both_hold, both_true}
 use Rattle.canvas_forms.specs.Places.{place_form}
 use Rattle.canvas_forms.specs.Rows.{row_form, rows_form}
-use Rattle.canvas_json.specs.RowOrder.{wide_cmp, wide_root, head_in, is_given, is_root, is_row, is_after, are_after, are_in_order}
-use Rattle.canvas_json.specs.declared.order.WideId.{WideId}
-use Rattle.canvas_json.specs.declared.order.RowHead.{RowHead}
+use Rattle.canvas_forms.specs.RowOrder.{wide_cmp, wide_root, head_in, is_given, is_root, is_row, is_after, are_after, are_in_order}
+use Rattle.canvas_forms.specs.declared.order.WideId.{WideId}
+use Rattle.canvas_forms.specs.declared.order.RowHead.{RowHead}
 
 -- ---- what is written of rows
 

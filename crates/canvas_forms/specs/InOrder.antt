@@ -3,7 +3,7 @@ use Rattle.std.specs.Prelude.{List, Bool, Option, None, if◌then◌else◌}
 use Rattle.serde_json.specs.Data.{Data}
 use Rattle.canvas_model.specs.declared.ObjId.{ObjId}
 use Rattle.canvas_model.specs.Document.{Object}
-use Rattle.canvas_json.specs.RowOrder.{head_in, is_row, are_in_order}
+use Rattle.canvas_forms.specs.RowOrder.{head_in, is_row, are_in_order}
 use Rattle.canvas_forms.specs.Rows.{row_form, rows_form}
 
 -- the rows that a JSON tree in order is read as

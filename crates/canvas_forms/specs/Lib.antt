@@ -1,3 +1,5 @@
+pub mod JsonTree
+pub mod RowOrder
 pub mod Version
 pub mod Numbered
 pub mod Only

@@ -3,7 +3,7 @@ ghost use Rattle.std.specs.Prelude.{◌≡◌, IfOk};
 ghost use Rattle.serde_json.specs.View.{view};
 ghost use Rattle.canvas_forms.specs.Ids.{id_form};
 
-use canvas_json::json_tree::{array, members, two, whole32};
+use crate::json_tree::{array, members, two, whole32};
 use canvas_model::ObjId;
 use serde_json::Value as Json;
 use std::alloc::{AllocError, Global};
@@ -16,7 +16,7 @@ pub(crate) fn write_id(alloc: Global, id: ObjId) -> Result<Json, AllocError>
 }
 
 // The id that a JSON tree is read as, and whether its numbers were in range.
-#[tactic(auto, using(canvas_json::proofs::Members::not_two, canvas_json::proofs::Members::no_array, canvas_json::proofs::Members::is_array, canvas_json::proofs::Members::and_true))]
+#[tactic(auto, using(crate::proofs::Members::not_two, crate::proofs::Members::no_array, crate::proofs::Members::is_array, crate::proofs::Members::and_true))]
 pub(crate) fn read_id(json: &Json) -> Option<(ObjId, bool)>
     ensures { result ≡ id_form.read (view json.now) }
 {

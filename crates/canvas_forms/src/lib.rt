@@ -1,4 +1,5 @@
-//! What messages are made of, as JSON, both ways: ids, kinds, places, changes, outcomes and the rows of documents.
+//! What messages are made of, as JSON, both ways: ids, kinds, places, changes, outcomes and the rows of documents, read from the members of
+//! JSON arrays; and whether rows stand in order.
 //!
 //! A reader answers what it read, and whether each whole number in it was in range, as those of `canvas_value` do. So a JSON tree is read
 //! once, and a caller still can tell a JSON tree of another shape from one with a number out of range.
@@ -6,7 +7,9 @@
 
 pub mod changes;
 mod ids;
+pub mod json_tree;
 mod kinds;
+pub mod order;
 pub mod outcomes;
 mod places;
 pub mod rows;

@@ -11,11 +11,11 @@ ghost use Rattle.canvas_forms.specs.Ids.{id_form};
 ghost use Rattle.canvas_forms.specs.Outcomes.{outcome_form, outcome_after, reason_form, reason_of};
 
 use crate::ids::{read_id, write_id};
+use crate::json_tree::{array, members, one, two, whole32, worded};
 use crate::places::{read_maybe_place, read_place, write_maybe_place, write_place};
 use canvas_codec::JsonFault;
 use canvas_codec::parts::{ended, whole};
 use canvas_doc::{ObjId, Place};
-use canvas_json::json_tree::{array, members, one, two, whole32, worded};
 use canvas_judge::{Outcome, Reason};
 use serde_json::Value as Json;
 use std::alloc::{AllocError, Allocator, Global};
@@ -79,7 +79,7 @@ fn write_ids(alloc: Global, ids: &[ObjId]) -> Result<Json, AllocError>
 /// The outcome that a JSON tree is read as, and whether each whole number in it was in range.
 ///
 /// `NotAValue` for a JSON tree that is that of no outcome, whatever its whole numbers; `OutOfRange` is never answered.
-#[tactic(auto, using(canvas_json::proofs::Members::no_word, canvas_json::proofs::Members::word_first))]
+#[tactic(auto, using(crate::proofs::Members::no_word, crate::proofs::Members::word_first))]
 pub fn read_outcome<A: Allocator + Copy>(
     alloc: A,
     json: &Json,
@@ -109,7 +109,7 @@ pub fn read_outcome<A: Allocator + Copy>(
 }
 
 // A new client, by the members after its word.
-#[tactic(auto, using(canvas_json::proofs::Members::not_one, canvas_json::proofs::Members::and_true))]
+#[tactic(auto, using(crate::proofs::Members::not_one, crate::proofs::Members::and_true))]
 fn read_joined<A: Allocator>(rest: &[Json]) -> Result<(Outcome<A>, bool), JsonFault>
     ensures ok { IfOk result (λ r. outcome_after version_two (codes "joined") (items_view rest.now)
         ≡ Some (seen_outcome r.0, r.1)) }
@@ -126,7 +126,7 @@ fn read_joined<A: Allocator>(rest: &[Json]) -> Result<(Outcome<A>, bool), JsonFa
 }
 
 // A creation, by the members after its word.
-#[tactic(auto, using(canvas_json::proofs::Members::not_one, canvas_json::proofs::Members::and_true))]
+#[tactic(auto, using(crate::proofs::Members::not_one, crate::proofs::Members::and_true))]
 fn read_created<A: Allocator>(alloc: A, rest: &[Json]) -> Result<(Outcome<A>, bool), JsonFault>
     ensures ok { IfOk result (λ r. outcome_after version_two (codes "created") (items_view rest.now)
         ≡ Some (seen_outcome r.0, r.1)) }
@@ -156,7 +156,7 @@ fn read_was_set<A: Allocator>(rest: &[Json]) -> Result<(Outcome<A>, bool), JsonF
 }
 
 // A move, by the members after its word.
-#[tactic(auto, using(canvas_json::proofs::Members::not_one, canvas_json::proofs::Members::and_true))]
+#[tactic(auto, using(crate::proofs::Members::not_one, crate::proofs::Members::and_true))]
 fn read_moved<A: Allocator>(alloc: A, rest: &[Json]) -> Result<(Outcome<A>, bool), JsonFault>
     ensures ok { IfOk result (λ r. outcome_after version_two (codes "moved") (items_view rest.now)
         ≡ Some (seen_outcome r.0, r.1)) }
@@ -173,7 +173,7 @@ fn read_moved<A: Allocator>(alloc: A, rest: &[Json]) -> Result<(Outcome<A>, bool
 }
 
 // A removal, by the members after its word.
-#[tactic(auto, using(canvas_json::proofs::Members::not_one, canvas_json::proofs::Members::no_array, canvas_json::proofs::Members::is_array, canvas_json::proofs::Members::and_true))]
+#[tactic(auto, using(crate::proofs::Members::not_one, crate::proofs::Members::no_array, crate::proofs::Members::is_array, crate::proofs::Members::and_true))]
 fn read_removed<A: Allocator>(alloc: A, rest: &[Json]) -> Result<(Outcome<A>, bool), JsonFault>
     ensures ok { IfOk result (λ r. outcome_after version_two (codes "removed") (items_view rest.now)
         ≡ Some (seen_outcome r.0, r.1)) }
@@ -193,7 +193,7 @@ fn read_removed<A: Allocator>(alloc: A, rest: &[Json]) -> Result<(Outcome<A>, bo
 }
 
 // A refusal, by the members after its word.
-#[tactic(auto, using(canvas_json::proofs::Members::not_two, canvas_json::proofs::Members::and_true))]
+#[tactic(auto, using(crate::proofs::Members::not_two, crate::proofs::Members::and_true))]
 fn read_refused<A: Allocator>(alloc: A, rest: &[Json]) -> Result<(Outcome<A>, bool), JsonFault>
     ensures ok { IfOk result (λ r. outcome_after version_two (codes "refused") (items_view rest.now)
         ≡ Some (seen_outcome r.0, r.1)) }

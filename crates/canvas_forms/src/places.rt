@@ -7,9 +7,9 @@ ghost use Rattle.canvas_codec.specs.Faults.{RefusesShape};
 ghost use Rattle.canvas_forms.specs.Places.{pos_form, pos_fault, place_form};
 
 use crate::ids::{read_id, write_id};
+use crate::json_tree::{array, members, two};
 use canvas_codec::JsonFault;
 use canvas_doc::Place;
-use canvas_json::json_tree::{array, members, two};
 use canvas_pos::{Pos, PosError};
 use serde_json::Value as Json;
 use std::alloc::{AllocError, Allocator, Global};
@@ -62,7 +62,7 @@ fn fault_of(e: PosError) -> JsonFault
 }
 
 // The place that a JSON tree is read as, and whether its numbers were in range.
-#[tactic(auto, using(canvas_json::proofs::Members::not_two, canvas_json::proofs::Members::no_array, canvas_json::proofs::Members::is_array, canvas_json::proofs::Members::and_true))]
+#[tactic(auto, using(crate::proofs::Members::not_two, crate::proofs::Members::no_array, crate::proofs::Members::is_array, crate::proofs::Members::and_true))]
 pub(crate) fn read_place<A: Allocator>(alloc: A, json: &Json) -> Result<(Place<A>, bool), JsonFault>
     ensures ok { IfOk result (λ r. place_form.read (view json.now) ≡ Some r) }
     ensures fault { IfErr result (RefusesShape (place_form.read (view json.now))) }

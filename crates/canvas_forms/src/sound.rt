@@ -13,7 +13,7 @@ ghost use Rattle.canvas_forms.specs.Places.{place_form};
 ghost use Rattle.canvas_forms.specs.Changes.{change_form};
 ghost use Rattle.canvas_forms.specs.Outcomes.{outcome_form};
 ghost use Rattle.canvas_forms.specs.Rows.{row_form, rows_form};
-ghost use Rattle.canvas_json.specs.RowOrder.{are_in_order};
+ghost use Rattle.canvas_forms.specs.RowOrder.{are_in_order};
 
 use canvas_doc::{Change, Doc, ObjId, Object, Place};
 use canvas_judge::Outcome;

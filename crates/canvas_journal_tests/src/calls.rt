@@ -3,7 +3,7 @@ ghost use Rattle.std.specs.Prelude.{◌≡◌, false};
 
 use crate::documents::{Access, shelf_for};
 use canvas_shelf::Shelf;
-use canvas_watch::{Counts, ShelfCall, SumFiles, Watched};
+use disk_integrity::{CallCounts, ShelfCall, SumFiles, Watched};
 use std::alloc::Global;
 use std::fs;
 use std::test::Fail;
@@ -33,7 +33,7 @@ pub struct Told {
     // Which call is noted as the first failure now.
     pub failed: Option<ShelfCall>,
     // What was counted.
-    pub counts: Counts,
+    pub counts: CallCounts,
 }
 
 // What goes to a thread.

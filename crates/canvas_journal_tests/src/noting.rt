@@ -1,7 +1,7 @@
 // What is noted of a shelf, calls of which fail.
 use crate::calls::{Standing, Step, renew, watched};
 use crate::documents::Access;
-use canvas_watch::ShelfCall;
+use disk_integrity::ShelfCall;
 use std::test::Fail;
 
 // Checks whether these calls of the watched shelf of a folder, for reading, all fail, this is noted as the first, and no bytes are counted.

@@ -1,8 +1,7 @@
 // The sums of segments in a real folder.
 use crate::calls::{Standing, Step, renew, watched};
 use crate::documents::Access;
-use canvas_sums::{SumFault, check_sums};
-use canvas_watch::{Counts, ShelfCall, read_sums};
+use disk_integrity::{CallCounts, ShelfCall, SumFault, check_sums, read_sums};
 use std::fs;
 use std::test::Fail;
 
@@ -25,7 +24,7 @@ fn written(
     folder: &str,
     standing: Standing,
     calls: &[Step],
-) -> Result<Option<Counts>, Fail> {
+) -> Result<Option<CallCounts>, Fail> {
     renew(rt, folder, standing)?;
     let told = watched(rt, folder, Access::Writing, calls)?;
     let is_done = told.done == calls.len() && told.failures == 0;
@@ -62,7 +61,7 @@ const TWICE: &[Step] = &[
 
 #[test]
 fn writes_a_line_for_each_sync(rt: HostRuntime) -> Result<(), Fail> {
-    let counts = Counts {
+    let counts = CallCounts {
         syncs: 2,
         bytes: 56,
         checkpoints: 1,

@@ -10,13 +10,13 @@ use Rattle.canvas_board.specs.Marks.{IsLegal, Logged, Mark, Opening, board, star
 use Rattle.canvas_board.specs.Receipts.{ReceiptValue}
 use Rattle.canvas_board.proofs.Boards.{legal_begin, version_before}
 use base.Growing.{prefix_refl, prefix_trans}
-use Rattle.canvas_intake.specs.declared.faults.SubmitError.{SubmitError}
-use Rattle.canvas_intake.specs.declared.faults.SubmitError.TheVariants.{Refused, NotKept, Owed}
-use Rattle.canvas_intake.specs.Fates.{AreJudged, as_owed, marks, receipts, unjudged}
+use Rattle.canvas_desk.specs.declared.faults.SubmitError.{SubmitError}
+use Rattle.canvas_desk.specs.declared.faults.SubmitError.TheVariants.{Refused, NotKept, Owed}
+use Rattle.canvas_desk.specs.Fates.{AreJudged, as_owed, marks, receipts, unjudged}
 use Rattle.canvas_desk.specs.Batches.{IsAnswered, LeavesBatch}
-use Rattle.canvas_intake.specs.Faults.{is_memory}
-use Rattle.canvas_intake.specs.Judging.{IsEntryFor, Refuses}
-use Rattle.canvas_intake.proofs.Boards.{board_next, stands_next}
+use Rattle.canvas_desk.specs.Faults.{is_memory}
+use Rattle.canvas_desk.specs.Judging.{IsEntryFor, Refuses}
+use Rattle.canvas_desk.proofs.Boards.{board_next, stands_next}
 use Rattle.canvas_room.specs.Batches.{AreSaid, AreSeen, IsUnanswered, Says}
 use Rattle.canvas_room.specs.Seats.{IsAnswerTo, IsRefused, IsRefusedAt, IsTold, Learns, RefusesEdit, is_failure}
 use Rattle.std.proofs.lemmas.Bool.{true≢false}

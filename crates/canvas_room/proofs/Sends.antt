@@ -41,12 +41,12 @@ use Rattle.canvas_board.specs.declared.mark.Mark.{Mark as MarkOf}
 use Rattle.canvas_board.specs.declared.rule.Published.{Published as PublishedOf}
 use Rattle.canvas_board.proofs.history.Book.TheSendSync as book
 use Rattle.canvas_board.proofs.history.Front.TheSendSync as front
-use Rattle.canvas_intake.proofs.faults.SubmitError.TheSendSync as submit_error
-use Rattle.canvas_intake.specs.contracts.faults.SubmitError as SubmitError
+use Rattle.canvas_desk.proofs.faults.SubmitError.TheSendSync as submit_error
+use Rattle.canvas_desk.specs.contracts.faults.SubmitError as SubmitError
 use Rattle.canvas_desk.specs.contracts.desk.Desk as Desk
 use Rattle.canvas_journal.specs.declared.keeper.Keeper as keeper
 use Rattle.canvas_desk.specs.contracts.desk.Desk.TheInside as in_desk
-use Rattle.canvas_room.specs.contracts.asking.Told as Told
+use Rattle.canvas_room.specs.contracts.asking.SeatAnswer as SeatAnswer
 use Rattle.canvas_room.specs.contracts.mailbox.Ticket as Ticket
 use Rattle.canvas_room.specs.contracts.mailbox.Mailbox as Mailbox
 use Rattle.canvas_room.specs.contracts.mailbox.Reply as Reply
@@ -209,10 +209,10 @@ Request-send = search (leaves, sendable, crosses) depth 40 fits 4000
 pub Receipt-send : (N : RattleType) (g : Ghosts N.Denot) → IsSend N → IsSend (Receipt.the_row N g)
 Receipt-send N g s = search (Entry-send, front.the_send, sendable, crosses) depth 40 fits 4000
 
-pub Told-send : (N : RattleType) (g : Ghosts N.Denot) → IsSend N → IsSend (Told.the_row N g)
+pub Told-send : (N : RattleType) (g : Ghosts N.Denot) → IsSend N → IsSend (SeatAnswer.the_row N g)
 Told-send N g s =
     let r = Receipt-send N g s in
-    declared_send (Told.the_type N g) (as_row_send (Result.the_field (Receipt.the_row N g) SubmitError.the_row) (search (r, submit_error.the_send, sendable)), (search (front.the_send, sendable), tt))
+    declared_send (SeatAnswer.the_type N g) (as_row_send (Result.the_field (Receipt.the_row N g) SubmitError.the_row) (search (r, submit_error.the_send, sendable)), (search (front.the_send, sendable), tt))
 
 pub Ticket-send : (N : RattleType) (g : Ghosts N.Denot) → IsSend N → IsSend (Ticket.the_row N g)
 Ticket-send N g s = declared_send (Ticket.the_type N g) (Request-send, (search (front.the_send, sendable), tt))

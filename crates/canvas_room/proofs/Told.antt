@@ -17,10 +17,10 @@ use Rattle.canvas_board.specs.Receipts.{ReceiptValue, EndsWith}
 use Rattle.canvas_board.proofs.Boards.{version_before}
 use Rattle.canvas_board.proofs.Failures.{tells_later}
 use base.Growing.{prefix_refl, prefix_trans}
-use Rattle.canvas_intake.specs.declared.faults.Refusal.TheVariants.{Stranger, Repeat, Gap, Full}
-use Rattle.canvas_intake.specs.declared.faults.SubmitError.{SubmitError}
-use Rattle.canvas_intake.specs.declared.faults.SubmitError.TheVariants.{Refused, NotKept, Owed}
-use Rattle.canvas_intake.specs.Judging.{Refuses}
+use Rattle.canvas_desk.specs.declared.faults.Refusal.TheVariants.{Stranger, Repeat, Gap, Full}
+use Rattle.canvas_desk.specs.declared.faults.SubmitError.{SubmitError}
+use Rattle.canvas_desk.specs.declared.faults.SubmitError.TheVariants.{Refused, NotKept, Owed}
+use Rattle.canvas_desk.specs.Judging.{Refuses}
 use Rattle.canvas_desk.specs.Submitting.{IsAllShown, IsPublished, LeavesAt, SettlesAt}
 use Rattle.canvas_room.specs.Seats.{Answers, IsAnswerTo, IsEdit, IsFailedSince, IsOutcomeOf, IsRefused, IsRefusedAt, IsTold, Learns, RefusesEdit, is_failure}
 use Rattle.std.proofs.lemmas.Bool.{true≢false}

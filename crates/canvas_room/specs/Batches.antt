@@ -4,8 +4,8 @@ use mathlib.Core.List.{IsPrefix}
 use Rattle.canvas_server.specs.Asked.{Asked}
 use Rattle.canvas_board.specs.Marks.{Mark, Opening}
 use Rattle.canvas_board.specs.Receipts.{ReceiptValue}
-use Rattle.canvas_intake.specs.declared.faults.SubmitError.{SubmitError}
-use Rattle.canvas_intake.specs.Faults.{is_memory}
+use Rattle.canvas_desk.specs.declared.faults.SubmitError.{SubmitError}
+use Rattle.canvas_desk.specs.Faults.{is_memory}
 use Rattle.canvas_room.specs.declared.batch.Sender.{Sender}
 use Rattle.canvas_room.specs.Seats.{IsRefusedAt, IsTold, RefusesEdit, is_failure}
 

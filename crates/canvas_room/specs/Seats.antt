@@ -7,10 +7,10 @@ use Rattle.canvas_journal.specs.declared.fault.KeepError.TheVariants.{Device, Fa
 use Rattle.canvas_server.specs.Asked.{Asked}
 use Rattle.canvas_board.specs.Marks.{IsLegal, Mark, Opening, Sees, TellsFailure, board}
 use Rattle.canvas_board.specs.Receipts.{ReceiptValue, EndsWith}
-use Rattle.canvas_intake.specs.declared.faults.Refusal.TheVariants.{Stranger, Repeat, Gap}
-use Rattle.canvas_intake.specs.declared.faults.SubmitError.{SubmitError}
-use Rattle.canvas_intake.specs.declared.faults.SubmitError.TheVariants.{Refused, NotKept, Owed}
-use Rattle.canvas_intake.specs.Judging.{Refuses}
+use Rattle.canvas_desk.specs.declared.faults.Refusal.TheVariants.{Stranger, Repeat, Gap}
+use Rattle.canvas_desk.specs.declared.faults.SubmitError.{SubmitError}
+use Rattle.canvas_desk.specs.declared.faults.SubmitError.TheVariants.{Refused, NotKept, Owed}
+use Rattle.canvas_desk.specs.Judging.{Refuses}
 
 -- what was asked for is an edit
 abbrev pub IsEdit : What → Type 0

@@ -3,7 +3,7 @@ ghost use Rattle.std.specs.Prelude.{◌≡◌, true, false, Err, IfErr, IfNone, 
 ghost use mathlib.Core.List.{IsPrefix};
 ghost use Rattle.canvas_server.specs.Asked.{Asked, seen_request};
 ghost use Rattle.canvas_board.specs.Marks.{IsLegal, TellsFailure};
-ghost use Rattle.canvas_intake.specs.Faults.{is_memory};
+ghost use Rattle.canvas_desk.specs.Faults.{is_memory};
 ghost use Rattle.canvas_room.specs.Batches.{IsUnanswered};
 ghost use Rattle.canvas_room.specs.Seats as seats;
 ghost use Rattle.canvas_room.specs.Seats.{IsAnswerTo, IsFailedSince, Learns};
@@ -16,7 +16,7 @@ use std::sync::Wait;
 
 /// An answer, and what its seat is to learn with it.
 #[derive(Drop)]
-pub struct Told<N: RoomName> {
+pub struct SeatAnswer<N: RoomName> {
     /// The answer.
     pub answer: Result<Receipt<N>, SubmitError>,
     /// A beginning of the history.
@@ -75,11 +75,11 @@ pub fn learned<N: RoomName>(
 }
 
 // What is told if memory runs out: nothing is learned.
-fn unjudged<N: RoomName>(error: SubmitError, seen: &Front<N>) -> Told<N>
+fn unjudged<N: RoomName>(error: SubmitError, seen: &Front<N>) -> SeatAnswer<N>
     requires { is_memory error ≡ true }
     ensures { (q : Asked) → IsAnswerTo N.opening seen.now q result.answer result.learns }
 {
-    Told {
+    SeatAnswer {
         answer: Err(error),
         learns: seen.again(),
     }
@@ -104,13 +104,13 @@ pub fn failed<K: Keeper, N: RoomName, R: Wait + Drop, W: Wait>(
     desk: &mut Desk<K, N, R>,
     error: SubmitError,
     seen: &Front<N>,
-) -> Told<N>
+) -> SeatAnswer<N>
     requires failed { desk.old.failed ≡ true }
     requires error { seats.is_failure error ≡ true }
     ensures { (q : Asked) → IsAnswerTo N.opening seen.now q result.answer result.learns }
 {
     let told = desk.tell_failure(rt);
-    Told {
+    SeatAnswer {
         answer: Err(error),
         learns: learned_of(seen, told),
     }
@@ -122,7 +122,7 @@ pub fn unanswered<K: Keeper, N: RoomName, R: Wait + Drop, W: Wait>(
     desk: &mut Desk<K, N, R>,
     error: SubmitError,
     seen: &Front<N>,
-) -> Told<N>
+) -> SeatAnswer<N>
     requires { IsUnanswered desk.old.failed error }
     ensures { (q : Asked) → IsAnswerTo N.opening seen.now q result.answer result.learns }
 {
@@ -139,7 +139,7 @@ pub fn ask<K: Keeper, N: RoomName, R: Wait + Drop, W: Wait>(
     desk: &mut Desk<K, N, R>,
     seen: &Front<N>,
     request: &Request,
-) -> Told<N>
+) -> SeatAnswer<N>
     requires { IsPrefix seen.now desk.old.history }
     ensures { IsAnswerTo N.opening seen.now (seen_request request.now) result.answer result.learns }
 {
@@ -148,7 +148,7 @@ pub fn ask<K: Keeper, N: RoomName, R: Wait + Drop, W: Wait>(
         Some(error) => failed(rt, desk, error, seen),
         None => {
             let learns = learned(&answer, seen, &desk.shown());
-            Told { answer, learns }
+            SeatAnswer { answer, learns }
         }
     }
 }

@@ -4,7 +4,7 @@ ghost use Rattle.canvas_server.specs.Asked.{seen_request};
 ghost use Rattle.canvas_board.specs.Marks.{IsLegal};
 ghost use Rattle.canvas_room.specs.Batches.{AreSaid, AreSeen, IsUnanswered, Says, seen_of};
 
-use crate::asking::{Told, is_refusal, learned};
+use crate::asking::{SeatAnswer, is_refusal, learned};
 use crate::mailbox::{Content, Mailbox, Reply, Ticket};
 use canvas_board::{Front, Receipt, RoomName};
 use canvas_desk::{Desk, SubmitError};
@@ -66,7 +66,7 @@ fn reply<N: RoomName>(
         return None;
     }
     let learns = learned(&answer, &ticket.seen, due);
-    Some(Reply::new(ticket, Told { answer, learns }))
+    Some(Reply::new(ticket, SeatAnswer { answer, learns }))
 }
 
 // Leaves the answer to a request in the slot of its seat.

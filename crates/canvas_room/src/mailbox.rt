@@ -4,7 +4,7 @@ ghost use mathlib.Core.List.{IsPrefix};
 ghost use Rattle.canvas_server.specs.Asked.{seen_request};
 ghost use Rattle.canvas_room.specs.Seats.{IsAnswerTo};
 
-use crate::asking::Told;
+use crate::asking::SeatAnswer;
 use crate::batch::MOST_SEATS;
 use canvas_board::{Front, RoomName};
 use canvas_server::Request;
@@ -26,7 +26,7 @@ pub struct Ticket<N: RoomName> {
 /// The answer to a queued request, together with the request. Contracts see it as the history that the seat had seen.
 pub struct Reply<N: RoomName> {
     ticket: Ticket<N>,
-    told: Told<N>,
+    told: SeatAnswer<N>,
 }
 
 impl<N: RoomName> Drop for Reply<N> {
@@ -188,7 +188,7 @@ impl<N: RoomName> Ticket<N> {
 
 impl<N: RoomName> Reply<N> {
     /// Pairs a ticket with its answer.
-    pub fn new(ticket: Ticket<N>, told: Told<N>) -> Reply<N>
+    pub fn new(ticket: Ticket<N>, told: SeatAnswer<N>) -> Reply<N>
         requires { IsAnswerTo N.opening ticket.seen (seen_request ticket.request) told.answer told.learns }
         ensures { result ≡ ticket.seen }
     {
@@ -197,7 +197,7 @@ impl<N: RoomName> Reply<N> {
 
     /// Returns the answer if it belongs to this request and to a seat that had seen exactly `seen`.
     #[tactic(auto, using(crate::proofs::Saying::answer_as))]
-    pub fn told_of(self, request: &Request, seen: &Front<N>) -> Option<Told<N>>
+    pub fn told_of(self, request: &Request, seen: &Front<N>) -> Option<SeatAnswer<N>>
         ensures { IfSome result (λ told. IsAnswerTo N.opening seen.now (seen_request request.now) told.answer told.learns) }
     {
         let Reply { ticket, told } = self;

@@ -1,7 +1,7 @@
 // A room: the lock round its desk, and its seats.
 ghost use Rattle.std.specs.Prelude.{◌≡◌, ◌≤◌, ◌<◌, ◌⊎◌, [], IfErr, IfOk, IsTrue, false, replicate};
 ghost use Rattle.canvas_model.specs.Log.{last_version};
-ghost use Rattle.canvas_intake.specs.Ready.{IsKeptAt};
+ghost use Rattle.canvas_desk.specs.Ready.{IsKeptAt};
 
 use crate::mailbox::Mailbox;
 use crate::seat_slot::SeatSlot;
@@ -61,7 +61,7 @@ impl<K: Keeper> Model for BlankRoom<K> {
     ghost use Rattle.std.specs.Coded.{codes};
     ghost use Rattle.canvas_model.specs.Codes.{state_code, value_code};
     ghost use Rattle.canvas_model.specs.Log.{last_version};
-    ghost use Rattle.canvas_intake.specs.Ready.{IsKeptAt};
+    ghost use Rattle.canvas_desk.specs.Ready.{IsKeptAt};
     ghost use Rattle.canvas_room.specs.Rooms.{BlankValue};
 
     ghost Value = { BlankValue K };

@@ -4,7 +4,7 @@ ghost use Rattle.canvas_server.specs.Asked.{seen_request};
 ghost use Rattle.canvas_room.specs.Batches.{IsUnanswered};
 ghost use Rattle.canvas_room.specs.Seats.{IsAnswerTo};
 
-use crate::asking::Told;
+use crate::asking::SeatAnswer;
 use crate::batch::commit;
 use crate::mailbox::{Content, Mailbox, Ticket};
 use canvas_board::{Front, RoomName};
@@ -53,7 +53,12 @@ impl<N: RoomName> SeatSlot<N> {
 
     /// Waits so long as another seat leads and the slot has no reply. Takes then what was told of a request, if it stands in the slot; else
     /// this seat leads from now on.
-    pub fn follow<W: Wait>(&self, rt: &W, request: &Request, seen: &Front<N>) -> Option<Told<N>>
+    pub fn follow<W: Wait>(
+        &self,
+        rt: &W,
+        request: &Request,
+        seen: &Front<N>,
+    ) -> Option<SeatAnswer<N>>
         ensures { IfSome result (λ told. IsAnswerTo N.opening seen.now (seen_request request.now) told.answer told.learns) }
     {
         let told = self.mailbox.follow(rt, self.seat)?.told_of(request, seen);
@@ -79,7 +84,12 @@ impl<N: RoomName> SeatSlot<N> {
     }
 
     /// Takes what was told of a request, if it stands in the slot; a request that waits there is taken back. It may wait for the slot's lock.
-    pub fn clear<W: Wait>(&self, rt: &W, request: &Request, seen: &Front<N>) -> Option<Told<N>>
+    pub fn clear<W: Wait>(
+        &self,
+        rt: &W,
+        request: &Request,
+        seen: &Front<N>,
+    ) -> Option<SeatAnswer<N>>
         ensures { IfSome result (λ told. IsAnswerTo N.opening seen.now (seen_request request.now) told.answer told.learns) }
     {
         let content = self.mailbox.take(rt, self.seat);

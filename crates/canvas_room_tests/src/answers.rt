@@ -4,7 +4,6 @@ ghost use Rattle.std.specs.Prelude.{◌≡◌, [], IsTrue};
 use crate::asks::{Ask, Asking, Asks, are_answered};
 use crate::folders::{remove, shelf_in, version_in};
 use crate::records::Recorded;
-use canvas_benches::{Bench, RoomTest, SeatOf, room_on, told_by, told_in_memory};
 use canvas_board::RoomName;
 use canvas_desk::{Refusal, SubmitError};
 use canvas_journal::{KeepError, Keeper};
@@ -15,6 +14,7 @@ use std::fs::File;
 use std::rt::Files;
 use std::sync::Wait;
 use std::test::Fail;
+use test_rooms::{Bench, RoomTest, SeatOf, room_on, told_by, told_in_memory};
 
 // Why there is no room of so many seats, if there is none.
 fn refusal_of(alloc: Global, seats: usize) -> Result<Option<RoomError>, Fail> {

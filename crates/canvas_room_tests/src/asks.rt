@@ -1,6 +1,5 @@
 //! What seats are asked one after the other, and what they have to answer.
 use crate::seats::{join_by, reads, refuses};
-use canvas_benches::{RoomTest, SeatOf};
 use canvas_board::RoomName;
 use canvas_desk::SubmitError;
 use canvas_journal::Keeper;
@@ -8,6 +7,7 @@ use canvas_room::Room;
 use std::alloc::Global;
 use std::sync::Wait;
 use std::test::Fail;
+use test_rooms::{RoomTest, SeatOf};
 
 /// What a seat is asked, and what it has to answer.
 #[derive(Clone, Copy)]

@@ -5,7 +5,7 @@ ghost use Rattle.canvas_shelf.specs.Disk.{Content};
 ghost use Rattle.canvas_server.specs.Asked.{seen_request};
 ghost use Rattle.canvas_board.specs.Marks.{Mark, board};
 ghost use Rattle.canvas_desk.specs.Crashes.{FindsSeen};
-ghost use Rattle.canvas_intake.specs.Judging.{IsEntryFor};
+ghost use Rattle.canvas_desk.specs.Judging.{IsEntryFor};
 ghost use Rattle.canvas_room_tests.specs.Crashes.{IsLeftFrom};
 
 use crate::desks::{MemDesk, pages};

@@ -1,12 +1,11 @@
 //! Desks to ask.
 ghost use Rattle.std.specs.Prelude.{◌≡◌, [], IsTrue, false};
-ghost use Rattle.canvas_intake.specs.Ready.{IsKeptAt};
+ghost use Rattle.canvas_desk.specs.Ready.{IsKeptAt};
 ghost use Rattle.canvas_room_tests.specs.Desks.{first};
 ghost use Rattle.canvas_journal.specs.Meaning.{opening};
 ghost use Rattle.canvas_shelf.specs.Shelved.{disk_of};
 
 use crate::trials::{Asked, is_answered};
-use canvas_benches::{new_page, object};
 use canvas_board::{Blank, Opening, Receipt, RoomName, open_board};
 use canvas_desk::{Desk, SubmitError};
 use canvas_journal::{Journal, Keeper, open};
@@ -17,6 +16,7 @@ use std::alloc::Global;
 use std::marker::Brand;
 use std::sync::{Mutex, Wait};
 use std::test::Fail;
+use test_rooms::{new_page, object};
 
 /// A desk over a journal on a shelf in memory.
 pub type MemDesk<'a, N, W> = Desk<Journal<MemShelf>, N, &'a W>;

@@ -1,5 +1,4 @@
 //! What one seat does.
-use canvas_benches::{SeatOf, new_page, object};
 use canvas_board::RoomName;
 use canvas_desk::SubmitError;
 use canvas_journal::Keeper;
@@ -9,6 +8,7 @@ use canvas_server::Request;
 use std::alloc::Global;
 use std::sync::Wait;
 use std::test::Fail;
+use test_rooms::{SeatOf, new_page, object};
 
 // The request of a client's edit that makes a page with the edit's number as its counter.
 fn page(alloc: Global, client: u32, seq: u64) -> Result<Request, Fail> {

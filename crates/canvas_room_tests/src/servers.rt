@@ -1,8 +1,8 @@
 //! Servers to ask, and what they are asked.
-use canvas_benches::{new_page, object};
 use canvas_server::{Request, Server, TakeError, Took};
 use std::alloc::Global;
 use std::test::Fail;
+use test_rooms::{new_page, object};
 
 /// The request of a client's edit that makes a page with the edit's number as its counter.
 pub fn page(alloc: Global, client: u32, seq: u64) -> Result<Request, Fail> {

@@ -3,7 +3,6 @@ ghost use Rattle.std.specs.Prelude.{◌≡◌};
 
 use crate::records::Recorded;
 use crate::seats::{join_by, joins_and_reads, reads_first};
-use canvas_benches::{Bench, SeatOf, room_in_memory};
 use canvas_board::RoomName;
 use canvas_journal::Keeper;
 use canvas_room::{BlankRoom, Lock, Room, Seat};
@@ -13,6 +12,7 @@ use std::sync::Wait;
 use std::sync::atomic::{AtomicBool, AtomicUsize, Ordering};
 use std::test::Fail;
 use std::thread::{Threads, join, map_vec, yield_now};
+use test_rooms::{Bench, SeatOf, room_in_memory};
 
 // How often a thread that waits yields at most, and how often one that lets the others come to the lock does.
 const MOST_TURNS: u32 = 1_000_000;

@@ -4,7 +4,7 @@ use Rattle.std.specs.Prelude.{if◌then◌else◌}
 use Rattle.canvas_model.specs.World.{World, Run, empty}
 use Rattle.canvas_model.specs.Good.{IsGood}
 use Rattle.canvas_model.specs.Laws.{AfterEachStep, AfterEachRun}
-use Rattle.canvas_events.proofs.Growth.{adds, added, run_adds}
+use Rattle.canvas_world.proofs.Growth.{adds, added, run_adds}
 use Rattle.canvas_model.specs.World as world
 use Rattle.canvas_script.specs.declared.said.Whole.{Whole}
 use Rattle.canvas_script.specs.declared.said.Whole.TheVariants.{Sync, Publish, Checkpoint, ShowServer}

@@ -1,7 +1,7 @@
 // The lines that answer events.
 ghost use Rattle.std.specs.Prelude.{◌≡◌, IfOk, string_bytes};
 ghost use Rattle.canvas_client.specs.Seen.{seen_received};
-ghost use Rattle.canvas_events.specs.Seen.{seen_answer};
+ghost use Rattle.canvas_world.specs.Seen.{seen_answer};
 ghost use Rattle.canvas_script.specs.Answers.{answer_line, received_line};
 
 use canvas_client::Received;

@@ -1,6 +1,6 @@
 // What a script asks for, and how it is read.
 ghost use Rattle.std.specs.Prelude.{◌≡◌, ◌-◌, ◌∷◌, ◌++◌, ◌↔◌, [], map, take, IfErr, IfNone, IfOk, IfSome, IsTrue, OnOk};
-ghost use Rattle.canvas_events.specs.Seen.{seen_event};
+ghost use Rattle.canvas_world.specs.Seen.{seen_event};
 ghost use Rattle.canvas_lines.specs.Lines.{lines_of};
 ghost use Rattle.canvas_script.specs.Asked.{AddsAsked, NamesNode, entering};
 ghost use Rattle.canvas_script.specs.Asked as asked;

@@ -8,9 +8,9 @@ use Rattle.canvas_client.specs.Follow.{EachVerdictLeavesRoot}
 use Rattle.canvas_board.specs.Marks.{Mark, Opening}
 use Rattle.canvas_nodes.specs.declared.link.LinkError.{LinkError}
 use Rattle.canvas_nodes.specs.Hears.{BreaksOff, Exchanges}
-use Rattle.canvas_front.specs.Links.{Grants, RefusesRound}
-use Rattle.canvas_front.specs.Exchanges.{ExchangesSeeOn}
-use Rattle.canvas_front.specs.Table.{SeesOn}
+use Rattle.room_handler.specs.Links.{Grants, RefusesRound}
+use Rattle.room_handler.specs.Exchanges.{ExchangesSeeOn}
+use Rattle.room_handler.specs.Table.{SeesOn}
 use Rattle.canvas_threads.specs.Follows.{AreFirstOf}
 use Rattle.canvas_threads.specs.Histories.{FollowsAt, OpensAfter, log_of}
 use Rattle.canvas_threads.specs.Exchanges.{CatchesUpAt, HasHeadline, KeepsFollowing}

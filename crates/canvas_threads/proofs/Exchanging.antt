@@ -14,10 +14,10 @@ use Rattle.canvas_client.specs.Follow.{EachVerdictLeavesRoot}
 use Rattle.canvas_board.specs.Marks.{IsLegal, Mark, Opening, board}
 use Rattle.canvas_nodes.specs.declared.link.LinkError.{LinkError}
 use Rattle.canvas_nodes.specs.Hears.{BreaksAtEdit, BreaksCatching, BreaksOff, CatchesUp, Climbs, Exchanges, HearsEach, HearsNews, SendsAll, SendsEach, SendsEdit}
-use Rattle.canvas_front.specs.News.{news_of}
-use Rattle.canvas_front.specs.Table.{AnswersAsk, SeesOn}
-use Rattle.canvas_front.specs.Links.{Grants, IsNo, RefusesRound}
-use Rattle.canvas_front.proofs.SeesOn.{at_edit, by_break, by_catching_up, by_sending, while_catching_up}
+use Rattle.room_handler.specs.News.{news_of}
+use Rattle.room_handler.specs.Table.{AnswersAsk, SeesOn}
+use Rattle.room_handler.specs.Links.{Grants, IsNo, RefusesRound}
+use Rattle.room_handler.proofs.SeesOn.{at_edit, by_break, by_catching_up, by_sending, while_catching_up}
 use Rattle.canvas_threads.specs.Follows.{AreAllOf, AreFirstOf}
 use Rattle.canvas_threads.specs.Histories.{FollowsAt, OpensAfter, log_of}
 use Rattle.canvas_threads.specs.Exchanges.{IsUpToDate}

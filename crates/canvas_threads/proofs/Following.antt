@@ -16,7 +16,7 @@ use Rattle.canvas_client.specs.declared.error.EditError.{EditError}
 use Rattle.canvas_client.specs.declared.error.EditError.TheVariants as error
 use Rattle.canvas_board.specs.Marks.{IsLegal, Mark, Opening}
 use Rattle.canvas_nodes.specs.GoesOn.{GoesOn}
-use Rattle.canvas_front.specs.Table.{SeesOn}
+use Rattle.room_handler.specs.Table.{SeesOn}
 use Rattle.canvas_threads.specs.Follows.{AreFirstOf}
 use Rattle.canvas_threads.specs.Histories.{FollowsAt, OpensAfter, log_of}
 use Rattle.canvas_threads.specs.Exchanges.{CatchesUpAt, JoinsAt, KeepsFollowing}

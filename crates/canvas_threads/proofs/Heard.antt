@@ -18,7 +18,7 @@ use Rattle.canvas_server.specs.Served.{Served}
 use Rattle.canvas_client.specs.Follow.{CanFollow, EachVerdictLeavesRoot}
 use Rattle.canvas_nodes.specs.declared.link.LinkError.{LinkError}
 use Rattle.canvas_nodes.specs.Hears.{HearsEach, HearsOne, HearsSome}
-use Rattle.canvas_front.specs.News.{copies, news_of, tells, tells_or_copies}
+use Rattle.room_handler.specs.News.{copies, news_of, tells, tells_or_copies}
 use Rattle.canvas_threads.specs.Follows.{AreAllOf, AreFirstOf, Follows, IsTrueFor}
 use Rattle.canvas_threads.specs.Histories.{AreTrueFor}
 use Rattle.canvas_threads.proofs.Takes.{granted}

@@ -14,7 +14,7 @@ use Rattle.canvas_model.proofs.Lists.{drop-append, drop-drop, nth-append, take-a
 use Rattle.canvas_model.proofs.Log.{fits-append, fold-append}
 use Rattle.canvas_server.specs.Served.{Served}
 use Rattle.canvas_board.specs.Marks.{Failed, Floor, IsLegal, LegalFrom, Logged, Mark, MayFollow, Opening, board, board_from, start, step}
-use Rattle.canvas_front.specs.Table.{SeesOn}
+use Rattle.room_handler.specs.Table.{SeesOn}
 use Rattle.canvas_threads.specs.Follows.{AreFirstOf, Follows}
 use Rattle.canvas_threads.specs.Histories.{OpensAfter, entries_of, log_of}
 

@@ -14,14 +14,14 @@ use Rattle.canvas_model.proofs.Log.{done_opening, joined_positive}
 use Rattle.canvas_model.proofs.Opening.{only_root}
 use Rattle.canvas_server.specs.Asked.{Asked}
 use Rattle.canvas_board.specs.Marks.{IsLegal, Logged, Mark, Opening}
-use Rattle.canvas_intake.specs.declared.faults.Refusal.TheVariants.{Stranger, Repeat, Gap, Full}
-use Rattle.canvas_intake.specs.declared.faults.SubmitError.{SubmitError}
-use Rattle.canvas_intake.specs.declared.faults.SubmitError.TheVariants.{Refused, NotKept, Owed}
+use Rattle.canvas_desk.specs.declared.faults.Refusal.TheVariants.{Stranger, Repeat, Gap, Full}
+use Rattle.canvas_desk.specs.declared.faults.SubmitError.{SubmitError}
+use Rattle.canvas_desk.specs.declared.faults.SubmitError.TheVariants.{Refused, NotKept, Owed}
 use Rattle.canvas_room.specs.Seats.{RefusesEdit}
 use Rattle.canvas_nodes.specs.declared.link.LinkError.{LinkError}
 use Rattle.canvas_nodes.specs.Hears.{BreaksAtJoin, HearsEach, HearsOfJoin, HearsOne}
-use Rattle.canvas_front.specs.Table.{IsJudged, IsSince, IsToldAs, SaysOf, SeesOn, answer_of}
-use Rattle.canvas_front.specs.Links.{Grants, IsNo, RefusesRound}
+use Rattle.room_handler.specs.Table.{IsJudged, IsSince, IsToldAs, SaysOf, SeesOn, answer_of}
+use Rattle.room_handler.specs.Links.{Grants, IsNo, RefusesRound}
 use Rattle.canvas_threads.specs.Follows.{Follows}
 use Rattle.canvas_threads.specs.Histories.{OpensAfter, log_of}
 use Rattle.canvas_threads.specs.Exchanges.{FollowsAnew}

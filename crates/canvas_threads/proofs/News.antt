@@ -9,7 +9,7 @@ use Rattle.canvas_model.proofs.Lists.{get-drop, nth-drop, nth-take, nth-take_inv
 use Rattle.canvas_model.proofs.Log.{take_all}
 use Rattle.canvas_model.proofs.Tests.{lt_false}
 use Rattle.canvas_server.specs.Served.{Served}
-use Rattle.canvas_front.specs.News.{copies, news_of, tells, tells_or_copies}
+use Rattle.room_handler.specs.News.{copies, news_of, tells, tells_or_copies}
 use Rattle.canvas_threads.specs.Follows.{IsTrueFor}
 use Rattle.canvas_threads.specs.Histories.{AreTrueFor}
 use Rattle.canvas_threads.proofs.Histories.{Records}

@@ -23,18 +23,18 @@ use Rattle.canvas_server.specs.declared.taking.TakeError.TheVariants as take
 use Rattle.canvas_client.specs.Follow.{EachVerdictLeavesRoot}
 use Rattle.canvas_board.specs.Marks.{IsLegal, Logged, Mark, Opening, board, start}
 use Rattle.canvas_board.proofs.Boards.{legal_begin}
-use Rattle.canvas_intake.specs.declared.faults.Refusal.TheVariants.{Stranger, Repeat, Gap, Full}
-use Rattle.canvas_intake.specs.declared.faults.SubmitError.{SubmitError}
-use Rattle.canvas_intake.specs.declared.faults.SubmitError.TheVariants.{Refused, NotKept, Owed}
+use Rattle.canvas_desk.specs.declared.faults.Refusal.TheVariants.{Stranger, Repeat, Gap, Full}
+use Rattle.canvas_desk.specs.declared.faults.SubmitError.{SubmitError}
+use Rattle.canvas_desk.specs.declared.faults.SubmitError.TheVariants.{Refused, NotKept, Owed}
 use Rattle.canvas_room.specs.Seats.{IsRefused}
 use Rattle.canvas_nodes.specs.declared.link.LinkError.{LinkError}
 use Rattle.canvas_nodes.specs.Answers.{IsEnd}
 use Rattle.canvas_nodes.specs.Hears.{Breaks, Hears, HearsOfEdit}
-use Rattle.canvas_front.specs.News.{news_of}
-use Rattle.canvas_front.specs.Table.{AnswersAsk, AnswersRequest, IsSince, SaysOf, answer_of}
-use Rattle.canvas_front.specs.Links.{Grants, IsNo, RefusesRound}
-use Rattle.canvas_front.proofs.Ends.{says_ends}
-use Rattle.canvas_front.proofs.SeesOn.{refused_sees}
+use Rattle.room_handler.specs.News.{news_of}
+use Rattle.room_handler.specs.Table.{AnswersAsk, AnswersRequest, IsSince, SaysOf, answer_of}
+use Rattle.room_handler.specs.Links.{Grants, IsNo, RefusesRound}
+use Rattle.room_handler.proofs.Ends.{says_ends}
+use Rattle.room_handler.proofs.SeesOn.{refused_sees}
 use Rattle.canvas_threads.specs.Follows.{AreFirstOf, IsTrueFor}
 use Rattle.canvas_threads.specs.Histories.{AreTrueFor, FollowsAt, OpensAfter, entries_of, log_of}
 use Rattle.canvas_threads.proofs.Histories.{Longer, entries_append, follows_longer, log_append, records, same_at, seen_legal, seen_longer}
@@ -149,7 +149,7 @@ module _ (sound : EachVersionIsSound) (stands_after : EachEntryStands) (leaves :
   answer_true (No reason) before answer after mine legal g = absurd (g.1 (subst IsNo (sym g.0.1.0) tt))
 
   -- the client follows what was seen before a round, also by what was seen after it
-  pub follows_on : (before after : List Mark) (client : Client) → FollowsAt o past c edits before client → Rattle.canvas_front.specs.Table.SeesOn o before after → FollowsAt o past c edits after client
+  pub follows_on : (before after : List Mark) (client : Client) → FollowsAt o past c edits before client → Rattle.room_handler.specs.Table.SeesOn o before after → FollowsAt o past c edits after client
   follows_on before after client f sees = record {
     legal = seen_legal o before after f.legal sees;
     follows = follows_longer (log_of past before) (log_of past after) c edits client (seen_longer o past before after sees) f.follows;

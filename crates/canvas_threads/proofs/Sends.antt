@@ -17,10 +17,10 @@ use Rattle.canvas_client.specs.contracts.request.EditRequest as EditRequest
 use Rattle.canvas_pending.specs.contracts.pending.Pending as Pending
 use Rattle.canvas_board.specs.declared.history.RoomName.{Ghosts}
 use Rattle.canvas_room.specs.contracts.seat.Seat as Seat
-use Rattle.canvas_front.specs.contracts.answerer.SeatAnswerer as Answerer
-use Rattle.canvas_front.specs.contracts.answerer.SeatAnswerer.TheInside as in_answerer
-use Rattle.canvas_front.specs.contracts.seat_link.SeatLink as Link
-use Rattle.canvas_front.specs.contracts.seat_link.SeatLink.TheInside as in_link
+use Rattle.room_handler.specs.contracts.answerer.SeatAnswerer as Answerer
+use Rattle.room_handler.specs.contracts.answerer.SeatAnswerer.TheInside as in_answerer
+use Rattle.room_handler.specs.contracts.seat_link.SeatLink as Link
+use Rattle.room_handler.specs.contracts.seat_link.SeatLink.TheInside as in_link
 use Rattle.std.proofs.alloc.Global.TheSendSync as heap
 use Rattle.crossbeam_channel.specs.contracts.channel.Receiver as Receiver
 use Rattle.canvas_nodes.proofs.link.LinkError.TheSendSync as link_error
@@ -28,8 +28,8 @@ use Rattle.canvas_threads.specs.contracts.client_node.Command as Command
 use Rattle.canvas_threads.specs.contracts.client_node.Ended as Ended
 use Rattle.canvas_threads.specs.contracts.client_node.Work as Work
 use Rattle.canvas_threads.specs.contracts.nodes.Done as Done
-use Rattle.canvas_intake.specs.contracts.faults.SubmitError as SubmitError
-use Rattle.canvas_intake.proofs.faults.SubmitError.TheSendSync as submit_error
+use Rattle.canvas_desk.specs.contracts.faults.SubmitError as SubmitError
+use Rattle.canvas_desk.proofs.faults.SubmitError.TheSendSync as submit_error
 use Rattle.std.specs.contracts.result.Result as Result
 
 pub Pending-send : IsSend (Pending.the_row Heap.the_row ghosts)

@@ -3,9 +3,9 @@ use Rattle.std.specs.Prelude.{ℕ}
 use Rattle.canvas_judge.specs.declared.message.NoReason.{NoReason}
 use Rattle.canvas_judge.specs.declared.message.NoReason.TheVariants as no
 use Rattle.canvas_journal.specs.declared.fault.KeepError.TheVariants as keep
-use Rattle.canvas_intake.specs.declared.faults.Refusal.TheVariants as refusal
-use Rattle.canvas_intake.specs.declared.faults.SubmitError.{SubmitError}
-use Rattle.canvas_intake.specs.declared.faults.SubmitError.TheVariants.{NotKept, Refused}
+use Rattle.canvas_desk.specs.declared.faults.Refusal.TheVariants as refusal
+use Rattle.canvas_desk.specs.declared.faults.SubmitError.{SubmitError}
+use Rattle.canvas_desk.specs.declared.faults.SubmitError.TheVariants.{NotKept, Refused}
 use Rattle.canvas_nodes.specs.declared.link.LinkError.{LinkError}
 use Rattle.canvas_nodes.specs.declared.link.LinkError.TheVariants as link
 

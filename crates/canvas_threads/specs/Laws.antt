@@ -14,7 +14,7 @@ use Rattle.canvas_server.specs.Asked.{Asked}
 use Rattle.canvas_board.specs.Marks.{Mark, Opening, Sees, board}
 use Rattle.canvas_desk.specs.Crashes.{IsAtRest, Run}
 use Rattle.canvas_desk.specs.Desks.{DeskValue}
-use Rattle.canvas_intake.specs.Ready.{at}
+use Rattle.canvas_desk.specs.Ready.{at}
 use Rattle.canvas_nodes.specs.Hears.{HearsOne}
 use Rattle.canvas_threads.specs.Follows.{AreFirstOf, Follows, IsTrueFor}
 use Rattle.canvas_threads.specs.Histories.{FollowsAt, OpensAfter, log_of, newly_opened, reopened}

@@ -11,20 +11,20 @@ use crate::seats::{exchange_at, join_at};
 use canvas_board::RoomName;
 use canvas_client::{Client, EditError, EditRequest};
 use canvas_desk::SubmitError;
-use canvas_front::SeatLink;
 use canvas_journal::{KeepError, Keeper};
 use canvas_room::Lock;
+use room_handler::SeatLink;
 use std::alloc::Global;
 use std::sync::Wait;
 
 /// A client, and its link to a seat of its own.
 #[derive(Drop)]
-pub(crate) struct Node<N: RoomName, D: Drop, W: Drop> {
+pub(crate) struct SeatNode<N: RoomName, D: Drop, W: Drop> {
     pub(crate) link: SeatLink<N, D, W>,
     pub(crate) client: Client,
 }
 
-impl<K: Keeper + Drop, N: RoomName, Q: Wait + Drop, W: Wait + Drop> Node<N, Lock<K, N, Q>, W> {
+impl<K: Keeper + Drop, N: RoomName, Q: Wait + Drop, W: Wait + Drop> SeatNode<N, Lock<K, N, Q>, W> {
     /// Joins at a seat, and reads what came before.
     ///
     /// The errors are those of `join_at` and `exchange_at`, as `broken_off` has them.
@@ -35,7 +35,7 @@ impl<K: Keeper + Drop, N: RoomName, Q: Wait + Drop, W: Wait + Drop> Node<N, Lock
         ensures { IfOk result (λ node. FollowsRoom N.opening [] node.link node.client) }
     {
         let client = Client::new(alloc)?;
-        let mut node = Node { link, client };
+        let mut node = SeatNode { link, client };
         node.ask_id()?;
         node.exchange(alloc)?;
         Ok(node)

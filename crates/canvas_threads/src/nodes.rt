@@ -4,14 +4,14 @@ ghost use Rattle.canvas_model.specs.Local as local;
 ghost use Rattle.canvas_threads.specs.Shown.{Ends, HasFollowed, ShowsPlan, ShowsTheRoom};
 ghost use Rattle.canvas_threads.specs.Worked.{Beside, HasWorked};
 
-use crate::node::Node;
+use crate::node::SeatNode;
 use crate::{Gate, Plan};
 use canvas_board::RoomName;
 use canvas_client::{Client, EditRequest};
 use canvas_desk::SubmitError;
-use canvas_front::SeatLink;
 use canvas_journal::Keeper;
 use canvas_room::{Lock, Room, Seat};
+use room_handler::SeatLink;
 use std::alloc::{AllocError, Global};
 use std::sync::Wait;
 use std::thread::{Threads, map_vec};
@@ -87,7 +87,7 @@ trait Site: Drop {
     // That it shows what the seat has seen in the end.
     ghost shows: { List local.EditRequest → client.Client → Type 0 };
 
-    // Has a client join and make the edits of a plan. The errors are those of `Node`.
+    // Has a client join and make the edits of a plan. The errors are those of `SeatNode`.
     fn work<W: Wait + Clone + Drop, P: Plan, G: Gate>(
         self,
         alloc: Global,
@@ -98,7 +98,7 @@ trait Site: Drop {
     ) -> Result<(Client, Self), SubmitError>
         ensures { IfOk result (λ done. HasFollowed P.asks follows plan done.1 done.0) };
 
-    // Has a client exchange once more. The errors are those of `Node`.
+    // Has a client exchange once more. The errors are those of `SeatNode`.
     fn finish<W: Wait + Clone + Drop>(
         self,
         alloc: Global,
@@ -126,13 +126,13 @@ impl<K: Keeper + Drop, N: RoomName, Q: Wait + Drop> Site for Seat<N, Lock<K, N, 
         number: u64,
     ) -> Result<(Client, Self), SubmitError> {
         let link = SeatLink::new(alloc, rt.clone()?, self);
-        let mut node = Node::join(alloc, link)?;
+        let mut node = SeatNode::join(alloc, link)?;
         let Some(id) = node.client.id() else {
             unreachable!()
         };
         let edits = plan.edits(alloc, id)?;
         node.make_all(alloc, &edits, gate, number)?;
-        let Node { link, client } = node;
+        let SeatNode { link, client } = node;
         Ok((client, link.into_seat()))
     }
 
@@ -143,9 +143,9 @@ impl<K: Keeper + Drop, N: RoomName, Q: Wait + Drop> Site for Seat<N, Lock<K, N, 
         client: Client,
     ) -> Result<Client, SubmitError> {
         let link = SeatLink::new(alloc, rt.clone()?, self);
-        let mut node = Node { link, client };
+        let mut node = SeatNode { link, client };
         node.exchange(alloc)?;
-        let Node { link: _, client } = node;
+        let SeatNode { link: _, client } = node;
         Ok(client)
     }
 }

@@ -3,16 +3,16 @@ ghost use Rattle.std.specs.Prelude.{◌≡◌, IfErr, IsNone, IsSome, OnOk};
 ghost use Rattle.canvas_model.specs.Client.{new_client};
 ghost use Rattle.canvas_nodes.specs.GoesOn.{GoesOn};
 ghost use Rattle.canvas_board.specs.Marks.{IsLegal};
-ghost use Rattle.canvas_front.specs.Table.{SeesOn};
+ghost use Rattle.room_handler.specs.Table.{SeesOn};
 ghost use Rattle.canvas_threads.specs.Exchanges.{CatchesUpAt, JoinsAt, KeepsFollowing, MayJoinAt};
 
 use canvas_board::RoomName;
 use canvas_client::{Client, every_told_entry};
-use canvas_front::{SeatLink, every_exchange};
 use canvas_journal::Keeper;
 use canvas_model::{every_log, every_view};
 use canvas_nodes::{LinkError, exchange, join};
 use canvas_room::Lock;
+use room_handler::{SeatLink, every_exchange};
 use std::alloc::Global;
 use std::sync::Wait;
 

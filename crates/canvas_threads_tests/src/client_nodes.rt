@@ -1,21 +1,21 @@
 //! Clients on threads of their own.
 ghost use Rattle.std.specs.Prelude.{◌≡◌};
 
-use canvas_benches::{Bench, SeatOf, room_in_memory};
 use canvas_board::RoomName;
 use canvas_client::{Client, EditRequest};
 use canvas_doc::{Kind, ObjId};
-use canvas_front::SeatLink;
 use canvas_journal::Keeper;
 use canvas_judge::Message;
 use canvas_nodes::{Link, LinkError, join};
 use canvas_room::{BlankRoom, Lock, Room, Seat};
 use canvas_threads::{ClientNode, Command};
+use room_handler::SeatLink;
 use std::alloc::Global;
 use std::marker::Brand;
 use std::sync::Wait;
 use std::test::Fail;
 use std::thread::{Threads, yield_now};
+use test_rooms::{Bench, SeatOf, room_in_memory};
 
 // What a client is told.
 #[derive(Clone, Copy, PartialEq, Eq)]

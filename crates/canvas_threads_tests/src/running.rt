@@ -2,7 +2,6 @@
 use crate::gates::{Counting, Meeting};
 use crate::runs::{Edit, Ended, Ran, Work, ended};
 use bumpalo::Bump;
-use canvas_benches::Bench;
 use canvas_client::Client;
 use canvas_desk::SubmitError;
 use canvas_doc::Doc;
@@ -13,6 +12,7 @@ use std::alloc::{AllocError, Global};
 use std::sync::Wait;
 use std::test::Fail;
 use std::thread::Threads;
+use test_rooms::Bench;
 
 // Checks whether the tree that the document has in the arena is this one.
 fn is_tree_of(arena: &Bump, tree: &Tree, doc: &Doc) -> Result<bool, AllocError> {

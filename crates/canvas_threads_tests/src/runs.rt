@@ -1,7 +1,6 @@
 //! Runs of nodes at rooms over journals in memory.
 ghost use Rattle.std.specs.Prelude.{◌≡◌};
 
-use canvas_benches::{Bench, SeatOf, room_in_memory};
 use canvas_board::RoomName;
 use canvas_client::{Client, EditRequest};
 use canvas_desk::SubmitError;
@@ -15,6 +14,7 @@ use std::marker::Brand;
 use std::sync::Wait;
 use std::test::Fail;
 use std::thread::Threads;
+use test_rooms::{Bench, SeatOf, room_in_memory};
 
 /// An edit that a node is to make.
 #[derive(Clone, Copy)]

@@ -18,11 +18,11 @@ use Rattle.canvas_codec.specs.declared.json_fault.JsonFault.TheVariants as value
 use Rattle.canvas_value.proofs.Tests.{both_hold}
 use Rattle.canvas_codec.proofs.Forms.{stands_for, out_of_range, no_shape}
 use Rattle.canvas_forms.specs.Version.{version_two}
-use Rattle.canvas_json.specs.JsonTree.{worded}
+use Rattle.canvas_forms.specs.JsonTree.{worded}
 use Rattle.canvas_forms.specs.Rows.{rows_form}
-use Rattle.canvas_json.specs.RowOrder.{are_in_order}
+use Rattle.canvas_forms.specs.RowOrder.{are_in_order}
 use Rattle.canvas_forms.specs.InOrder.{rows_in}
-use Rattle.canvas_json.proofs.Members.{no_word, word_first}
+use Rattle.canvas_forms.proofs.Members.{no_word, word_first}
 use Rattle.canvas_forms.proofs.Orders.{ordered_document}
 use Rattle.canvas_wire.specs.Messages.{MessageParts, message_words, copied, parts_form, message_of, parts_of, message_in, message_after, copy_in_order, is_orderly, IsMessageShape, IsMessageJson}
 use Rattle.canvas_wire.specs.Drafts.{IsMade}

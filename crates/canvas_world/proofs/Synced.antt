@@ -6,9 +6,9 @@ use Rattle.canvas_model.specs.Good.{IsGood}
 use Rattle.canvas_model.specs.Laws.{EachStepKeepsSynced, AfterEachStep, AfterEachRun}
 use Rattle.canvas_model.proofs.Lists.{take-take}
 use Rattle.canvas_world.specs.Synced.{KeepsSynced, KeepsAllSynced}
-use Rattle.canvas_events.specs.Seen.{seen_answer}
-use Rattle.canvas_events.specs.declared.event.Answer as coded
-use Rattle.canvas_events.proofs.Growth.{step_grows}
+use Rattle.canvas_world.specs.Seen.{seen_answer}
+use Rattle.canvas_world.specs.declared.event.Answer as coded
+use Rattle.canvas_world.proofs.Growth.{step_grows}
 
 -- after one event
 pub step_keeps : EachStepKeepsSynced → (old : World) (event : Event) (answer : Answer) (new : World) → IsGood old → Step old event answer new → KeepsSynced old new

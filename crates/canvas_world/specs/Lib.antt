@@ -1,2 +1,5 @@
+pub mod Seen
+pub mod Running
+pub mod Parts
 pub mod Synced
 pub mod Trees

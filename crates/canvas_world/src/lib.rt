@@ -1,4 +1,5 @@
-//! Events played in order in a world of nodes, and what holds after every list of them.
+//! All nodes, the server and every message ever sent: what each event does to them, events played in order, and what holds after every list of
+//! them.
 #![tactic(auto)]
 
 ghost use Rattle.std.specs.Prelude.{◌≡◌, ◌≤◌, ◌↔◌, ◌++◌, length, take, None, List, IfOk, OnErr};
@@ -7,19 +8,26 @@ ghost use Rattle.canvas_model.specs.World.{Run, Step, empty, node};
 ghost use Rattle.canvas_model.specs.World as world;
 ghost use Rattle.canvas_model.specs.Good.{CountsAcknowledged, HasClaims, HasLegalLog, HasNoStranger, IsGood, LogsEdits, SharesNoId, ShowsOverlays, TellsTruth, TracksObjects};
 ghost use Rattle.canvas_model.specs.Laws.{HasNoCycle, KeepsAcknowledged, NodesAgree};
-ghost use Rattle.canvas_events.specs.Running.{served_in};
-ghost use Rattle.canvas_events.specs.Seen.{seen_answer};
+ghost use Rattle.canvas_world.specs.Running.{served_in};
+ghost use Rattle.canvas_world.specs.Seen.{seen_answer};
 ghost use Rattle.canvas_world.specs.Synced.{KeepsAllSynced, KeepsSynced};
 ghost use Rattle.canvas_world.specs.Trees.{NodesShowOneTree};
 
 use canvas_client::Client;
-use canvas_events::Network;
-pub use canvas_events::{Answer, Event, EventVariant};
 use canvas_model::{every_good_world, every_run, every_step};
 use canvas_server::Server;
 use canvas_tree::one_tree;
 use std::alloc::{AllocError, Allocator, Global};
 use std::marker::Model;
+
+mod changing;
+mod event;
+mod network;
+mod parts;
+mod posting;
+
+pub use event::{Answer, Event, EventVariant};
+use network::Network;
 
 /// All nodes, the server, and every message ever sent. Every world is good.
 pub struct World<A: Allocator = Global> {

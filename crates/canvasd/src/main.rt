@@ -1,7 +1,7 @@
 //! `canvasd` serves a document to clients over WebSockets, edits one, and shows one.
 #![tactic(auto)]
 
-use canvas_daemon::{Fault, end, run};
+use canvas_daemon::{DaemonFault, end, run};
 use std::env;
 use std::io::{self, ErrorKind, Input};
 use std::process::ExitCode;
@@ -25,9 +25,9 @@ fn main(rt: HostRuntime) -> ExitCode {
         ),
         Err(error) => {
             if error.kind() == ErrorKind::OutOfMemory {
-                end(&Fault::Memory, &mut faults)
+                end(&DaemonFault::Memory, &mut faults)
             } else {
-                end(&Fault::Usage, &mut faults)
+                end(&DaemonFault::Usage, &mut faults)
             }
         }
     };

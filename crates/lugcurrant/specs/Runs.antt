@@ -1,34 +1,34 @@
 -- What the program did, by what its words ask for.
 use Rattle.std.specs.Prelude.{◌≡◌, ◌⊎◌, ℕ, List, [], Option, Some, None, string_bytes}
-use Rattle.canvas_care.specs.Begun.{WritesBegun, WritesImported}
-use Rattle.canvas_care.specs.Checks.{WritesCheck, WritesShelf}
-use Rattle.canvas_care.specs.Logs.{WritesLog}
-use Rattle.canvas_care.specs.Shown.{WritesRows}
-use Rattle.canvas_care.specs.declared.rows.Layout.{Layout}
-use Rattle.canvas_faults.specs.Told.{Ends, IsTold}
-use Rattle.canvas_faults.specs.declared.subject.Subject.{Subject}
-use Rattle.canvas_faults.specs.declared.subject.Subject.TheVariants as subject
+use Rattle.app_admin.specs.Begun.{WritesBegun, WritesImported}
+use Rattle.app_admin.specs.Checks.{WritesCheck, WritesShelf}
+use Rattle.app_admin.specs.Logs.{WritesLog}
+use Rattle.app_admin.specs.Shown.{WritesRows}
+use Rattle.app_admin.specs.declared.rows.Layout.{Layout}
+use Rattle.app_faults.specs.Told.{Ends, IsTold}
+use Rattle.app_faults.specs.declared.subject.Subject.{Subject}
+use Rattle.app_faults.specs.declared.subject.Subject.TheVariants as subject
 use Rattle.canvas_lines.specs.Reports.{WritesReport}
-use Rattle.canvas_words.specs.declared.asked.Asked.{Asked}
-use Rattle.canvas_words.specs.declared.asked.Asked.TheVariants.{Serve, Show, Import, Restore, Move, Check, Log}
-use Rattle.canvas_words.specs.declared.asked.Place.{Place}
-use Rattle.canvas_words.specs.declared.asked.Place.TheVariants.{Folder, Document}
-use Rattle.canvas_words.specs.declared.error.WordError.{WordError}
-use Rattle.canvas_words.specs.Wrong.{fault_of_word}
-use Rattle.canvas_places.specs.Faults.{IsServed}
+use Rattle.app_args.specs.declared.asked.Invocation.{Invocation}
+use Rattle.app_args.specs.declared.asked.Invocation.TheVariants.{Serve, Show, Import, Restore, Move, Check, Log}
+use Rattle.app_args.specs.declared.asked.DocumentPlace.{DocumentPlace}
+use Rattle.app_args.specs.declared.asked.DocumentPlace.TheVariants.{Folder, Document}
+use Rattle.app_args.specs.declared.error.WordError.{WordError}
+use Rattle.app_args.specs.Wrong.{fault_of_word}
+use Rattle.app_storage.specs.Faults.{IsServed}
 
 -- the folder of a document, or its name in an etcd
-abbrev pub place_bytes : Place → List ℕ
+abbrev pub place_bytes : DocumentPlace → List ℕ
 place_bytes (Folder dir) = string_bytes dir
 place_bytes (Document address) = string_bytes address.name
 
 -- what the faults of its server are of
-abbrev pub served_of : Place → Subject
+abbrev pub served_of : DocumentPlace → Subject
 served_of (Folder dir) = subject.ServedFolder
 served_of (Document address) = subject.ServedDocument
 
 -- the command did this to the document there, and the status is 0; or a fault ended it, which was told
-abbrev pub EndsAt : Place → Type 0 → ℕ → (faults told : Option (List ℕ)) → Type 0
+abbrev pub EndsAt : DocumentPlace → Type 0 → ℕ → (faults told : Option (List ℕ)) → Type 0
 EndsAt (Folder dir) did status faults told = Ends did subject.Folder (string_bytes dir) status faults told
 EndsAt (Document address) did status faults told = Ends did subject.Document (string_bytes address.name) status faults told
 
@@ -38,17 +38,17 @@ WritesShown None written after = WritesReport written after
 WritesShown (Some layout) written after = WritesRows layout written after
 
 -- the document there was shown, or a fault was told
-abbrev pub Shows : Place → Option Layout → ℕ → (written after faults told : Option (List ℕ)) → Type 0
+abbrev pub Shows : DocumentPlace → Option Layout → ℕ → (written after faults told : Option (List ℕ)) → Type 0
 Shows place layout status written after faults told = EndsAt place (WritesShown layout written after) status faults told
 
 -- what is told of the document there that is checked: in a folder also that nothing was lost
-abbrev pub WritesChecked : Place → (written after : Option (List ℕ)) → Type 0
+abbrev pub WritesChecked : DocumentPlace → (written after : Option (List ℕ)) → Type 0
 WritesChecked (Folder dir) written after = WritesCheck written after
 WritesChecked (Document address) written after = WritesShelf written after
 
 -- What was asked for was done to its end, and the status is 0; or a fault ended it, which was told. A server is ended by one, or by its file to stop
 -- at, and writes no output. Only an import reads its input.
-abbrev pub Does : Asked → ℕ → (read left written after faults told : Option (List ℕ)) → Type 0
+abbrev pub Does : Invocation → ℕ → (read left written after faults told : Option (List ℕ)) → Type 0
 Does (Serve options) status read left written after faults told =
     (left ≡ read) × (after ≡ written) × IsServed (served_of options.place) (place_bytes options.place) options.serving.port options.serving.clients options.serving.stop_file status faults told
 Does (Show place layout) status read left written after faults told =
@@ -74,5 +74,5 @@ IsRefused error status faults told = IsTold (fault_of_word error) subject.Folder
 -- of them isn't as it has to be
 abbrev pub IsRun : ℕ → (read left written after faults told : Option (List ℕ)) → Type 0
 IsRun status read left written after faults told =
-    ((asked : Asked) × Does asked status read left written after faults told)
+    ((asked : Invocation) × Does asked status read left written after faults told)
     ⊎ ((left ≡ read) × (after ≡ written) × ((told ≡ faults) ⊎ ((error : WordError) × IsRefused error status faults told)))

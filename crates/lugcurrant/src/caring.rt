@@ -1,17 +1,17 @@
 // The commands that care for a folder, each to its end: they answer the program's status, once a fault is told.
 ghost use Rattle.std.specs.Prelude.{◌⊎◌};
-ghost use Rattle.canvas_care.specs.Begun.{WritesBegun, WritesImported};
-ghost use Rattle.canvas_care.specs.Checks.{WritesCheck};
-ghost use Rattle.canvas_care.specs.Logs.{WritesLog};
-ghost use Rattle.canvas_care.specs.Shown.{WritesRows};
-ghost use Rattle.canvas_faults.specs.Told.{Ends};
-ghost use Rattle.canvas_faults.specs.declared.subject.Subject.TheVariants.{Folder};
+ghost use Rattle.app_admin.specs.Begun.{WritesBegun, WritesImported};
+ghost use Rattle.app_admin.specs.Checks.{WritesCheck};
+ghost use Rattle.app_admin.specs.Logs.{WritesLog};
+ghost use Rattle.app_admin.specs.Shown.{WritesRows};
+ghost use Rattle.app_faults.specs.Told.{Ends};
+ghost use Rattle.app_faults.specs.declared.subject.Subject.TheVariants.{Folder};
 ghost use Rattle.canvas_lines.specs.Reports.{WritesReport};
 
-use canvas_care::{
+use app_admin::{
     Layout, begin_folder, check, import_folder, log, read_backup, show_rows, show_tree,
 };
-use canvas_faults::{Subject, finish};
+use app_faults::{Subject, finish};
 use std::io::{Read, Write};
 
 /// Writes the tree of a folder's document.

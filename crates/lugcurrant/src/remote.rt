@@ -1,19 +1,19 @@
 // The commands that care for a document in an etcd, each to its end: they answer the program's status, once a fault is told.
 ghost use Rattle.std.specs.Prelude.{◌⊎◌, OnOk, string_bytes};
-ghost use Rattle.canvas_care.specs.Begun.{WritesBegun, WritesImported};
-ghost use Rattle.canvas_care.specs.Checks.{WritesShelf};
-ghost use Rattle.canvas_care.specs.Logs.{WritesLog};
-ghost use Rattle.canvas_care.specs.Shown.{WritesRows};
-ghost use Rattle.canvas_faults.specs.Told.{Ends};
-ghost use Rattle.canvas_faults.specs.declared.subject.Subject.TheVariants.{Document, Folder};
+ghost use Rattle.app_admin.specs.Begun.{WritesBegun, WritesImported};
+ghost use Rattle.app_admin.specs.Checks.{WritesShelf};
+ghost use Rattle.app_admin.specs.Logs.{WritesLog};
+ghost use Rattle.app_admin.specs.Shown.{WritesRows};
+ghost use Rattle.app_faults.specs.Told.{Ends};
+ghost use Rattle.app_faults.specs.declared.subject.Subject.TheVariants.{Document, Folder};
 ghost use Rattle.canvas_lines.specs.Reports.{WritesReport};
 
-use canvas_care::Layout;
-use canvas_faults::{Subject, finish};
-use canvas_identity::Address;
-use canvas_remote::{
+use app_admin::Layout;
+use app_admin_etcd::{
     MoveFault, check, import_document, log, move_in, move_out, show_rows, show_tree,
 };
+use app_faults::{Subject, finish};
+use app_identity::Address;
 use std::io::{Read, Write};
 use std::net::{Net, TcpListener, TcpStream};
 use std::random::RandomSource;

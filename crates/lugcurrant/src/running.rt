@@ -1,16 +1,16 @@
 // The program: its words, and the status that it ends with.
 ghost use Rattle.std.specs.Prelude.{◌≡◌, IfOk, string_bytes};
-ghost use Rattle.canvas_places.specs.Faults.{IsServed};
+ghost use Rattle.app_storage.specs.Faults.{IsServed};
 ghost use Rattle.lugcurrant.specs.Runs.{Does, IsRefused, IsRun, Shows, place_bytes, served_of};
 
 use crate::caring::{run_check, run_import, run_log, run_restore, run_rows, run_tree};
 use crate::remote::{
     check_remote, import_remote, log_remote, run_move, show_remote_rows, show_remote_tree,
 };
-use canvas_care::Layout;
-use canvas_faults::{Fault, Subject, Told, end, tell};
-use canvas_host::serve;
-use canvas_words::{Asked, Options, Place, WordError, WordsError, read_words};
+use app_admin::Layout;
+use app_args::{DocumentPlace, Invocation, Options, WordError, WordsError, read_words};
+use app_faults::{Fault, Subject, Told, end, tell};
+use app_server::serve;
 use std::alloc::{AllocError, Global};
 use std::io::{Eprint, Print, Read, Write};
 use std::net::{Net, TcpListener, TcpStream};
@@ -78,7 +78,7 @@ fn refuse<F: Write>(error: WordError, faults: &mut F) -> u8
 fn carry_out<R, I, W, F>(
     rt: &R,
     files: HostRuntime,
-    asked: Asked,
+    asked: Invocation,
     input: &mut I,
     output: &mut W,
     faults: &mut F,
@@ -105,29 +105,29 @@ where
         (F.contents faults.old) (F.contents faults.new) }
 {
     match asked {
-        Asked::Serve(options) => run_server(rt, files, options, faults),
-        Asked::Show { place, layout } => show(rt, files, &place, layout, output, faults),
-        Asked::Import { place } => match &place {
-            Place::Folder(dir) => run_import(files, dir, input, output, faults),
-            Place::Document(address) => import_remote(rt, address, input, output, faults),
+        Invocation::Serve(options) => run_server(rt, files, options, faults),
+        Invocation::Show { place, layout } => show(rt, files, &place, layout, output, faults),
+        Invocation::Import { place } => match &place {
+            DocumentPlace::Folder(dir) => run_import(files, dir, input, output, faults),
+            DocumentPlace::Document(address) => import_remote(rt, address, input, output, faults),
         },
-        Asked::Restore {
+        Invocation::Restore {
             backup,
             dir,
             accept_loss,
         } => run_restore(files, &backup, &dir, accept_loss, output, faults),
-        Asked::Move {
+        Invocation::Move {
             dir,
             address,
             is_back,
         } => run_move(rt, files, &dir, &address, is_back, output, faults),
-        Asked::Check { place } => match &place {
-            Place::Folder(dir) => run_check(files, dir, output, faults),
-            Place::Document(address) => check_remote(rt, address, output, faults),
+        Invocation::Check { place } => match &place {
+            DocumentPlace::Folder(dir) => run_check(files, dir, output, faults),
+            DocumentPlace::Document(address) => check_remote(rt, address, output, faults),
         },
-        Asked::Log { place } => match &place {
-            Place::Folder(dir) => run_log(files, dir, output, faults),
-            Place::Document(address) => log_remote(rt, address, output, faults),
+        Invocation::Log { place } => match &place {
+            DocumentPlace::Folder(dir) => run_log(files, dir, output, faults),
+            DocumentPlace::Document(address) => log_remote(rt, address, output, faults),
         },
     }
 }
@@ -136,7 +136,7 @@ where
 fn show<R, W, F>(
     rt: &R,
     files: HostRuntime,
-    place: &Place,
+    place: &DocumentPlace,
     layout: Option<Layout>,
     output: &mut W,
     faults: &mut F,
@@ -148,10 +148,10 @@ where
     ensures { Shows place.now layout result (W.contents output.old) (W.contents output.new) (F.contents faults.old) (F.contents faults.new) }
 {
     match (place, layout) {
-        (Place::Folder(dir), None) => run_tree(files, dir, output, faults),
-        (Place::Folder(dir), Some(layout)) => run_rows(files, dir, layout, output, faults),
-        (Place::Document(address), None) => show_remote_tree(rt, address, output, faults),
-        (Place::Document(address), Some(layout)) => {
+        (DocumentPlace::Folder(dir), None) => run_tree(files, dir, output, faults),
+        (DocumentPlace::Folder(dir), Some(layout)) => run_rows(files, dir, layout, output, faults),
+        (DocumentPlace::Document(address), None) => show_remote_tree(rt, address, output, faults),
+        (DocumentPlace::Document(address), Some(layout)) => {
             show_remote_rows(rt, address, layout, output, faults)
         }
     }
@@ -203,21 +203,21 @@ where
 }
 
 // What a server's faults are of.
-fn served_of(place: &Place) -> Subject
+fn served_of(place: &DocumentPlace) -> Subject
     ensures { result ≡ served_of place.now }
 {
     match place {
-        Place::Folder(_) => Subject::ServedFolder,
-        Place::Document(_) => Subject::ServedDocument,
+        DocumentPlace::Folder(_) => Subject::ServedFolder,
+        DocumentPlace::Document(_) => Subject::ServedDocument,
     }
 }
 
 // The folder of a document, or its name in an etcd.
-fn place_text(alloc: Global, place: &Place) -> Result<String, AllocError>
+fn place_text(alloc: Global, place: &DocumentPlace) -> Result<String, AllocError>
     ensures { IfOk result (λ text. string_bytes text ≡ place_bytes place.now) }
 {
     match place {
-        Place::Folder(dir) => String::from_str(alloc, dir),
-        Place::Document(address) => String::from_str(alloc, &address.name),
+        DocumentPlace::Folder(dir) => String::from_str(alloc, dir),
+        DocumentPlace::Document(address) => String::from_str(alloc, &address.name),
     }
 }

@@ -8,13 +8,13 @@ ghost use Rattle.memory_store.specs.declared.notes.Moment.{Moment};
 
 use crate::held::Held;
 use crate::lost::Lost;
-use canvas_etcd::Change;
+use canvas_etcd::ShelfChange;
 use std::alloc::AllocError;
 
 // What the shelf became.
 #[derive(Drop)]
 pub(crate) struct Note {
-    pub(crate) change: Change,
+    pub(crate) change: ShelfChange,
     pub(crate) number: u32,
     pub(crate) bytes: Vec<u8>,
 }

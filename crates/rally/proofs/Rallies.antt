@@ -6,8 +6,8 @@ use Rattle.canvas_doc.proofs.Standing.{some_is}
 use Rattle.std.proofs.lemmas.List.Elements.{All-cons, All-head, All-nil, All-tail}
 use Rattle.canvas_model.specs.Client.{Client}
 use Rattle.canvas_model.specs.Local.{EditRequest}
-use Rattle.canvas_daemon.specs.declared.fault.Fault.{Fault}
-use Rattle.canvas_daemon.specs.declared.fault.Fault.TheVariants.{Usage, BadLine, Memory, Device, Damaged, TooLarge}
+use Rattle.canvas_daemon.specs.declared.fault.DaemonFault.{DaemonFault}
+use Rattle.canvas_daemon.specs.declared.fault.DaemonFault.TheVariants.{Usage, BadLine, Memory, Device, Damaged, TooLarge}
 use Rattle.canvas_daemon.specs.Faults as daemon
 use Rattle.canvas_daemon.specs.Faults.{IsFaultStatus, fault_line}
 use Rattle.canvas_threads.specs.Worked.{Beside}
@@ -41,7 +41,7 @@ asks_more c n (first ∷ rest) more request is set asks =
     (asks.0, (let count = length-append rest (request ∷ []) in let before = asks.1 in omega (arith, count, before)), all_more (IsSetOf (first_of_client c)) rest request asks.2 set)
 
 -- the line of a fault that isn't the usage is that of `canvasd`
-same_line : (fault : Fault) → (fault ≡ Usage → ⊥) → fault_line fault ≡ line_of fault
+same_line : (fault : DaemonFault) → (fault ≡ Usage → ⊥) → fault_line fault ≡ line_of fault
 same_line Usage other = absurd (other refl)
 same_line (BadLine n) other = refl
 same_line Memory other = refl
@@ -49,7 +49,7 @@ same_line Device other = refl
 same_line (Damaged segment offset) other = refl
 same_line TooLarge other = refl
 
-pub told_so : (fault : Fault) (status : ℕ) (faults told : Option (List ℕ)) → (fault ≡ Usage → ⊥) → daemon.IsEnd fault status faults told → IsEnd fault status faults told
+pub told_so : (fault : DaemonFault) (status : ℕ) (faults told : Option (List ℕ)) → (fault ≡ Usage → ⊥) → daemon.IsEnd fault status faults told → IsEnd fault status faults told
 told_so fault status faults told other (inl is) = inl (is.0, subst (Appends faults told) (same_line fault other) is.1)
 told_so fault status faults told other (inr is) = inr is
 

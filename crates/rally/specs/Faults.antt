@@ -1,8 +1,8 @@
 -- How a fault is told.
 use Rattle.std.specs.Prelude.{◌≡◌, ◌⊎◌, ℕ, List, [], ◌∷◌, ◌++◌, codes, Option}
 use Rattle.std.specs.Io.KnownBytes.{Appends}
-use Rattle.canvas_daemon.specs.declared.fault.Fault.{Fault}
-use Rattle.canvas_daemon.specs.declared.fault.Fault.TheVariants.{Usage, BadLine, Memory, Device, Damaged, TooLarge}
+use Rattle.canvas_daemon.specs.declared.fault.DaemonFault.{DaemonFault}
+use Rattle.canvas_daemon.specs.declared.fault.DaemonFault.TheVariants.{Usage, BadLine, Memory, Device, Damaged, TooLarge}
 use Rattle.canvas_daemon.specs.Faults.{IsFaultStatus, fault_line}
 
 -- how the program is called, in a line of its own
@@ -10,7 +10,7 @@ abbrev pub usage_line : List ℕ
 usage_line = codes "usage: rally DIR CLIENTS EDITS" ++ 10 ∷ []
 
 -- the line that tells of a fault: that of `canvasd`, but for the usage
-abbrev pub line_of : Fault → List ℕ
+abbrev pub line_of : DaemonFault → List ℕ
 line_of Usage = usage_line
 line_of (BadLine n) = fault_line (BadLine n)
 line_of Memory = fault_line Memory
@@ -19,5 +19,5 @@ line_of (Damaged segment offset) = fault_line (Damaged segment offset)
 line_of TooLarge = fault_line TooLarge
 
 -- the fault's status where it was told, or 4
-abbrev pub IsEnd : Fault → ℕ → Option (List ℕ) → Option (List ℕ) → Type 0
+abbrev pub IsEnd : DaemonFault → ℕ → Option (List ℕ) → Option (List ℕ) → Type 0
 IsEnd fault status faults told = (IsFaultStatus fault status × Appends faults told (line_of fault)) ⊎ (status ≡ 4)

@@ -1,7 +1,7 @@
 -- What a run of the program does, by the words that it is called with.
 use Rattle.std.specs.Prelude.{◌≡◌, ◌⊎◌, ℕ, Bool, List, Option}
-use Rattle.canvas_daemon.specs.declared.fault.Fault.{Fault}
-use Rattle.canvas_daemon.specs.declared.fault.Fault.TheVariants.{Usage}
+use Rattle.canvas_daemon.specs.declared.fault.DaemonFault.{DaemonFault}
+use Rattle.canvas_daemon.specs.declared.fault.DaemonFault.TheVariants.{Usage}
 use Rattle.canvas_daemon.specs.Runs.{Leaves, trial_status}
 use Rattle.canvas_daemon.specs.Served.{IsServeFault}
 use Rattle.rally.specs.Faults.{IsEnd}
@@ -17,7 +17,7 @@ abbrev pub Does : List (List ℕ) → Bool → (written after : Option (List ℕ
 Does words equal written after = (dir : List ℕ) × (clients : ℕ) × (edits : ℕ) × AskFor words dir clients edits × WritesRally equal written after
 
 -- the words ask for a rally that this fault ended; or they ask for nothing, which is the fault
-abbrev pub Fails : List (List ℕ) → (written after : Option (List ℕ)) → Fault → Type 0
+abbrev pub Fails : List (List ℕ) → (written after : Option (List ℕ)) → DaemonFault → Type 0
 Fails words written after fault =
     ((dir : List ℕ) × (clients : ℕ) × (edits : ℕ) × AskFor words dir clients edits × IsServeFault clients fault × Leaves fault (after ≡ written))
     ⊎ ((fault ≡ Usage) × AskForNothing words × (after ≡ written))
@@ -26,4 +26,4 @@ Fails words written after fault =
 abbrev pub IsRun : List (List ℕ) → ℕ → (written after faults told : Option (List ℕ)) → Type 0
 IsRun words status written after faults told =
     ((equal : Bool) × (status ≡ trial_status equal) × Does words equal written after × (told ≡ faults))
-    ⊎ ((fault : Fault) × Fails words written after fault × IsEnd fault status faults told)
+    ⊎ ((fault : DaemonFault) × Fails words written after fault × IsEnd fault status faults told)

@@ -1,15 +1,15 @@
 //! `rally` has clients edit the document of a folder at once, in one process and without sockets, and tells whether they agree.
 #![tactic(auto)]
 
+mod args;
 mod fault;
 mod page;
 mod rallying;
 mod running;
-mod words;
 
 use crate::fault::end;
 use crate::running::run;
-use canvas_daemon::Fault;
+use canvas_daemon::DaemonFault;
 use std::env;
 use std::io::{self, ErrorKind};
 use std::process::ExitCode;
@@ -26,9 +26,9 @@ fn main(rt: HostRuntime) -> ExitCode {
         Ok(words) => run(&rt, rt, &words, &mut rt.stdout(), &mut faults),
         Err(error) => {
             if error.kind() == ErrorKind::OutOfMemory {
-                end(&Fault::Memory, &mut faults)
+                end(&DaemonFault::Memory, &mut faults)
             } else {
-                end(&Fault::Usage, &mut faults)
+                end(&DaemonFault::Usage, &mut faults)
             }
         }
     };

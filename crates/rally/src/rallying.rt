@@ -8,7 +8,7 @@ use crate::fault::fault_of;
 use crate::page::Page;
 use canvas_board::RoomName;
 use canvas_client::Client;
-use canvas_daemon::{Fault, open_room, opened};
+use canvas_daemon::{DaemonFault, open_room, opened};
 use canvas_journal::Keeper;
 use canvas_lines::write_out;
 use canvas_room::{BlankRoom, Lock, Seat};
@@ -33,12 +33,12 @@ pub fn rally<R, W>(
     clients: u32,
     edits: u32,
     output: &mut W,
-) -> Result<bool, Fault>
+) -> Result<bool, DaemonFault>
 where
     R: Threads + Wait + AllocGlobal + Clone + Send + Sync + Drop,
     W: Write,
     ensures told { IfOk result (λ equal. WritesRally equal (W.contents output.old) (W.contents output.new)) }
-    ensures unwritten { IfErr result (λ fault. (fault ≡ Fault.Device → ⊥) → W.contents output.new ≡ W.contents output.old) }
+    ensures unwritten { IfErr result (λ fault. (fault ≡ DaemonFault.Device → ⊥) → W.contents output.new ≡ W.contents output.old) }
     ensures faults { IfErr result (IsServeFault clients) }
 {
     let (room, _version, _removed) = open_room(files, dir, clients)?;
@@ -64,7 +64,7 @@ fn equal_word(equal: bool) -> &'static str
 }
 
 // Has a client at each seat of a room make its page. Answers the first one's version, and whether all agree.
-fn rally_room<N, K, R>(rt: &R, room: BlankRoom<K>, edits: u32) -> Result<(u64, bool), Fault>
+fn rally_room<N, K, R>(rt: &R, room: BlankRoom<K>, edits: u32) -> Result<(u64, bool), DaemonFault>
 where
     N: RoomName + Send + Sync,
     K: Keeper + Drop + Send,
@@ -83,7 +83,7 @@ fn rallied<N, K, R>(
     rt: &R,
     seats: Vec<Seat<N, Lock<K, N, R>>>,
     page: Page,
-) -> Result<Vec<Client>, Fault>
+) -> Result<Vec<Client>, DaemonFault>
 where
     N: RoomName + Send + Sync,
     K: Keeper + Drop + Send,

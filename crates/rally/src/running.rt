@@ -2,10 +2,10 @@
 ghost use Rattle.std.specs.Prelude.{IfErr, IfOk, map, string_bytes};
 ghost use Rattle.rally.specs.Runs.{Does, Fails, IsRun};
 
+use crate::args::read_words;
 use crate::fault::end;
 use crate::rallying::rally;
-use crate::words::read_words;
-use canvas_daemon::Fault;
+use canvas_daemon::DaemonFault;
 use std::io::Write;
 use std::sync::Wait;
 use std::thread::Threads;
@@ -41,7 +41,7 @@ fn perform<R, W>(
     files: HostRuntime,
     words: &[String],
     output: &mut W,
-) -> Result<bool, Fault>
+) -> Result<bool, DaemonFault>
 where
     R: Threads + Wait + AllocGlobal + Clone + Send + Sync + Drop,
     W: Write,
@@ -49,7 +49,7 @@ where
     ensures failed { IfErr result (Fails (map string_bytes words.now) (W.contents output.old) (W.contents output.new)) }
 {
     let Some(asked) = read_words(words) else {
-        return Err(Fault::Usage);
+        return Err(DaemonFault::Usage);
     };
     rally(rt, files, asked.dir, asked.clients, asked.edits, output)
 }

@@ -1,7 +1,7 @@
 use Rattle.std.proofs.Common.{IfOk, IfErr, ◌≡◌, Some, codes, subst, sym}
 use Rattle.serde_json.specs.View.{view, items_view}
 use Rattle.canvas_codec.specs.Faults.{RefusesShape}
-use Rattle.canvas_json.proofs.Members.{word_is}
+use Rattle.canvas_forms.proofs.Members.{word_is}
 use Rattle.canvas_embed.specs.Saves.{saved_in, seen_draft}
 use Rattle.canvas_embed.proofs.saves.read_client.Goals as goal
 

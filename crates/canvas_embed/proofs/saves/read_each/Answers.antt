@@ -7,7 +7,7 @@ use Rattle.canvas_codec.proofs.ReadLists.{read_list-more, read_list-none}
 use Rattle.canvas_codec.proofs.Reading.{refused_part}
 use Rattle.canvas_doc.specs.Seen.{seen}
 use Rattle.canvas_forms.specs.Changes.{change_form}
-use Rattle.canvas_json.proofs.Members.{each_list}
+use Rattle.canvas_forms.proofs.Members.{each_list}
 use Rattle.canvas_embed.proofs.saves.read_each.Goals as goal
 
 pub returns-in-Err-clause-fault : goal.returns-in-Err-clause-fault

@@ -4,7 +4,7 @@ use Rattle.serde_json.specs.Data as D
 use Rattle.serde_json.specs.Written.{has_float, compact_text}
 use Rattle.canvas_model.specs.Document.{Doc}
 use Rattle.canvas_forms.specs.Rows.{rows_form}
-use Rattle.canvas_json.specs.RowOrder.{are_in_order}
+use Rattle.canvas_forms.specs.RowOrder.{are_in_order}
 use Rattle.canvas_embed.specs.Saves.{saved_form, parts_of}
 use Rattle.canvas_embed.proofs.Saved.{saved_no_float, saved_nests, each_shallow, stands_written}
 use Rattle.canvas_embed.proofs.saves.save.Goals as goal

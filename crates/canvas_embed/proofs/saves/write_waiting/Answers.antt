@@ -4,7 +4,7 @@ use Rattle.std.proofs.lemmas.List.{map-append, take_all}
 use Rattle.serde_json.specs.Data.{array}
 use Rattle.serde_json.specs.View.{view, items_of}
 use Rattle.canvas_forms.specs.Changes.{change_form}
-use Rattle.canvas_json.proofs.Members.{each_view}
+use Rattle.canvas_forms.proofs.Members.{each_view}
 use Rattle.canvas_embed.proofs.Saved.{written_more}
 use Rattle.canvas_embed.proofs.saves.write_waiting.Goals as goal
 

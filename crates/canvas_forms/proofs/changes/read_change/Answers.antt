@@ -3,7 +3,7 @@ use Rattle.serde_json.specs.View.{view, items_view}
 use Rattle.canvas_codec.specs.Faults.{RefusesShape}
 use Rattle.canvas_doc.specs.Seen.{seen}
 use Rattle.canvas_forms.specs.Changes.{change_form}
-use Rattle.canvas_json.proofs.Members.{word_is}
+use Rattle.canvas_forms.proofs.Members.{word_is}
 use Rattle.canvas_forms.proofs.changes.read_change.Goals as goal
 
 pub returns-then-eq-clause-ok : goal.returns-then-eq-clause-ok

@@ -4,7 +4,7 @@ use Rattle.serde_json.specs.View.{view}
 use Rattle.canvas_codec.specs.ReadList.{read_list}
 use Rattle.canvas_codec.proofs.ReadLists.{read_list-more, read_list-none}
 use Rattle.canvas_forms.specs.Ids.{id_form}
-use Rattle.canvas_json.proofs.Members.{each_list}
+use Rattle.canvas_forms.proofs.Members.{each_list}
 use Rattle.canvas_forms.proofs.outcomes.read_ids.Goals as goal
 
 pub returns-in_default-clause-fault : goal.returns-in_default-clause-fault

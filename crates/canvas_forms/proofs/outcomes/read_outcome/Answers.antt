@@ -4,7 +4,7 @@ use Rattle.canvas_codec.specs.Faults.{RefusesShape}
 use Rattle.canvas_judge.specs.Seen.{seen_outcome}
 use Rattle.canvas_forms.specs.Version.{version_two}
 use Rattle.canvas_forms.specs.Outcomes.{outcome_form}
-use Rattle.canvas_json.proofs.Members.{word_is}
+use Rattle.canvas_forms.proofs.Members.{word_is}
 use Rattle.canvas_forms.proofs.outcomes.read_outcome.Goals as goal
 
 pub returns-then-eq-clause-ok : goal.returns-then-eq-clause-ok

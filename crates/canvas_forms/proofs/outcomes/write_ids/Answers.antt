@@ -3,7 +3,7 @@ use Rattle.std.proofs.lemmas.List.{take_all}
 use Rattle.serde_json.specs.Data.{array}
 use Rattle.serde_json.specs.View.{items_of}
 use Rattle.canvas_forms.specs.Ids.{id_form}
-use Rattle.canvas_json.proofs.Members.{each_view}
+use Rattle.canvas_forms.proofs.Members.{each_view}
 use Rattle.canvas_forms.proofs.outcomes.write_ids.Goals as goal
 
 pub returns : goal.returns

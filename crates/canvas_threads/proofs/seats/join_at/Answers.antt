@@ -2,7 +2,7 @@ use Rattle.std.proofs.Common.{subst}
 use Rattle.std.proofs.lemmas.Result.{on_ok_weaker, IfErr-weaker}
 use Rattle.canvas_model.specs.Client.{Client}
 use Rattle.canvas_nodes.specs.Hears.{BreaksAtJoin, HearsOfJoin}
-use Rattle.canvas_front.specs.Links.{Grants, RefusesRound}
+use Rattle.room_handler.specs.Links.{Grants, RefusesRound}
 use Rattle.canvas_threads.proofs.Joining.{join_broke, join_legal, joined}
 use Rattle.canvas_threads.proofs.seats.join_at.Goals as goal
 

@@ -5,7 +5,7 @@ use Rattle.canvas_codec.specs.Parts.{whole_in}
 use Rattle.canvas_codec.specs.Faults.{RefusesShape}
 use Rattle.canvas_forms.specs.Version.{version_two}
 use Rattle.canvas_forms.specs.Rows.{rows_form}
-use Rattle.canvas_json.proofs.Members.{not_three}
+use Rattle.canvas_forms.proofs.Members.{not_three}
 use Rattle.canvas_wire.specs.Messages.{message_after}
 use Rattle.canvas_wire.proofs.Message.{unread_copy, copy_read, copy_refused}
 use Rattle.canvas_wire.proofs.messages.read_copy.Goals as goal

@@ -2,7 +2,7 @@ use Rattle.std.proofs.Common.{IfOk, IfErr, ◌≡◌, Some, codes, subst, sym}
 use Rattle.serde_json.specs.View.{view, items_view}
 use Rattle.canvas_codec.specs.Faults.{RefusesShape}
 use Rattle.canvas_forms.specs.Version.{version_two}
-use Rattle.canvas_json.proofs.Members.{word_is}
+use Rattle.canvas_forms.proofs.Members.{word_is}
 use Rattle.canvas_wire.specs.Drafts.{seen_parts}
 use Rattle.canvas_wire.specs.Messages.{message_in}
 use Rattle.canvas_wire.proofs.messages.read_message.Goals as goal

@@ -1,6 +1,6 @@
 use Rattle.std.proofs.Common.{refl, ap, ◌+◌, ℕ}
 use Rattle.canvas_model.specs.World.{nothing}
-use Rattle.canvas_events.specs.Seen.{seen_answer}
+use Rattle.canvas_world.specs.Seen.{seen_answer}
 use Rattle.canvas_world.proofs.Runs.{run_append, run_more, run_stopped}
 use Rattle.canvas_world.proofs.World.advance_each.Goals as goal
 

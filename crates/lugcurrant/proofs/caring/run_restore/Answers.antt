@@ -1,9 +1,9 @@
 use Rattle.std.proofs.Common.{inl, inr}
 use Rattle.std.specs.Prelude.{OnOk}
 use Rattle.canvas_journal.proofs.Results.{ok_map}
-use Rattle.canvas_care.specs.Begun.{WritesBegun}
-use Rattle.canvas_faults.proofs.Ends.{ended}
-use Rattle.canvas_faults.specs.declared.subject.Subject.TheVariants.{Folder}
+use Rattle.app_admin.specs.Begun.{WritesBegun}
+use Rattle.app_faults.proofs.Ends.{ended}
+use Rattle.app_faults.specs.declared.subject.Subject.TheVariants.{Folder}
 use Rattle.lugcurrant.proofs.caring.run_restore.Goals as goal
 
 pub returns-in-Ok : goal.returns-in-Ok

@@ -1,5 +1,5 @@
-use Rattle.canvas_faults.proofs.Ends.{ended}
-use Rattle.canvas_faults.specs.declared.subject.Subject.TheVariants.{Folder}
+use Rattle.app_faults.proofs.Ends.{ended}
+use Rattle.app_faults.specs.declared.subject.Subject.TheVariants.{Folder}
 use Rattle.lugcurrant.proofs.caring.run_rows.Goals as goal
 
 pub returns : goal.returns

@@ -1,5 +1,5 @@
 use Rattle.std.proofs.Common.{inl, inr, refl}
-use Rattle.canvas_faults.specs.declared.fault.Fault.TheVariants.{Memory}
+use Rattle.app_faults.specs.declared.fault.Fault.TheVariants.{Memory}
 use Rattle.lugcurrant.proofs.running.run_server.Goals as goal
 
 -- the sentence of want of memory names no place

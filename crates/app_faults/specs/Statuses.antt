@@ -1,0 +1,69 @@
+-- The program's status for each fault.
+use Rattle.std.specs.Prelude.{ℕ, Option, Some, None}
+use Rattle.etcd_store.specs.declared.error.StoreError.{StoreError}
+use Rattle.etcd_store.specs.declared.error.StoreError.TheVariants as store
+use Rattle.app_faults.specs.declared.fault.Fault.{Fault}
+use Rattle.app_faults.specs.declared.fault.Fault.TheVariants.{NotAnOrigin, NotAUrl, NotAName, ClientCount, NoPage, StopFile, PortInUse, PortDenied, NoPort, InUse, Denied, AboveDenied, NoDescriptor, NoRoom, Device, Taken, NoSegment, Gone, Lost, NotKept, Identity, ChangedIdentity, Busy, Damaged, TooLarge, NoSpace, NoStore, BadLine, NoDocument, Stream, NoThread, JournalFailed, StoreFailed, LeaseEnded, Stopped, Memory}
+
+-- of an etcd that doesn't do what it is asked: 3 for want of memory, 5 if a person must look at the document, 8 for want of rights, 9 for want of space, 10 if another server owns the document, and 4 for all else
+abbrev pub store_status : StoreError → ℕ
+store_status store.Unreachable = 4
+store_status store.Unanswered = 4
+store_status store.Refused = 8
+store_status store.TlsWanted = 4
+store_status store.NoSpace = 9
+store_status store.Damaged = 5
+store_status store.Lost = 10
+store_status store.Memory = 3
+
+-- of a journal in an etcd that failed while the server ran: 8 for want of rights, 9 for want of space, 10 if another server owns the document, and 4 for all else, or if the reason isn't known
+abbrev pub stored_status : Option StoreError → ℕ
+stored_status None = 4
+stored_status (Some store.Unreachable) = 4
+stored_status (Some store.Unanswered) = 4
+stored_status (Some store.Refused) = 8
+stored_status (Some store.TlsWanted) = 4
+stored_status (Some store.NoSpace) = 9
+stored_status (Some store.Damaged) = 4
+stored_status (Some store.Lost) = 10
+stored_status (Some store.Memory) = 4
+
+-- 0 for a server that was stopped, 2 if the words or the input must change, 3 for want of memory, 5 if a person must look at the document, 6 for a journal without room for it, 7 if another has what is
+-- wanted, 8 for want of rights, 9 for want of space, 10 if a server no longer owns its document, and 4 for all else
+abbrev pub status_of : Fault → ℕ
+status_of NotAnOrigin = 2
+status_of NotAUrl = 2
+status_of NotAName = 2
+status_of ClientCount = 2
+status_of NoPage = 2
+status_of StopFile = 2
+status_of PortInUse = 7
+status_of PortDenied = 8
+status_of NoPort = 4
+status_of InUse = 7
+status_of Denied = 8
+status_of AboveDenied = 8
+status_of NoDescriptor = 4
+status_of NoRoom = 9
+status_of Device = 4
+status_of Taken = 4
+status_of NoSegment = 4
+status_of Gone = 5
+status_of (Lost loss) = 5
+status_of NotKept = 4
+status_of Identity = 5
+status_of ChangedIdentity = 5
+status_of Busy = 4
+status_of (Damaged segment offset) = 5
+status_of TooLarge = 6
+status_of (NoSpace missing) = 9
+status_of (NoStore why) = store_status why
+status_of (BadLine line fault) = 2
+status_of NoDocument = 2
+status_of Stream = 4
+status_of NoThread = 4
+status_of (JournalFailed call) = 4
+status_of (StoreFailed call why) = stored_status why
+status_of LeaseEnded = 10
+status_of Stopped = 0
+status_of Memory = 3

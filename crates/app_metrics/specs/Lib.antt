@@ -1,0 +1,3 @@
+pub mod Prometheus
+pub mod Numbers
+pub mod Judged

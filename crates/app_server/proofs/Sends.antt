@@ -1,0 +1,63 @@
+-- Which of a server's types may be sent to a thread, one layer at a time.
+use denote.RattleType.{RattleType}
+use denote.Struct.Declared.{shape}
+use denote.Param.Send.{IsSend, IsSync, recorded_send, sendable, struct_send}
+use denote.Param.SendFields.{declared_send, declared_sync}
+use Rattle.std.proofs.Crossing.{crosses, Arc-send}
+use Rattle.std.specs.contracts.alloc.Global as Heap
+use Rattle.std.specs.contracts.impls.GlobalAllocator.TheImpl.{ghosts}
+use Rattle.std.specs.contracts.net.TcpStream as Stream
+use Rattle.canvas_room.proofs.Sends.{leaves, Shared-send}
+use Rattle.canvas_room.specs.contracts.room.Room as Room
+use Rattle.canvas_room.specs.contracts.seat.Seat as Seat
+use Rattle.canvas_journal.specs.declared.keeper.Keeper as keeper
+use Rattle.canvas_board.specs.contracts.board.BoardAbsorbStep.TheImpl as absorbs
+use Rattle.canvas_board.specs.contracts.rule.PublishedProtocolBoardLinkedListMark.TheImpl as rule
+use Rattle.canvas_board.specs.declared.history.RoomName.{Ghosts}
+use Rattle.canvas_board.proofs.history.Front.TheSendSync as front
+use Rattle.room_handler.specs.contracts.shared_copy.SharedCopy as SharedCopy
+use Rattle.crossbeam_channel.specs.contracts.channel.Receiver as Receiver
+use Rattle.app_listener.proofs.options.Shared.TheSendSync as shared
+use Rattle.app_server.proofs.glancing.Seen.TheSendSync as seen
+use Rattle.app_server.proofs.permits.Permits.TheSendSync as permits
+use Rattle.app_server.specs.contracts.copies.Copies as Copies
+use Rattle.app_server.specs.contracts.copies.Held as Held
+use Rattle.app_server.specs.contracts.glancing.GlanceTask as GlanceTask
+use Rattle.app_server.specs.contracts.tasks.SeatTask as SeatTask
+
+-- the connections that a seat is given
+pub Connections-send : IsSend (Receiver.the_row Stream.the_row Heap.the_row ghosts)
+Connections-send = search (leaves, sendable, crosses) depth 40 fits 4000
+
+-- the copy that clients are sent
+pub SharedCopy-send : (N : RattleType) (g : Ghosts N.Denot) → IsSend N → IsSend (SharedCopy.the_row N g)
+SharedCopy-send N g n = search (front.the_send, leaves, sendable, crosses) depth 40 fits 4000
+
+pub Held-send : (N : RattleType) (g : Ghosts N.Denot) → IsSend N → IsSend (Held.the_row N g)
+Held-send N g n = let c = SharedCopy-send N g n in declared_send (Held.the_type N g) (search (c, leaves, sendable, crosses) depth 40 fits 4000, (search sendable, tt))
+
+pub Copies-send : (N : RattleType) (g : Ghosts N.Denot) → IsSend N → IsSend (Copies.the_row N g)
+Copies-send N g n = let h = Held-send N g n in declared_send (Copies.the_type N g) (search (permits.the_send, sendable), (search (h, sendable, crosses) depth 40 fits 4000, tt))
+
+pub Copies-sync : (N : RattleType) (g : Ghosts N.Denot) → IsSend N → IsSync (Copies.the_row N g)
+Copies-sync N g n = let h = Held-send N g n in declared_sync (Copies.the_type N g) (search (permits.the_sync, sendable), (search (h, sendable, crosses) depth 40 fits 4000, tt))
+
+-- what the thread of a seat is given
+pub SeatTask-send : (N D R : RattleType) (g : Ghosts N.Denot) → IsSend N → IsSend (Seat.the_row N D g) → IsSend R → IsSend (SeatTask.the_row N D R g)
+SeatTask-send N D R g n s r =
+    recorded_send (SeatTask.the_field N D R g).row _ _ (SeatTask.the_type N D R g).to_one
+    (struct_send (shape (SeatTask.the_type N D R g)) (r, (s, (Arc-send _ shared.the_send shared.the_sync, (Arc-send _ (Copies-send N g n) (Copies-sync N g n), (Connections-send, tt))))))
+
+module _ (K N R : RattleType) (k : keeper.Ghosts K.Denot) (g : Ghosts N.Denot) where
+  -- a room
+  pub Room-send : IsSend K → IsSend N → IsSync N → IsSend R → IsSend (Room.the_field K N R k g (absorbs.ghosts N g absorbs.no_dict) (rule.ghosts N g rule.no_dict)).row
+  Room-send sk s y sr =
+      let a = absorbs.ghosts N g absorbs.no_dict in
+      let p = rule.ghosts N g rule.no_dict in
+      struct_send (shape (Room.the_type K N R k g a p)) (Shared-send K N R k g a p sk s y sr, tt)
+
+  -- what the thread is given that looks at it
+  pub GlanceTask-send : IsSend K → IsSend N → IsSync N → IsSend R → IsSend (GlanceTask.the_row K N R k g)
+  GlanceTask-send sk s y sr =
+      recorded_send (GlanceTask.the_field K N R k g).row _ _ (GlanceTask.the_type K N R k g).to_one
+      (struct_send (shape (GlanceTask.the_type K N R k g)) (sr, (Room-send sk s y sr, (Arc-send _ shared.the_send shared.the_sync, (Arc-send _ seen.the_send seen.the_sync, tt)))))

@@ -1,0 +1,215 @@
+// What a server of a document in an etcd has before it serves: the document, which it has taken over, and the lease of that.
+ghost use Rattle.std.specs.Prelude.{◌≡◌, ◌⊎◌, IfErr, IfOk, string_bytes};
+ghost use Rattle.net_http.specs.Identities.{IsIdentity};
+ghost use Rattle.app_storage.specs.Faults.{IsNamingFault, IsOpeningFault, IsPreparingFault, IsStopFault, IsThreadFault};
+
+use crate::opening::{Counted, OpenRoom, listen, room_of};
+use crate::progress::Progress;
+use crate::stopping::StopFile;
+use app_args::Serving;
+use app_faults::{Fault, fault_of_etcd, of_document};
+use app_identity::{Address, identity_in, made_identity};
+use app_storage::{DocumentShelf, KeptLease, LEASE_SECONDS, NoWitness, Term};
+use canvas_etcd::EtcdShelf;
+use canvas_shelf::Shelf;
+use disk_integrity::Watched;
+use etcd_gateway::copy_hosts;
+use etcd_store::{Causes, EtcdStore, Lease, StoreError};
+use std::alloc::Global;
+use std::io::Eprint;
+use std::net::{Net, TcpListener, TcpStream};
+use std::random::RandomSource;
+use std::sync::Wait;
+use std::thread::Threads;
+use std::time::Clock;
+
+/// The journal of a document in an etcd, which is counted.
+pub(crate) type DocumentJournal<R> = Counted<DocumentShelf<R>>;
+
+/// What a server holds beside the room of a document in an etcd.
+pub(crate) struct Tenure {
+    /// The lease.
+    pub(crate) lease: KeptLease,
+    /// Why calls of the store failed.
+    pub(crate) causes: Causes,
+}
+
+impl Drop for Tenure {
+    fn drop(self) {
+        let Tenure {
+            lease: _,
+            causes: _,
+        } = self;
+    }
+}
+
+/// A document that was taken over, and the port that it is served at.
+pub(crate) struct Taken<S: Shelf> {
+    /// Where the port is.
+    pub(crate) listener: TcpListener,
+    /// The document's room.
+    pub(crate) opened: OpenRoom<S>,
+    /// The document's identity.
+    pub(crate) identity: String,
+    /// What is held beside it.
+    pub(crate) tenure: Tenure,
+}
+
+/// Listens, and takes a document over. Its lease is kept alive from the takeover on. If opening it takes long, a line is logged every two
+/// seconds. `Stopped` if the file that stops the server comes while the document is being opened: then the lease is released.
+pub(crate) fn take_document<R>(
+    rt: &R,
+    files: HostRuntime,
+    address: &Address,
+    serving: &Serving,
+    stop: &StopFile,
+) -> Result<Taken<DocumentShelf<R>>, Fault>
+where
+    R: Net<Listener = TcpListener, Stream = TcpStream>
+        + Threads
+        + Wait
+        + Clock
+        + RandomSource
+        + Eprint
+        + AllocGlobal
+        + Clone
+        + Send
+        + Drop
+        + 'static,
+    ensures named { IfOk result (λ taken. IsIdentity (string_bytes taken.identity)) }
+    ensures faults { IfErr result (λ fault. IsPreparingFault serving.now.clients fault ⊎ IsThreadFault fault ⊎ IsStopFault stop.now.path fault) }
+{
+    let listener = listen(rt, serving.port)?;
+    let store = store_of(rt, files.alloc(), address)?;
+    let progress = Progress::begin(rt, &address.name, serving.quiet, stop, store.lease()?)?;
+    let taken = take_over(rt, files, store, serving.clients as usize);
+    progress.end();
+    if stop.has_come() {
+        if let Ok((_, _, tenure)) = &taken {
+            tenure.lease.release(rt);
+        }
+        return Err(Fault::Stopped);
+    }
+    let (opened, identity, tenure) = taken?;
+    Ok(Taken {
+        listener,
+        opened,
+        identity,
+        tenure,
+    })
+}
+
+// A document that was taken over: its room, its identity, and what is held beside it.
+type OpenDocument<R> = (OpenRoom<DocumentShelf<R>>, String, Tenure);
+
+// Takes a document over, gives its lease a thread, and opens its room, with this number of seats.
+fn take_over<R>(
+    rt: &R,
+    files: HostRuntime,
+    store: EtcdStore<R>,
+    seats: usize,
+) -> Result<OpenDocument<R>, Fault>
+where
+    R: Net<Listener = TcpListener, Stream = TcpStream>
+        + Threads
+        + Wait
+        + Clock
+        + RandomSource
+        + AllocGlobal
+        + Clone
+        + Send
+        + Drop
+        + 'static,
+    ensures named { IfOk result (λ opened. IsIdentity (string_bytes opened.1)) }
+    ensures faults { IfErr result (λ fault. IsOpeningFault seats fault ⊎ IsThreadFault fault) }
+{
+    let alloc = files.alloc();
+    let causes = store.causes()?;
+    let mut own = store.lease()?;
+    let term = Term::new(rt);
+    let shelf = match EtcdShelf::open(alloc, store) {
+        Ok(shelf) => shelf,
+        Err(error) => {
+            if matches!(causes.last(), Some(StoreError::Damaged | StoreError::Lost)) {
+                // No server must wait for the end of a lease under which nothing can be opened, or isn't any more.
+                let _ = own.release();
+            }
+            return Err(fault_of_etcd(error, causes.last()));
+        }
+    };
+    let lease = KeptLease::new(rt, term, own.another()?)?;
+    match open_owned(files, shelf, &mut own, &causes, seats) {
+        Ok((opened, identity)) => Ok((opened, identity, Tenure { lease, causes })),
+        Err(fault) => {
+            // No server must wait for the end of a lease under which nothing was served.
+            lease.release(rt);
+            Err(fault)
+        }
+    }
+}
+
+// Opens the room of a document that was taken over, and tells its identity.
+fn open_owned<R>(
+    files: HostRuntime,
+    shelf: EtcdShelf<EtcdStore<R>>,
+    lease: &mut Lease<R>,
+    causes: &Causes,
+    seats: usize,
+) -> Result<(OpenRoom<DocumentShelf<R>>, String), Fault>
+where
+    R: Net<Stream = TcpStream> + Clock + RandomSource + AllocGlobal + Clone + Drop,
+    ensures named { IfOk result (λ opened. IsIdentity (string_bytes opened.1)) }
+    ensures faults { IfErr result (IsOpeningFault seats) }
+{
+    let identity = identity_of(files, lease)?;
+    let shelf = Watched::new(files.alloc(), shelf, NoWitness)?;
+    let notes = shelf.notes().share()?;
+    let shelf = DocumentShelf::new(files.alloc(), shelf)?;
+    match room_of(files, shelf, notes, seats) {
+        Ok(opened) => Ok((opened, identity)),
+        Err(fault) => Err(of_document(fault, causes.last())),
+    }
+}
+
+/// The store of a document. Nothing is asked yet.
+pub(crate) fn store_of<R>(rt: &R, alloc: Global, address: &Address) -> Result<EtcdStore<R>, Fault>
+where
+    R: Net<Stream = TcpStream> + Clock + RandomSource + AllocGlobal + Clone + Drop,
+    ensures { IfErr result (λ fault. fault ≡ Fault.Memory) }
+{
+    let hosts = copy_hosts(alloc, &address.hosts)?;
+    let name = address.name.as_bytes();
+    Ok(EtcdStore::new(rt.clone()?, hosts, name, LEASE_SECONDS)?)
+}
+
+// The identity of a document that was taken over. If it has none it is made, and stands in the etcd before it is told.
+fn identity_of<R>(files: HostRuntime, lease: &mut Lease<R>) -> Result<String, Fault>
+where
+    R: Net<Stream = TcpStream> + Clock + RandomSource + AllocGlobal + Clone + Drop,
+    ensures named { IfOk result (λ text. IsIdentity (string_bytes text)) }
+    ensures faults { IfErr result IsNamingFault }
+{
+    if let Some(bytes) = lease.identity()? {
+        return named(files.alloc(), &bytes);
+    }
+    let identity = match made_identity(&files) {
+        Ok(identity) => identity,
+        Err(error) => return Err(of_document(Fault::from(error), None)),
+    };
+    lease.set_identity(identity.as_bytes())?;
+    Ok(identity)
+}
+
+// The identity that these bytes are.
+fn named(alloc: Global, bytes: &[u8]) -> Result<String, Fault>
+    ensures named { IfOk result (λ text. IsIdentity (string_bytes text)) }
+    ensures faults { IfErr result IsNamingFault }
+{
+    let Ok(text) = str::from_utf8(bytes) else {
+        return Err(Fault::Identity);
+    };
+    match identity_in(alloc, text) {
+        Ok(identity) => Ok(identity),
+        Err(error) => Err(of_document(Fault::from(error), None)),
+    }
+}

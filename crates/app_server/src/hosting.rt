@@ -1,0 +1,412 @@
+// What `lugcurrant serve` does: a room over the journal of a document, whose seats serve clients for as long as it runs.
+ghost use Rattle.std.specs.Prelude.{◌≡◌, ◌⊎◌, IfErr, string_bytes};
+ghost use Rattle.net_http.specs.Identities.{IsIdentity};
+ghost use Rattle.app_storage.specs.Faults.{IsPageFault, IsPreparingFault, IsRunningFault, IsServeFault, IsStopFault, IsThreadFault};
+
+use crate::copies::Copies;
+use crate::documents::{DocumentJournal, Taken, Tenure, take_document};
+use crate::glancing::{GlanceTask, Seen};
+use crate::opening::{FolderJournal, OpenFolder, OpenRoom, listen, open_room, opened};
+use crate::standby::await_document;
+use crate::stopping::StopFile;
+use crate::tasks::{DoorTask, SeatTask};
+use crate::watching::{Ends, watch};
+use app_args::{DocumentPlace, Options, Serving};
+use app_faults::Fault;
+use app_identity::{Address, identity};
+use app_listener::{Figures, Limits, Shared, read_page};
+use app_storage::begin_task;
+use canvas_board::RoomName;
+use canvas_folder::Removed;
+use canvas_journal::Keeper;
+use canvas_room::{BlankRoom, Lock, Room, Seat};
+use crossbeam_channel::{Receiver, Sender, bounded};
+use net_http::{PageFile, Site};
+use std::alloc::Global;
+use std::io::{Eprint, ErrorKind};
+use std::marker::Brand;
+use std::net::{Net, TcpListener, TcpStream};
+use std::random::RandomSource;
+use std::sync::atomic::AtomicBool;
+use std::sync::{Arc, Wait};
+use std::thread::Threads;
+use std::time::Clock;
+
+// How many copies of the document are on their way at once.
+const MOST_COPIES: usize = 4;
+
+/// How many threads accept connections.
+const DOORS: u32 = 16;
+
+/// Serves a document to clients over WebSockets, for as long as nothing fails, and answers what ended it.
+///
+/// It listens at the own machine alone, at the port of the options. So many clients as they say are served at once; a seat whose
+/// connection has ended serves the next one. A client more is turned away, and other requests are answered as `net_http` says.
+/// A folder is made where it is missing, and nobody else can open it to write meanwhile. A document in an etcd is taken over, under a
+/// lease that a thread keeps alive from then on; a standby waits until nobody has it, and doesn't listen before. A `kill` at any moment is
+/// safe. Once the file of `stop_file` is there, nothing more is judged, the lease is released, and the server ends: `Stopped`. A document
+/// in an etcd isn't opened to its end then.
+///
+/// The faults: `StopFile`, if that file is there before, and then nothing was touched; `NoPage`, where the options name the folder of a page
+/// and no file `index.html` can be read in it, and `PortInUse`, `PortDenied` and `NoPort`, where the port can't be had, and then the document is left alone; `ClientCount`, only for fewer clients than 1 or more than
+/// 64; `Denied`, `AboveDenied`, `NoDescriptor`, `NoRoom`, `Device`, `ChangedIdentity`, `Lost`, `NotKept` and `NoSpace` of a folder, `NoStore` of a document in an
+/// etcd, and `InUse`, `Identity`, `Damaged` and `TooLarge` of both, where it isn't opened; `NoThread`, where not all threads can be made; `Memory`; and later `JournalFailed`, once the device of the journal has failed, or `StoreFailed` and `LeaseEnded` of an etcd.
+pub fn serve<R>(rt: &R, files: HostRuntime, options: Options) -> Fault
+where
+    R: Net<Listener = TcpListener, Stream = TcpStream>
+        + Threads
+        + Wait
+        + Clock
+        + RandomSource
+        + Eprint
+        + AllocGlobal
+        + Clone
+        + Send
+        + Sync
+        + Drop
+        + 'static,
+    ensures { IsServeFault options.serving.clients options.serving.stop_file result }
+{
+    let (place, mut serving) = options.apart();
+    let path = serving.stop_file.take();
+    let stop = StopFile { files, path };
+    if let Err(fault) = stop.look_first() {
+        return fault;
+    }
+    if let Err(fault) = look_at_page(&files, &serving) {
+        return fault;
+    }
+    match &place {
+        DocumentPlace::Folder(dir) => serve_folder(rt, files, dir, serving, stop),
+        DocumentPlace::Document(address) => serve_document(rt, files, address, serving, stop),
+    }
+}
+
+// Looks whether the page is there that is to be served, if one is.
+fn look_at_page(files: &HostRuntime, serving: &Serving) -> Result<(), Fault>
+    ensures { IfErr result IsPageFault }
+{
+    let Some(folder) = &serving.page else {
+        return Ok(());
+    };
+    match read_page(files, folder, PageFile::Index) {
+        Ok(_) => Ok(()),
+        Err(error) => match error.kind() {
+            ErrorKind::OutOfMemory => Err(Fault::Memory),
+            _ => Err(Fault::NoPage),
+        },
+    }
+}
+
+// Serves the document of a folder.
+fn serve_folder<R>(
+    rt: &R,
+    files: HostRuntime,
+    dir: &String,
+    serving: Serving,
+    stop: StopFile,
+) -> Fault
+where
+    R: Net<Listener = TcpListener, Stream = TcpStream>
+        + Threads
+        + Wait
+        + Clock
+        + RandomSource
+        + Eprint
+        + AllocGlobal
+        + Clone
+        + Send
+        + Sync
+        + Drop
+        + 'static,
+    ensures { IsServeFault serving.clients stop.path result }
+{
+    let (room, shared) = match prepare_folder(rt, files, dir, serving) {
+        Ok(prepared) => prepared,
+        Err(fault) => return fault,
+    };
+    let ends = Ends { stop, tenure: None };
+    host::<Brand, _, _>(rt, files, room, &shared, &ends, dir)
+}
+
+// Serves a document in an etcd.
+fn serve_document<R>(
+    rt: &R,
+    files: HostRuntime,
+    address: &Address,
+    serving: Serving,
+    stop: StopFile,
+) -> Fault
+where
+    R: Net<Listener = TcpListener, Stream = TcpStream>
+        + Threads
+        + Wait
+        + Clock
+        + RandomSource
+        + Eprint
+        + AllocGlobal
+        + Clone
+        + Send
+        + Sync
+        + Drop
+        + 'static,
+    ensures { IsServeFault serving.clients stop.path result }
+{
+    let (room, shared, tenure) = match prepare_document(rt, files, address, serving, &stop) {
+        Ok(prepared) => prepared,
+        Err(fault) => return fault,
+    };
+    let ends = Ends {
+        stop,
+        tenure: Some(tenure),
+    };
+    let fault = host::<Brand, _, _>(rt, files, room, &shared, &ends, &address.name);
+    if let Some(tenure) = &ends.tenure {
+        tenure.lease.release(rt);
+    }
+    fault
+}
+
+// What a server has before it serves: the room of its document, and what its threads share.
+type Prepared<K> = (BlankRoom<K>, Arc<Shared, Global>);
+
+// Listens, and opens the folder.
+fn prepare_folder<R>(
+    rt: &R,
+    files: HostRuntime,
+    dir: &str,
+    serving: Serving,
+) -> Result<Prepared<FolderJournal>, Fault>
+where
+    R: Net<Listener = TcpListener, Stream = TcpStream> + Wait + AllocGlobal,
+    ensures { IfErr result (IsPreparingFault serving.clients) }
+{
+    let listener = listen(rt, serving.port)?;
+    let seats = serving.clients as usize;
+    let OpenFolder {
+        opened,
+        removed,
+        space,
+        path,
+    } = open_room(files, dir, seats, serving.accept_loss)?;
+    let OpenRoom { room, meter, notes } = opened;
+    let identity = identity(&files, &path)?;
+    let figures = Figures::new(meter, notes, Some(space));
+    let shared = share(rt, listener, identity, figures, Some(removed), serving)?;
+    Ok((room, shared))
+}
+
+// Takes the document over, which a standby waits for, and listens.
+fn prepare_document<R>(
+    rt: &R,
+    files: HostRuntime,
+    address: &Address,
+    serving: Serving,
+    stop: &StopFile,
+) -> Result<(BlankRoom<DocumentJournal<R>>, Arc<Shared, Global>, Tenure), Fault>
+where
+    R: Net<Listener = TcpListener, Stream = TcpStream>
+        + Threads
+        + Wait
+        + Clock
+        + RandomSource
+        + Eprint
+        + AllocGlobal
+        + Clone
+        + Send
+        + Drop
+        + 'static,
+    ensures { IfErr result (λ fault. IsPreparingFault serving.clients fault ⊎ IsThreadFault fault ⊎ IsStopFault stop.now.path fault) }
+{
+    let taken = if serving.is_standby {
+        await_document(rt, files, address, &serving, stop)?
+    } else {
+        take_document(rt, files, address, &serving, stop)?
+    };
+    let Taken {
+        listener,
+        opened,
+        identity,
+        tenure,
+    } = taken;
+    let OpenRoom { room, meter, notes } = opened;
+    let figures = Figures::new(meter, notes, None);
+    match share(rt, listener, identity, figures, None, serving) {
+        Ok(shared) => Ok((room, shared, tenure)),
+        Err(fault) => {
+            // No server must wait for the end of a lease under which nothing was served.
+            tenure.lease.release(rt);
+            Err(fault)
+        }
+    }
+}
+
+// What the threads of a server share.
+fn share<R>(
+    rt: &R,
+    listener: TcpListener,
+    identity: String,
+    figures: Figures,
+    removed: Option<Removed>,
+    serving: Serving,
+) -> Result<Arc<Shared, Global>, Fault>
+where
+    R: Wait + AllocGlobal,
+    requires { IsIdentity (string_bytes identity) }
+    ensures { IfErr result (λ fault. fault ≡ Fault.Memory) }
+{
+    let limits = Limits {
+        idle_seconds: serving.idle_seconds,
+        message_bytes: serving.message_bytes,
+    };
+    let quiet = serving.quiet;
+    let (origins, page) = serving.into_pages();
+    let shared = Shared {
+        listener,
+        site: Site {
+            origins,
+            identity,
+            has_page: page.is_some(),
+        },
+        page,
+        figures,
+        removed,
+        has_ended: AtomicBool::new(false),
+        limits,
+        quiet,
+    };
+    Ok(Arc::new(rt.alloc(), shared)?)
+}
+
+// Serves a room's document, which has this name.
+fn host<N, K, R>(
+    rt: &R,
+    files: HostRuntime,
+    room: BlankRoom<K>,
+    shared: &Arc<Shared, Global>,
+    ends: &Ends,
+    name: &String,
+) -> Fault
+where
+    N: RoomName + Send + Sync + 'static,
+    K: Keeper + Drop + Send + 'static,
+    R: Threads + Wait + Clock + Eprint + AllocGlobal + Clone + Send + Sync + Drop + 'static,
+    requires book { room.book ≡ N.book }
+    requires opening { room.opening ≡ N.opening }
+    ensures { IsRunningFault result ⊎ IsStopFault ends.now.stop.path result }
+{
+    match begin::<N, K, R>(rt, files, room, shared) {
+        Ok(seen) => watch(rt, shared, &seen, ends, name),
+        Err(fault) => fault,
+    }
+}
+
+// Gives each seat and each door its thread, and one to who looks at the room.
+fn begin<N, K, R>(
+    rt: &R,
+    files: HostRuntime,
+    room: BlankRoom<K>,
+    shared: &Arc<Shared, Global>,
+) -> Result<Arc<Seen, Global>, Fault>
+where
+    N: RoomName + Send + Sync + 'static,
+    K: Keeper + Drop + Send + 'static,
+    R: Threads + Wait + Clock + Eprint + AllocGlobal + Clone + Send + Sync + Drop + 'static,
+    requires book { room.book ≡ N.book }
+    requires opening { room.opening ≡ N.opening }
+    ensures { IfErr result IsThreadFault }
+{
+    let (room, seats) = opened::<N, K, R>(rt, room)?;
+    let (doors, connections) = bounded(rt.alloc(), 0)?;
+    let version = room.desk(rt).version();
+    begin_seats(rt, seats, shared, &connections)?;
+    let seen = begin_glances(rt, room, shared)?;
+    begin_doors(rt, files, shared, &doors)?;
+    announce(rt, shared, version);
+    Ok(seen)
+}
+
+// Gives a thread to who looks at the room.
+fn begin_glances<N, K, R>(
+    rt: &R,
+    room: Room<K, N, R>,
+    shared: &Arc<Shared, Global>,
+) -> Result<Arc<Seen, Global>, Fault>
+where
+    N: RoomName + Send + Sync + 'static,
+    K: Keeper + Drop + Send + 'static,
+    R: Threads + Wait + Clock + AllocGlobal + Clone + Send + Sync + Drop + 'static,
+    ensures { IfErr result IsThreadFault }
+{
+    let seen = Arc::new(rt.alloc(), Seen::new())?;
+    let task = GlanceTask {
+        rt: rt.clone()?,
+        room,
+        shared: Arc::try_clone(shared)?,
+        seen: Arc::try_clone(&seen)?,
+    };
+    begin_task(rt, task)?;
+    Ok(seen)
+}
+
+// Gives each seat its thread.
+fn begin_seats<N, K, R>(
+    rt: &R,
+    seats: Vec<Seat<N, Lock<K, N, R>>>,
+    shared: &Arc<Shared, Global>,
+    connections: &Receiver<TcpStream, Global>,
+) -> Result<(), Fault>
+where
+    N: RoomName + Send + Sync + 'static,
+    K: Keeper + Drop + Send + 'static,
+    R: Threads + Wait + Clock + Eprint + AllocGlobal + Clone + Send + Sync + Drop + 'static,
+    ensures { IfErr result IsThreadFault }
+{
+    let copies = Arc::new(rt.alloc(), Copies::new(rt, MOST_COPIES)?)?;
+    for seat in seats {
+        let task = SeatTask {
+            rt: rt.clone()?,
+            seat,
+            shared: Arc::try_clone(shared)?,
+            copies: Arc::try_clone(&copies)?,
+            connections: connections.clone()?,
+        };
+        begin_task(rt, task)?;
+    }
+    Ok(())
+}
+
+// Gives each door its thread.
+fn begin_doors<R>(
+    rt: &R,
+    files: HostRuntime,
+    shared: &Arc<Shared, Global>,
+    seats: &Sender<TcpStream, Global>,
+) -> Result<(), Fault>
+where
+    R: Threads + Wait + Clock + AllocGlobal + Clone + Send + Drop + 'static,
+    ensures { IfErr result IsThreadFault }
+{
+    for _ in 0..DOORS {
+        let task = DoorTask {
+            rt: rt.clone()?,
+            files,
+            shared: Arc::try_clone(shared)?,
+            seats: seats.clone()?,
+        };
+        begin_task(rt, task)?;
+    }
+    Ok(())
+}
+
+// Tells where the server serves, and from which version on.
+fn announce<R: Eprint>(rt: &R, shared: &Shared, version: u64) {
+    if shared.quiet {
+        return;
+    }
+    let port = match shared.listener.local_addr() {
+        Ok(address) => address.port(),
+        Err(_) => 0,
+    };
+    let _ = rt.eprintln(format_args!("serving at http://127.0.0.1:{port}/ version {version}"));
+}

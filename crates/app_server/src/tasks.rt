@@ -1,0 +1,87 @@
+// What the threads of a server do, each for as long as the server runs.
+
+use crate::connections::serve_each;
+use crate::copies::Copies;
+use crate::seated::Seated;
+use app_listener::{Shared, stand};
+use app_storage::Task;
+use canvas_board::RoomName;
+use canvas_journal::Keeper;
+use canvas_room::{Lock, Seat};
+use crossbeam_channel::{Receiver, Sender};
+use std::alloc::Global;
+use std::io::Eprint;
+use std::net::TcpStream;
+use std::sync::{Arc, Wait};
+use std::time::Clock;
+
+/// A seat, and the connections that it is given.
+pub(crate) struct SeatTask<N: RoomName, D: Drop, R: Drop> {
+    pub(crate) rt: R,
+    pub(crate) seat: Seat<N, D>,
+    pub(crate) shared: Arc<Shared, Global>,
+    pub(crate) copies: Arc<Copies<N>, Global>,
+    pub(crate) connections: Receiver<TcpStream, Global>,
+}
+
+impl<N: RoomName, D: Drop, R: Drop> Drop for SeatTask<N, D, R> {
+    fn drop(self) {
+        let SeatTask {
+            rt: _,
+            seat: _,
+            shared: _,
+            copies: _,
+            connections: _,
+        } = self;
+    }
+}
+
+impl<K, N, L, R> Task for SeatTask<N, Lock<K, N, L>, R>
+where
+    K: Keeper + Drop,
+    N: RoomName,
+    L: Wait + Drop,
+    R: Wait + Clock + Eprint + AllocGlobal + Clone + Drop,
+{
+    // Serves one connection after the other. If memory runs out at its beginning, the seat stays empty.
+    fn run(self) {
+        let SeatTask {
+            rt,
+            seat,
+            shared,
+            copies,
+            connections,
+        } = self;
+        let Ok(own) = rt.clone() else {
+            return;
+        };
+        if let Ok(mut seated) = Seated::new(rt.alloc(), own, seat, &shared, copies) {
+            serve_each(&rt, &shared, &mut seated, &connections);
+        }
+    }
+}
+
+/// A door, and the way to the seats.
+#[derive(Drop)]
+pub(crate) struct DoorTask<R: Drop> {
+    pub(crate) rt: R,
+    pub(crate) files: HostRuntime,
+    pub(crate) shared: Arc<Shared, Global>,
+    pub(crate) seats: Sender<TcpStream, Global>,
+}
+
+impl<R> Task for DoorTask<R>
+where
+    R: Wait + Clock + AllocGlobal + Drop,
+{
+    // Accepts one connection after the other.
+    fn run(self) {
+        let DoorTask {
+            rt,
+            files,
+            shared,
+            seats,
+        } = self;
+        stand(&rt, files, &shared, &seats);
+    }
+}

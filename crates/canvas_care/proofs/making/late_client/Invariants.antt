@@ -1,7 +1,0 @@
-use Rattle.std.proofs.Common.{drop}
-use Rattle.canvas_care.proofs.Standing.{Begun}
-use Rattle.canvas_care.proofs.making.late_client.Given as goal
-
--- the rows so far are taken
-abbrev pub invariant-loop-row : goal.invariant-loop-row
-invariant-loop-row l = Begun l.rows (drop l.row-index l.rows) l.lines l.left

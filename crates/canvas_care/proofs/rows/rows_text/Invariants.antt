@@ -1,8 +1,0 @@
-use Rattle.std.proofs.Common.{◌≡◌, ◌++◌}
-use Rattle.std.specs.FinMap as map
-use Rattle.canvas_care.specs.Texts.{end, joined, rows_text}
-use Rattle.canvas_care.proofs.rows.rows_text.Given as goal
-
--- the text, and what is still to come
-abbrev pub invariant-loop-row : goal.invariant-loop-row
-invariant-loop-row l = l.text.items ++ (joined l.layout l.later l.row-iterator ++ end l.layout) ≡ rows_text l.layout (map.entries l.doc)

@@ -1,8 +1,0 @@
--- Meant for the crates above too.
-pub mod Growth
--- For the calls of this crate alone.
-mod Placed
-mod Posts
-mod Taken
-mod Served
-mod Steps

@@ -1,6 +1,0 @@
-use Rattle.canvas_model.specs.World as world
-use Rattle.canvas_events.proofs.Steps.{sent}
-use Rattle.canvas_events.proofs.Network.send.Goals as goal
-
-pub returns-clause-step : goal.returns-clause-step
-returns-clause-step g c = sent c.post.result c.args.self.now _ (world.Send c.args.k c.args.i) c.in_ok-letter.letter c.in_ok-letter.ensures c.post.ensures.step

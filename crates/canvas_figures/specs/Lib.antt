@@ -1,2 +1,0 @@
-pub mod Prometheus
-pub mod Numbers

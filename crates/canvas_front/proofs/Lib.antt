@@ -1,6 +1,0 @@
-pub mod Boards
-pub mod Judged
-pub mod News
-pub mod Ends
-pub mod SeesOn
-pub mod Shared

@@ -1,5 +1,0 @@
-pub mod News
-pub mod Table
-pub mod Links
-pub mod Exchanges
-pub mod Copies

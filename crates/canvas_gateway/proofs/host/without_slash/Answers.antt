@@ -1,6 +1,0 @@
-use Rattle.std.proofs.Common.{codes, inr}
-use Rattle.canvas_gateway.proofs.HostLemmas.{ends}
-use Rattle.canvas_gateway.proofs.host.without_slash.Goals as goal
-
-pub returns-in-Some : goal.returns-in-Some
-returns-in-Some c = inr (ends c.args.text.now c.in-Some.rest.now (codes "/") c.in-Some.ensures.cases.0 c.in-Some.ensures.cases.1)

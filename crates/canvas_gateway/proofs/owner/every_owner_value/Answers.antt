@@ -1,5 +1,0 @@
-use Rattle.canvas_gateway.proofs.OwnerLemmas.{every_value}
-use Rattle.canvas_gateway.proofs.owner.every_owner_value.Goals as goal
-
-pub returns : goal.returns
-returns c = every_value

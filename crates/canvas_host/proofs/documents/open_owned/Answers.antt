@@ -1,7 +1,0 @@
-use Rattle.std.proofs.Common.{subst, sym}
-use Rattle.canvas_places.specs.Faults.{IsOpeningFault}
-use Rattle.canvas_host.proofs.Faults.{opens_document}
-use Rattle.canvas_host.proofs.documents.open_owned.Goals as goal
-
-pub returns-in-Err-clause-faults : goal.returns-in-Err-clause-faults
-returns-in-Err-clause-faults g c = subst (IsOpeningFault c.args.seats) (sym c.of_document.ensures) (opens_document c.args.seats _ c.in-Err.fault c.in-Err.ensures.faults)

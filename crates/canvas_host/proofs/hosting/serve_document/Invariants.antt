@@ -1,5 +1,0 @@
-use Rattle.canvas_host.proofs.hosting.serve_document.Given as goal
-
--- the room that was just opened
-abbrev pub ghosts-host : goal.ghosts-host
-ghosts-host g a = record { book = a.room.book; opening = a.room.opening }

@@ -1,4 +1,0 @@
-use Rattle.canvas_host.proofs.opening.open_locked.Goals as goal
-
-pub returns-in-Err-clause-faults : goal.returns-in-Err-clause-faults
-returns-in-Err-clause-faults g c = c.in-Err.ensures.faults c.args.seats

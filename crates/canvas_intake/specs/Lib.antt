@@ -1,4 +1,0 @@
-pub mod Faults
-pub mod Ready
-pub mod Judging
-pub mod Fates

@@ -1,4 +1,0 @@
--- Meant for the crates above too.
-pub mod Members
--- For the calls of this crate alone.
-mod RowHeads

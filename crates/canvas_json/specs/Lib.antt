@@ -1,2 +1,0 @@
-pub mod JsonTree
-pub mod RowOrder

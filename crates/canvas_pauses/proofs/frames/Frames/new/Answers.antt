@@ -1,7 +1,0 @@
--- No bytes have passed.
-use Rattle.std.proofs.Common.{refl}
-use Rattle.canvas_pauses.proofs.Passing.{stands_at_begin}
-use Rattle.canvas_pauses.proofs.frames.Frames.new.Goals as goal
-
-pub returns : goal.returns
-returns c = λ _. stands_at_begin _ refl refl refl

@@ -1,4 +1,0 @@
-use Rattle.canvas_remote.proofs.commands.import_document.Goals as goal
-
-pub returns : goal.returns
-returns g c = ((c.in_ok-state.state, c.in_ok-state.version), c.in_ok-state.ensures, c.in_ok-tell_begun.ensures)

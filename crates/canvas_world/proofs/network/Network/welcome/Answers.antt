@@ -1,0 +1,6 @@
+use Rattle.canvas_model.specs.World as world
+use Rattle.canvas_world.proofs.Steps.{sent}
+use Rattle.canvas_world.proofs.network.Network.welcome.Goals as goal
+
+pub returns-clause-step : goal.returns-clause-step
+returns-clause-step g c = sent c.post.result c.args.self.now _ (world.SendWelcome c.args.v) c.welcoming-letter.result c.welcoming-letter.ensures c.post.ensures.step

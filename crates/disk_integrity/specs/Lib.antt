@@ -1,0 +1,9 @@
+pub mod Calls
+pub mod Changes
+pub mod Noting
+pub mod Lines
+pub mod Running
+pub mod Checked
+pub mod Sums
+pub mod Parts
+pub mod Losses

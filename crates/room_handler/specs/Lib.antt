@@ -1,0 +1,6 @@
+pub mod News
+pub mod Table
+pub mod Links
+pub mod Exchanges
+pub mod Copies
+pub mod Large

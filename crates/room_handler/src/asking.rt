@@ -1,0 +1,60 @@
+// What is answered an Ask.
+ghost use Rattle.std.specs.Prelude.{◌≡◌, ◌+◌, ◌<◌, ◌^◌, ◌++◌, ◌∷◌, [], IfOk, length, map};
+ghost use Rattle.canvas_model.specs.Messages.{Idle};
+ghost use Rattle.canvas_judge.specs.Seen.{seen_copy, seen_message};
+ghost use Rattle.canvas_board.specs.Marks.{board};
+ghost use Rattle.room_handler.specs.News.{tells};
+ghost use Rattle.room_handler.specs.Table.{AnswersAsk, SeesOn};
+
+use crate::messages::alone;
+use canvas_board::{News, RoomName, SeatError};
+use canvas_judge::{DocCopy, Entry, Message, NoReason};
+use canvas_room::Seat;
+use std::alloc::{AllocError, Global};
+
+// How many entries an answer has at most.
+const MOST_ENTRIES: u64 = 64;
+
+/// The answer to an Ask of a client that has this version. Never blocks. Errors: out of memory.
+pub fn answer_ask<N: RoomName, D: Drop>(
+    alloc: Global,
+    seat: &mut Seat<N, D>,
+    client: u32,
+    version: u64,
+) -> Result<Vec<Message>, AllocError>
+    ensures answers { IfOk result (λ answer. AnswersAsk (board N.opening seat.new) client version (map seen_message answer.items)) }
+    ensures sees { SeesOn N.opening seat.old seat.new }
+{
+    match seat.news(alloc, client, version, MOST_ENTRIES) {
+        Ok(News::Stranger) => alone(alloc, Message::No(NoReason::Stranger)),
+        Ok(News::Entries(entries)) => told(alloc, version, entries),
+        Ok(News::Copy(copy)) => copied(alloc, copy),
+        // A seat keeps its room, so it is never closed.
+        Err(SeatError::Closed | SeatError::Memory) => Err(AllocError),
+    }
+}
+
+// The entries after this version, each with its own, and an Idle. Errors: out of memory.
+fn told(alloc: Global, from: u64, entries: Vec<Entry>) -> Result<Vec<Message>, AllocError>
+    requires { from + length entries.items < 2 ^ 64 }
+    ensures { IfOk result (λ told. map seen_message told.items ≡ tells from entries.items ++ Idle ∷ []) }
+{
+    let mut told = Vec::with_capacity(alloc, entries.len().saturating_add(1))?;
+    let mut version = from;
+    for entry in entries {
+        version += 1;
+        told.push(Message::Entry { version, entry })?;
+    }
+    told.push(Message::Idle)?;
+    Ok(told)
+}
+
+// A copy, and an Idle. Errors: out of memory.
+fn copied(alloc: Global, copy: DocCopy) -> Result<Vec<Message>, AllocError>
+    ensures { IfOk result (λ told. map seen_message told.items ≡ seen_copy copy ∷ Idle ∷ []) }
+{
+    let mut told = Vec::with_capacity(alloc, 2)?;
+    told.push_reserved(Message::Copy(copy));
+    told.push_reserved(Message::Idle);
+    Ok(told)
+}

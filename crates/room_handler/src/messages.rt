@@ -1,0 +1,67 @@
+// What is answered a client's message at a seat.
+ghost use Rattle.std.specs.Prelude.{◌≡◌, ◌∷◌, [], IfOk, map};
+ghost use Rattle.canvas_judge.specs.Seen.{seen_message};
+ghost use Rattle.canvas_nodes.specs.Answers.{IsAnswer};
+ghost use Rattle.room_handler.specs.Table.{IsAnswerTo, SeesOn};
+
+use crate::asking::answer_ask;
+use crate::requests::answer_request;
+use canvas_board::RoomName;
+use canvas_journal::Keeper;
+use canvas_judge::{Message, NoReason};
+use canvas_room::{Lock, Seat};
+use canvas_server::Request;
+use std::alloc::{AllocError, Global};
+use std::sync::Wait;
+
+/// How many entries stand after a checkpoint when the next one is made, where nobody says otherwise.
+pub const CHECKPOINT_AT: u64 = 256;
+
+/// What a seat answers a client's message, in order: to a Join or an edit what became of it, to an Ask what came after the version that
+/// the client has, and to any other message a No for NotRead. The last message is a Welcome, an Idle or a No, and no other.
+///
+/// A Join and an edit are submitted, which may wait for the room's lock. What was judged the seat has seen afterwards; then it makes a
+/// checkpoint where so many entries stand after the last one as `checkpoint_at` says, and whether that failed isn't told. An Ask waits
+/// for nobody; it is answered by at most 64 entries, or by a copy where a checkpoint has passed some entry after the client's version.
+///
+/// Fails only if memory runs out for the answer, and then nothing was submitted.
+pub fn answer<K: Keeper + Drop, N: RoomName, R: Wait + Drop, W: Wait>(
+    alloc: Global,
+    rt: &W,
+    seat: &mut Seat<N, Lock<K, N, R>>,
+    message: &Message,
+    checkpoint_at: u64,
+) -> Result<Vec<Message>, AllocError>
+    ensures table { IfOk result (λ answer. IsAnswerTo N.opening seat.old (seen_message message.now) (map seen_message answer.items) seat.new) }
+    ensures whole { IfOk result (λ answer. IsAnswer (map seen_message answer.items)) }
+    ensures sees { SeesOn N.opening seat.old seat.new }
+{
+    match message {
+        Message::Join => answer_request(alloc, rt, seat, &Request::Join, checkpoint_at),
+        Message::Edit {
+            client,
+            seq,
+            change,
+        } => {
+            let change = change.copy_in(alloc)?;
+            let (client, seq) = (*client, *seq);
+            let edit = Request::Edit {
+                client,
+                seq,
+                change,
+            };
+            answer_request(alloc, rt, seat, &edit, checkpoint_at)
+        }
+        Message::Ask { client, version } => answer_ask(alloc, seat, *client, *version),
+        _ => alone(alloc, Message::No(NoReason::NotRead)),
+    }
+}
+
+// An answer of one message. Errors: out of memory.
+pub(crate) fn alone(alloc: Global, message: Message) -> Result<Vec<Message>, AllocError>
+    ensures { IfOk result (λ answer. map seen_message answer.items ≡ seen_message message ∷ []) }
+{
+    let mut answer = Vec::with_capacity(alloc, 1)?;
+    answer.push_reserved(message);
+    Ok(answer)
+}
