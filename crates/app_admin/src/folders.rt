@@ -80,11 +80,11 @@ pub fn begin_on<G: Ground, W: Write>(
 
 /// A new folder of the system, which is made if it is missing, and locked while it is filled. Nothing is claimed of what it holds.
 #[derive(Drop)]
-pub(crate) struct NewFolder<'a, R: Files<File = File> + AllocGlobal + Clone + Drop> {
+pub struct NewFolder<'a, R: Files<File = File> + AllocGlobal + Clone + Drop> {
     /// What makes files.
-    pub(crate) files: R,
+    pub files: R,
     /// The folder.
-    pub(crate) dir: &'a str,
+    pub dir: &'a str,
 }
 
 impl<R: Files<File = File> + AllocGlobal + Clone + Drop> Ground for NewFolder<'_, R> {

@@ -8,7 +8,7 @@ ghost use Rattle.app_admin.specs.Begun.{ImportsTo, WritesImported};
 ghost use Rattle.app_admin.specs.Imports.{IsImported, row_texts};
 ghost use Rattle.app_admin.specs.Losing.{TellsLoss};
 
-use crate::folders::{Ground, NewFolder, begin_on, existing};
+use crate::folders::{Ground, begin_on, existing};
 use crate::importing::read_rows;
 use crate::losing::{FolderSums, SumSource, find_loss};
 use crate::making::document_of;
@@ -53,21 +53,6 @@ pub fn import_on<G: Ground, I: Read, W: Write>(
 {
     let (state, version) = import(alloc, input)?;
     begin_on(alloc, ground, &state, version, output)
-}
-
-/// Makes a new folder of the rows of an input, and then writes the version and how many objects there are.
-///
-/// The errors: those of `import`, and then no folder was made; and those of `begin_folder`.
-pub fn import_folder<R: Files<File = File> + AllocGlobal + Clone + Drop, I: Read, W: Write>(
-    files: R,
-    dir: &str,
-    input: &mut I,
-    output: &mut W,
-) -> Result<(), Fault>
-    ensures { OnOk result (WritesImported (I.remaining input.old) (I.remaining input.new) (W.contents output.old) (W.contents output.new)) }
-{
-    let alloc = files.alloc();
-    import_on(alloc, &mut NewFolder { files, dir }, input, output)
 }
 
 // The state of the document whose rows the lines of a text are.

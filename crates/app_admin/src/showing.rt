@@ -1,20 +1,18 @@
-// The document in a folder, as rows or as a tree.
+// A document as rows or as a tree.
 ghost use Rattle.std.specs.Prelude.{◌≡◌, ℕ, IfErr, IfOk, IsErrOf, IsTrue, OnOk};
 ghost use Rattle.canvas_journal.specs.Found.{Finds, IsDamaged};
 ghost use Rattle.canvas_shelf.specs.Disk.{seen};
 ghost use Rattle.canvas_lines.specs.Reports.{WritesReport};
 ghost use Rattle.app_admin.specs.Shown.{WritesRows, WritesRowsOf, WritesTreeOf};
 
-use crate::folders::existing;
+use crate::homes::Home;
 use crate::rows::{Layout, rows_text};
 use app_faults::Fault;
 use canvas_journal::look;
 use canvas_lines::{report_text, write_out};
 use canvas_shelf::Shelf;
 use std::alloc::Global;
-use std::fs::File;
 use std::io::Write;
-use std::rt::Files;
 
 /// Writes the rows of the document that a shelf holds. Writes nothing to the shelf.
 ///
@@ -39,21 +37,25 @@ pub fn show_rows_of<S: Shelf, W: Write>(
     Ok(())
 }
 
-/// Writes the rows of the document in a folder. Writes nothing to the folder, which a server may have meanwhile.
+/// Writes the rows of the document that is kept there. Writes nothing to it, and a server may have it meanwhile.
 ///
-/// The errors are those of `show_rows_of`; `NoSegment` and `Device` too where the folder holds no document, is missing or can't be read.
-pub fn show_rows<R: Files<File = File> + AllocGlobal + Clone + Drop, W: Write>(
-    files: R,
-    dir: &str,
+/// The errors are those of `show_rows_of` and of `Home::look`.
+pub fn show_rows<S: Shelf + Drop, H: Home<S>, W: Write>(
+    alloc: Global,
+    home: &mut H,
     layout: Layout,
     output: &mut W,
 ) -> Result<(), Fault>
+    ensures found { IsTrue (H.honest home.old) → OnOk result (WritesRowsOf (H.disk home.old) layout (W.contents output.old) (W.contents output.new)) }
     ensures form { OnOk result (WritesRows layout (W.contents output.old) (W.contents output.new)) }
+    ensures damaged { IsTrue (H.honest home.old) → (n : ℕ) (at : ℕ) → IsErrOf result (Fault.Damaged n at) → Finds (seen (H.disk home.old)) (IsDamaged n at) }
     ensures unwritten { IfErr result (λ fault. (fault ≡ Fault.Stream → ⊥) → W.contents output.new ≡ W.contents output.old) }
 {
-    let alloc = files.alloc();
-    let mut shelf = existing(files, dir)?;
-    show_rows_of(alloc, &mut shelf, layout, output)
+    let mut shelf = home.look(alloc)?;
+    match show_rows_of(alloc, &mut shelf, layout, output) {
+        Ok(()) => Ok(()),
+        Err(fault) => Err(home.explain(fault)),
+    }
 }
 
 /// Writes the version and the tree of the document that a shelf holds, as `report_text` says it. Writes nothing to the shelf.
@@ -77,18 +79,22 @@ pub fn show_tree_of<S: Shelf, W: Write>(
     Ok(())
 }
 
-/// Writes the version and the tree of the document in a folder. Writes nothing to the folder, which a server may have meanwhile.
+/// Writes the version and the tree of the document that is kept there. Writes nothing to it, and a server may have it meanwhile.
 ///
-/// The errors are those of `show_rows`.
-pub fn show_tree<R: Files<File = File> + AllocGlobal + Clone + Drop, W: Write>(
-    files: R,
-    dir: &str,
+/// The errors are those of `show_tree_of` and of `Home::look`.
+pub fn show_tree<S: Shelf + Drop, H: Home<S>, W: Write>(
+    alloc: Global,
+    home: &mut H,
     output: &mut W,
 ) -> Result<(), Fault>
+    ensures found { IsTrue (H.honest home.old) → OnOk result (WritesTreeOf (H.disk home.old) (W.contents output.old) (W.contents output.new)) }
     ensures form { OnOk result (WritesReport (W.contents output.old) (W.contents output.new)) }
+    ensures damaged { IsTrue (H.honest home.old) → (n : ℕ) (at : ℕ) → IsErrOf result (Fault.Damaged n at) → Finds (seen (H.disk home.old)) (IsDamaged n at) }
     ensures unwritten { IfErr result (λ fault. (fault ≡ Fault.Stream → ⊥) → W.contents output.new ≡ W.contents output.old) }
 {
-    let alloc = files.alloc();
-    let mut shelf = existing(files, dir)?;
-    show_tree_of(alloc, &mut shelf, output)
+    let mut shelf = home.look(alloc)?;
+    match show_tree_of(alloc, &mut shelf, output) {
+        Ok(()) => Ok(()),
+        Err(fault) => Err(home.explain(fault)),
+    }
 }

@@ -2,10 +2,11 @@
 #![tactic(auto)]
 
 mod carrying;
-mod commands;
+mod homes;
 mod moving;
 mod opening;
 
 pub use carrying::carry;
-pub use commands::{check, import_document, log, show_rows, show_tree};
+pub use homes::{DocumentHome, check, import_document};
 pub use moving::{MoveFault, move_in, move_out};
+pub use opening::Remote;

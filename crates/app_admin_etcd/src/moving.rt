@@ -3,7 +3,7 @@ ghost use Rattle.std.specs.Prelude.{OnOk};
 ghost use Rattle.app_admin.specs.Begun.{WritesBegun};
 
 use crate::carrying::carry;
-use crate::commands::tell_begun;
+use crate::homes::tell_begun;
 use crate::opening::{Held, taken};
 use app_admin::check;
 use app_faults::{Fault, fault_of_cause, of_document};

@@ -14,7 +14,7 @@ use std::thread::Threads;
 use std::time::Clock;
 
 /// The shelf of a document in an etcd.
-pub(crate) type Remote<R> = EtcdShelf<EtcdStore<R>>;
+pub type Remote<R> = EtcdShelf<EtcdStore<R>>;
 
 // The store of a document. Nothing is asked yet. Errors: out of memory.
 fn store_of<R>(net: &R, address: &Address) -> Result<EtcdStore<R>, AllocError>

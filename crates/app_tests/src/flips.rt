@@ -7,7 +7,7 @@ use std::alloc::Global;
 use std::test::Fail;
 
 // The first checkpoint, and the entries of two Joins: 115 bytes.
-const SEGMENT: &[u8] =
+pub(crate) const SEGMENT: &[u8] =
     b"\x00\x00\x00\x17[\"checkpoint\",2,0,[],1]\x00\x00\x00\x1a[[0,0],\"document\",null,[]]\x00\x00\x00\x19[0,0,\"join\",[\"joined\",1]]\x00\x00\x00\x19[0,0,\"join\",[\"joined\",2]]";
 
 // Where its checkpoint and its first entry end.

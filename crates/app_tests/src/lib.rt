@@ -1,6 +1,6 @@
 //! Tests of what programs stand on, for which no server runs: of `net_http`, heads as clients send them, and the answers' bytes; of
-//! `app_admin`, a segment in which each bit is flipped in turn, and one that is cut at each byte; of `canvas_scene`, what whole inputs
-//! can't show.
+//! `app_admin`, a segment in which each bit is flipped in turn, one that is cut at each byte, and a home in memory; of `canvas_scene`, what
+//! whole inputs can't show.
 #![tactic(auto)]
 
 #[cfg(test)]
@@ -9,6 +9,8 @@ mod answers;
 mod flips;
 #[cfg(test)]
 mod heads;
+#[cfg(test)]
+mod homes;
 #[cfg(test)]
 mod scenes;
 #[cfg(test)]

@@ -1,4 +1,4 @@
-// The commands that care for a folder, each to its end: they answer the program's status, once a fault is told.
+// The commands that care for a document, each to its end: they answer the program's status, once a fault is told.
 ghost use Rattle.std.specs.Prelude.{◌⊎◌};
 ghost use Rattle.app_admin.specs.Begun.{WritesBegun, WritesImported};
 ghost use Rattle.app_admin.specs.Checks.{WritesCheck};
@@ -9,55 +9,77 @@ ghost use Rattle.app_faults.specs.declared.subject.Subject.TheVariants.{Folder};
 ghost use Rattle.canvas_lines.specs.Reports.{WritesReport};
 
 use app_admin::{
-    Layout, begin_folder, check, import_folder, log, read_backup, show_rows, show_tree,
+    Ground, Home, Layout, begin_folder, check, import_on, log, read_backup, show_rows, show_tree,
 };
 use app_faults::{Subject, finish};
+use canvas_shelf::Shelf;
+use std::alloc::Global;
 use std::io::{Read, Write};
 
-/// Writes the tree of a folder's document.
-pub(crate) fn run_tree<W: Write, F: Write>(
-    files: HostRuntime,
-    dir: &str,
+/// Writes the tree of the document that is kept there.
+pub(crate) fn run_tree<S: Shelf + Drop, H: Home<S>, W: Write, F: Write>(
+    alloc: Global,
+    home: &mut H,
+    subject: Subject,
+    name: &str,
     output: &mut W,
     faults: &mut F,
 ) -> u8
-    ensures { Ends (WritesReport (W.contents output.old) (W.contents output.new)) Folder dir.now result (F.contents faults.old) (F.contents faults.new) }
+    ensures { Ends (WritesReport (W.contents output.old) (W.contents output.new)) subject name.now result (F.contents faults.old) (F.contents faults.new) }
 {
-    finish(show_tree(files, dir, output), Subject::Folder, dir, faults)
+    finish(show_tree(alloc, home, output), subject, name, faults)
 }
 
-/// Writes the rows of a folder's document.
-pub(crate) fn run_rows<W: Write, F: Write>(
-    files: HostRuntime,
-    dir: &str,
+/// Writes the rows of the document that is kept there.
+pub(crate) fn run_rows<S: Shelf + Drop, H: Home<S>, W: Write, F: Write>(
+    alloc: Global,
+    home: &mut H,
+    subject: Subject,
+    name: &str,
     layout: Layout,
     output: &mut W,
     faults: &mut F,
 ) -> u8
-    ensures { Ends (WritesRows layout (W.contents output.old) (W.contents output.new)) Folder dir.now result (F.contents faults.old) (F.contents faults.new) }
+    ensures { Ends (WritesRows layout (W.contents output.old) (W.contents output.new)) subject name.now result (F.contents faults.old) (F.contents faults.new) }
 {
     finish(
-        show_rows(files, dir, layout, output),
-        Subject::Folder,
-        dir,
+        show_rows(alloc, home, layout, output),
+        subject,
+        name,
         faults,
     )
 }
 
-/// Makes a new folder of the rows of the input.
-pub(crate) fn run_import<I: Read, W: Write, F: Write>(
-    files: HostRuntime,
-    dir: &str,
+/// Writes the entries past the checkpoint of the document that is kept there.
+pub(crate) fn run_log<S: Shelf + Drop, H: Home<S>, W: Write, F: Write>(
+    alloc: Global,
+    home: &mut H,
+    subject: Subject,
+    name: &str,
+    output: &mut W,
+    faults: &mut F,
+) -> u8
+    ensures { Ends (WritesLog (W.contents output.old) (W.contents output.new)) subject name.now result (F.contents faults.old) (F.contents faults.new) }
+{
+    finish(log(alloc, home, output), subject, name, faults)
+}
+
+/// Makes a new document there of the rows of the input.
+pub(crate) fn run_import<G: Ground, I: Read, W: Write, F: Write>(
+    alloc: Global,
+    ground: &mut G,
+    subject: Subject,
+    name: &str,
     input: &mut I,
     output: &mut W,
     faults: &mut F,
 ) -> u8
-    ensures { Ends (WritesImported (I.remaining input.old) (I.remaining input.new) (W.contents output.old) (W.contents output.new)) Folder dir.now result (F.contents faults.old) (F.contents faults.new) }
+    ensures { Ends (WritesImported (I.remaining input.old) (I.remaining input.new) (W.contents output.old) (W.contents output.new)) subject name.now result (F.contents faults.old) (F.contents faults.new) }
 {
     finish(
-        import_folder(files, dir, input, output),
-        Subject::Folder,
-        dir,
+        import_on(alloc, ground, input, output),
+        subject,
+        name,
         faults,
     )
 }
@@ -94,16 +116,4 @@ pub(crate) fn run_check<W: Write, F: Write>(
     ensures { Ends (WritesCheck (W.contents output.old) (W.contents output.new)) Folder dir.now result (F.contents faults.old) (F.contents faults.new) }
 {
     finish(check(files, dir, output), Subject::Folder, dir, faults)
-}
-
-/// Writes the entries past a folder's checkpoint.
-pub(crate) fn run_log<W: Write, F: Write>(
-    files: HostRuntime,
-    dir: &str,
-    output: &mut W,
-    faults: &mut F,
-) -> u8
-    ensures { Ends (WritesLog (W.contents output.old) (W.contents output.new)) Folder dir.now result (F.contents faults.old) (F.contents faults.new) }
-{
-    finish(log(files, dir, output), Subject::Folder, dir, faults)
 }

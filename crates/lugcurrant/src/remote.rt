@@ -1,17 +1,11 @@
-// The commands that care for a document in an etcd, each to its end: they answer the program's status, once a fault is told.
+// The commands that care for a document in an etcd alone, each to its end: they answer the program's status, once a fault is told.
 ghost use Rattle.std.specs.Prelude.{◌⊎◌, OnOk, string_bytes};
 ghost use Rattle.app_admin.specs.Begun.{WritesBegun, WritesImported};
 ghost use Rattle.app_admin.specs.Checks.{WritesShelf};
-ghost use Rattle.app_admin.specs.Logs.{WritesLog};
-ghost use Rattle.app_admin.specs.Shown.{WritesRows};
 ghost use Rattle.app_faults.specs.Told.{Ends};
 ghost use Rattle.app_faults.specs.declared.subject.Subject.TheVariants.{Document, Folder};
-ghost use Rattle.canvas_lines.specs.Reports.{WritesReport};
 
-use app_admin::Layout;
-use app_admin_etcd::{
-    MoveFault, check, import_document, log, move_in, move_out, show_rows, show_tree,
-};
+use app_admin_etcd::{MoveFault, check, import_document, move_in, move_out};
 use app_faults::{Subject, finish};
 use app_identity::Address;
 use std::io::{Read, Write};
@@ -20,49 +14,6 @@ use std::random::RandomSource;
 use std::sync::Wait;
 use std::thread::Threads;
 use std::time::Clock;
-
-/// Writes the tree of a document.
-pub(crate) fn show_remote_tree<R, W, F>(
-    rt: &R,
-    address: &Address,
-    output: &mut W,
-    faults: &mut F,
-) -> u8
-where
-    R: Net<Stream = TcpStream> + Clock + RandomSource + AllocGlobal + Clone + Drop,
-    W: Write,
-    F: Write,
-    ensures { Ends (WritesReport (W.contents output.old) (W.contents output.new)) Document (string_bytes address.now.name) result (F.contents faults.old) (F.contents faults.new) }
-{
-    finish(
-        show_tree(rt, address, output),
-        Subject::Document,
-        &address.name,
-        faults,
-    )
-}
-
-/// Writes the rows of a document.
-pub(crate) fn show_remote_rows<R, W, F>(
-    rt: &R,
-    address: &Address,
-    layout: Layout,
-    output: &mut W,
-    faults: &mut F,
-) -> u8
-where
-    R: Net<Stream = TcpStream> + Clock + RandomSource + AllocGlobal + Clone + Drop,
-    W: Write,
-    F: Write,
-    ensures { Ends (WritesRows layout (W.contents output.old) (W.contents output.new)) Document (string_bytes address.now.name) result (F.contents faults.old) (F.contents faults.new) }
-{
-    finish(
-        show_rows(rt, address, layout, output),
-        Subject::Document,
-        &address.name,
-        faults,
-    )
-}
 
 /// Makes a document of the rows of the input.
 pub(crate) fn import_remote<R, I, W, F>(
@@ -106,22 +57,6 @@ where
 {
     finish(
         check(rt, address, output),
-        Subject::Document,
-        &address.name,
-        faults,
-    )
-}
-
-/// Writes the entries past a document's checkpoint.
-pub(crate) fn log_remote<R, W, F>(rt: &R, address: &Address, output: &mut W, faults: &mut F) -> u8
-where
-    R: Net<Stream = TcpStream> + Clock + RandomSource + AllocGlobal + Clone + Drop,
-    W: Write,
-    F: Write,
-    ensures { Ends (WritesLog (W.contents output.old) (W.contents output.new)) Document (string_bytes address.now.name) result (F.contents faults.old) (F.contents faults.new) }
-{
-    finish(
-        log(rt, address, output),
         Subject::Document,
         &address.name,
         faults,

@@ -1,16 +1,19 @@
 // The program: its words, and the status that it ends with.
 ghost use Rattle.std.specs.Prelude.{◌≡◌, IfOk, string_bytes};
+ghost use Rattle.app_admin.specs.Begun.{WritesImported};
+ghost use Rattle.app_admin.specs.Logs.{WritesLog};
+ghost use Rattle.app_faults.specs.Told.{Ends};
 ghost use Rattle.app_storage.specs.Faults.{IsServed};
-ghost use Rattle.lugcurrant.specs.Runs.{Does, IsRefused, IsRun, Shows, place_bytes, served_of};
+ghost use Rattle.lugcurrant.specs.Runs.{Does, EndsAt, IsRefused, IsRun, Shows, WritesShown, place_bytes, served_of};
 
 use crate::caring::{run_check, run_import, run_log, run_restore, run_rows, run_tree};
-use crate::remote::{
-    check_remote, import_remote, log_remote, run_move, show_remote_rows, show_remote_tree,
-};
-use app_admin::Layout;
+use crate::remote::{check_remote, import_remote, run_move};
+use app_admin::{FolderHome, Home, Layout, NewFolder};
+use app_admin_etcd::DocumentHome;
 use app_args::{DocumentPlace, Invocation, Options, WordError, WordsError, read_words};
 use app_faults::{Fault, Subject, Told, end, tell};
 use app_server::serve;
+use canvas_shelf::Shelf;
 use std::alloc::{AllocError, Global};
 use std::io::{Eprint, Print, Read, Write};
 use std::net::{Net, TcpListener, TcpStream};
@@ -107,10 +110,7 @@ where
     match asked {
         Invocation::Serve(options) => run_server(rt, files, options, faults),
         Invocation::Show { place, layout } => show(rt, files, &place, layout, output, faults),
-        Invocation::Import { place } => match &place {
-            DocumentPlace::Folder(dir) => run_import(files, dir, input, output, faults),
-            DocumentPlace::Document(address) => import_remote(rt, address, input, output, faults),
-        },
+        Invocation::Import { place } => import(rt, files, &place, input, output, faults),
         Invocation::Restore {
             backup,
             dir,
@@ -125,10 +125,7 @@ where
             DocumentPlace::Folder(dir) => run_check(files, dir, output, faults),
             DocumentPlace::Document(address) => check_remote(rt, address, output, faults),
         },
-        Invocation::Log { place } => match &place {
-            DocumentPlace::Folder(dir) => run_log(files, dir, output, faults),
-            DocumentPlace::Document(address) => log_remote(rt, address, output, faults),
-        },
+        Invocation::Log { place } => log(rt, files, &place, output, faults),
     }
 }
 
@@ -147,13 +144,118 @@ where
     F: Write,
     ensures { Shows place.now layout result (W.contents output.old) (W.contents output.new) (F.contents faults.old) (F.contents faults.new) }
 {
-    match (place, layout) {
-        (DocumentPlace::Folder(dir), None) => run_tree(files, dir, output, faults),
-        (DocumentPlace::Folder(dir), Some(layout)) => run_rows(files, dir, layout, output, faults),
-        (DocumentPlace::Document(address), None) => show_remote_tree(rt, address, output, faults),
-        (DocumentPlace::Document(address), Some(layout)) => {
-            show_remote_rows(rt, address, layout, output, faults)
-        }
+    let alloc = rt.alloc();
+    match place {
+        DocumentPlace::Folder(dir) => show_home(
+            alloc,
+            &mut FolderHome { files, dir },
+            Subject::Folder,
+            dir,
+            layout,
+            output,
+            faults,
+        ),
+        DocumentPlace::Document(address) => show_home(
+            alloc,
+            &mut DocumentHome::new(rt, address),
+            Subject::Document,
+            &address.name,
+            layout,
+            output,
+            faults,
+        ),
+    }
+}
+
+// Writes the tree of the document that is kept there, or its rows.
+fn show_home<S: Shelf + Drop, H: Home<S>, W: Write, F: Write>(
+    alloc: Global,
+    home: &mut H,
+    subject: Subject,
+    name: &str,
+    layout: Option<Layout>,
+    output: &mut W,
+    faults: &mut F,
+) -> u8
+    ensures { Ends (WritesShown layout (W.contents output.old) (W.contents output.new)) subject name.now result (F.contents faults.old) (F.contents faults.new) }
+{
+    match layout {
+        None => run_tree(alloc, home, subject, name, output, faults),
+        Some(layout) => run_rows(alloc, home, subject, name, layout, output, faults),
+    }
+}
+
+// Writes the entries past a document's checkpoint.
+fn log<R, W, F>(
+    rt: &R,
+    files: HostRuntime,
+    place: &DocumentPlace,
+    output: &mut W,
+    faults: &mut F,
+) -> u8
+where
+    R: Net<Stream = TcpStream> + Clock + RandomSource + AllocGlobal + Clone + Drop,
+    W: Write,
+    F: Write,
+    ensures { EndsAt place.now (WritesLog (W.contents output.old) (W.contents output.new)) result (F.contents faults.old) (F.contents faults.new) }
+{
+    let alloc = rt.alloc();
+    match place {
+        DocumentPlace::Folder(dir) => run_log(
+            alloc,
+            &mut FolderHome { files, dir },
+            Subject::Folder,
+            dir,
+            output,
+            faults,
+        ),
+        DocumentPlace::Document(address) => run_log(
+            alloc,
+            &mut DocumentHome::new(rt, address),
+            Subject::Document,
+            &address.name,
+            output,
+            faults,
+        ),
+    }
+}
+
+// Makes a new document of the rows of the input.
+fn import<R, I, W, F>(
+    rt: &R,
+    files: HostRuntime,
+    place: &DocumentPlace,
+    input: &mut I,
+    output: &mut W,
+    faults: &mut F,
+) -> u8
+where
+    R: Net<Listener = TcpListener, Stream = TcpStream>
+        + Threads
+        + Wait
+        + Clock
+        + RandomSource
+        + AllocGlobal
+        + Clone
+        + Send
+        + Drop
+        + 'static,
+    I: Read,
+    W: Write,
+    F: Write,
+    ensures { EndsAt place.now (WritesImported (I.remaining input.old) (I.remaining input.new) (W.contents output.old) (W.contents output.new)) result (F.contents faults.old) (F.contents faults.new) }
+{
+    match place {
+        DocumentPlace::Folder(dir) => run_import(
+            rt.alloc(),
+            &mut NewFolder { files, dir },
+            Subject::Folder,
+            dir,
+            input,
+            output,
+            faults,
+        ),
+        DocumentPlace::Document(address) => import_remote(rt, address, input, output, faults),
     }
 }
 

@@ -1,6 +1,5 @@
 use Rattle.app_faults.proofs.Ends.{ended}
-use Rattle.app_faults.specs.declared.subject.Subject.TheVariants.{Folder}
 use Rattle.lugcurrant.proofs.caring.run_tree.Goals as goal
 
 pub returns : goal.returns
-returns g c = ended _ c.show_tree.result Folder c.args.dir.now c.finish.result _ _ c.show_tree.ensures.form c.finish.ensures
+returns g c = ended _ c.show_tree.result c.args.subject c.args.name.now c.finish.result _ _ c.show_tree.ensures.form c.finish.ensures

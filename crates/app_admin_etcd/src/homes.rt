@@ -1,18 +1,16 @@
-// The commands that care for a document in an etcd.
-ghost use Rattle.std.specs.Prelude.{◌≡◌, IfErr, OnOk};
+// A document in an etcd, as the commands that read or make one see it.
+ghost use Rattle.std.specs.Prelude.{[], OnOk, false};
 ghost use Rattle.std.specs.Io.KnownBytes.{Appends};
-ghost use Rattle.canvas_lines.specs.Reports.{WritesReport};
 ghost use Rattle.app_admin.specs.Begun.{WritesImported, begun_line};
 ghost use Rattle.app_admin.specs.Checks.{WritesShelf};
-ghost use Rattle.app_admin.specs.Logs.{WritesLog};
-ghost use Rattle.app_admin.specs.Shown.{WritesRows};
 
-use crate::opening::{existing, taken};
-use app_admin::{Layout, check_shelf, import, log_shelf, plant, show_rows_of, show_tree_of};
+use crate::opening::{Remote, existing, taken};
+use app_admin::{Home, check_shelf, import, plant};
 use app_faults::{Fault, of_document};
 use app_identity::Address;
 use canvas_judge::State;
 use canvas_lines::write_out;
+use etcd_store::Causes;
 use std::alloc::Global;
 use std::io::{Read, Write};
 use std::net::{Net, TcpListener, TcpStream};
@@ -21,50 +19,55 @@ use std::sync::Wait;
 use std::thread::Threads;
 use std::time::Clock;
 
-/// Writes the version and the tree of a document. Writes nothing to the etcd, and a server may have the document meanwhile.
-///
-/// The errors: `NoSegment`, where there is no such document; `NoStore`, if the etcd didn't do what it was asked; `Damaged`, `Memory` and
-/// `Stream` as `show_tree_of` answers them.
-pub fn show_tree<R, W>(net: &R, address: &Address, output: &mut W) -> Result<(), Fault>
+/// A document in an etcd, as a command reads it. Nothing is claimed of what the etcd holds.
+#[derive(Drop)]
+pub struct DocumentHome<'a, R: Drop> {
+    net: &'a R,
+    address: &'a Address,
+    causes: Option<Causes>,
+}
+
+impl<'a, R> DocumentHome<'a, R>
 where
     R: Net<Stream = TcpStream> + Clock + RandomSource + AllocGlobal + Clone + Drop,
-    W: Write,
-    ensures form { OnOk result (WritesReport (W.contents output.old) (W.contents output.new)) }
-    ensures unwritten { IfErr result (λ fault. (fault ≡ Fault.Stream → ⊥) → W.contents output.new ≡ W.contents output.old) }
 {
-    let alloc = net.alloc();
-    let (mut shelf, causes) = existing(net, address)?;
-    match show_tree_of(alloc, &mut shelf, output) {
-        Ok(()) => Ok(()),
-        Err(fault) => Err(of_document(fault, causes.last())),
+    /// The document of this name. Nothing is asked yet.
+    pub fn new(net: &'a R, address: &'a Address) -> Self {
+        DocumentHome {
+            net,
+            address,
+            causes: None,
+        }
     }
 }
 
-/// Writes the rows of a document. Else it is as `show_tree`.
-pub fn show_rows<R, W>(
-    net: &R,
-    address: &Address,
-    layout: Layout,
-    output: &mut W,
-) -> Result<(), Fault>
+impl<R> Home<Remote<R>> for DocumentHome<'_, R>
 where
     R: Net<Stream = TcpStream> + Clock + RandomSource + AllocGlobal + Clone + Drop,
-    W: Write,
-    ensures form { OnOk result (WritesRows layout (W.contents output.old) (W.contents output.new)) }
-    ensures unwritten { IfErr result (λ fault. (fault ≡ Fault.Stream → ⊥) → W.contents output.new ≡ W.contents output.old) }
 {
-    let alloc = net.alloc();
-    let (mut shelf, causes) = existing(net, address)?;
-    match show_rows_of(alloc, &mut shelf, layout, output) {
-        Ok(()) => Ok(()),
-        Err(fault) => Err(of_document(fault, causes.last())),
+    ghost disk = { λ h. [] };
+
+    ghost honest = { λ h. false };
+
+    fn look(&mut self, _alloc: Global) -> Result<Remote<R>, Fault> {
+        let (shelf, causes) = existing(self.net, self.address)?;
+        self.causes = Some(causes);
+        Ok(shelf)
+    }
+
+    fn explain(&self, fault: Fault) -> Fault {
+        let why = match &self.causes {
+            Some(causes) => causes.last(),
+            None => None,
+        };
+        of_document(fault, why)
     }
 }
 
 /// Tells what stands in a document's segments, as `check_shelf` does. An etcd keeps what it was given, so no sums are looked at. Writes
 /// nothing to it, and a server may have the document meanwhile.
 ///
-/// The errors are those of `check_shelf`; `NoSegment` and `NoStore` as at `show_tree`.
+/// The errors are those of `check_shelf` and of `Home::look`.
 pub fn check<R, W>(net: &R, address: &Address, output: &mut W) -> Result<(), Fault>
 where
     R: Net<Stream = TcpStream> + Clock + RandomSource + AllocGlobal + Clone + Drop,
@@ -72,26 +75,11 @@ where
     ensures form { OnOk result (WritesShelf (W.contents output.old) (W.contents output.new)) }
 {
     let alloc = net.alloc();
-    let (mut shelf, causes) = existing(net, address)?;
+    let mut home = DocumentHome::new(net, address);
+    let mut shelf = home.look(alloc)?;
     match check_shelf(alloc, &mut shelf, output) {
         Ok(()) => Ok(()),
-        Err(fault) => Err(of_document(fault, causes.last())),
-    }
-}
-
-/// Writes the entries past a document's checkpoint, as `log_shelf` does. Else it is as `show_tree`.
-pub fn log<R, W>(net: &R, address: &Address, output: &mut W) -> Result<(), Fault>
-where
-    R: Net<Stream = TcpStream> + Clock + RandomSource + AllocGlobal + Clone + Drop,
-    W: Write,
-    ensures form { OnOk result (WritesLog (W.contents output.old) (W.contents output.new)) }
-    ensures unwritten { IfErr result (λ fault. (fault ≡ Fault.Stream → ⊥) → W.contents output.new ≡ W.contents output.old) }
-{
-    let alloc = net.alloc();
-    let (mut shelf, causes) = existing(net, address)?;
-    match log_shelf(alloc, &mut shelf, output) {
-        Ok(()) => Ok(()),
-        Err(fault) => Err(of_document(fault, causes.last())),
+        Err(fault) => Err(home.explain(fault)),
     }
 }
 
