@@ -12,8 +12,8 @@ use Rattle.canvas_wire.specs.Text.{row_text}
 use Rattle.canvas_journal.specs.Found.{AreRowTexts}
 use Rattle.canvas_journal.specs.Meaning.{Row}
 use Rattle.canvas_journal.proofs.Rows.{each_once}
-use Rattle.app_admin.specs.declared.rows.Layout.{Layout}
-use Rattle.app_admin.specs.declared.rows.Layout.TheVariants.{Array, Lines}
+use Rattle.app_admin.specs.declared.writing_rows.Layout.{Layout}
+use Rattle.app_admin.specs.declared.writing_rows.Layout.TheVariants.{Array, Lines}
 use Rattle.app_admin.specs.Imports.{before, row_part, row_texts}
 use Rattle.app_admin.specs.Texts.{end, joined, rows_text}
 use Rattle.app_admin.proofs.OneLine.{IsOneLine, one-append, text_line}

@@ -4,7 +4,7 @@ use Rattle.canvas_lines.specs.Lines.{lines_of}
 use Rattle.canvas_wire.specs.Text.{row_text}
 use Rattle.canvas_journal.specs.Found.{AreRowTexts}
 use Rattle.canvas_journal.specs.Meaning.{Row}
-use Rattle.app_admin.specs.declared.rows.Layout.{Layout}
+use Rattle.app_admin.specs.declared.writing_rows.Layout.{Layout}
 use Rattle.app_admin.specs.Imports.{row_texts}
 use Rattle.app_admin.specs.Texts.{rows_text}
 

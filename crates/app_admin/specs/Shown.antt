@@ -8,7 +8,7 @@ use Rattle.canvas_journal.specs.Meaning.{Versioned}
 use Rattle.canvas_journal.specs.Found.{Finds, IsState}
 use Rattle.canvas_lines.specs.Reports.{IsReportText}
 use Rattle.app_admin.specs.Texts.{rows_text}
-use Rattle.app_admin.specs.declared.rows.Layout.{Layout}
+use Rattle.app_admin.specs.declared.writing_rows.Layout.{Layout}
 
 -- the rows of some document, laid out so, were written
 abbrev pub WritesRows : Layout → Option (List ℕ) → Option (List ℕ) → Type 0

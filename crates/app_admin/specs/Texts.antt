@@ -2,8 +2,8 @@
 use Rattle.std.specs.Prelude.{ℕ, Bool, true, false, List, [], ◌∷◌, ◌++◌, codes}
 use Rattle.canvas_wire.specs.Text.{row_text}
 use Rattle.canvas_journal.specs.Meaning.{Row}
-use Rattle.app_admin.specs.declared.rows.Layout.{Layout}
-use Rattle.app_admin.specs.declared.rows.Layout.TheVariants.{Array, Lines}
+use Rattle.app_admin.specs.declared.writing_rows.Layout.{Layout}
+use Rattle.app_admin.specs.declared.writing_rows.Layout.TheVariants.{Array, Lines}
 
 -- what stands before the first row
 abbrev pub head : Layout → List ℕ

@@ -7,8 +7,8 @@ ghost use Rattle.app_admin.specs.Checks.{WritesCheck, WritesCheckOf, WritesDamag
 ghost use Rattle.app_admin.specs.LossLines.{fault_of_loss, gone_line, loss_line, no_loss_line, sums_line};
 ghost use Rattle.app_admin.specs.Taken.{source_of};
 
+use crate::finding_loss::{FolderSums, find_loss};
 use crate::folders::existing;
-use crate::losing::{FolderSums, find_loss};
 use crate::taking::{Taken, take};
 use crate::traces::trace_in;
 use app_faults::Fault;

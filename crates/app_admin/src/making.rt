@@ -4,7 +4,7 @@ ghost use Rattle.std.specs.FinMap as map;
 ghost use Rattle.canvas_model.specs.Document as document;
 ghost use Rattle.app_admin.specs.RowFaults.{IsBadRow, IsDepthFault, IsMakeFault, IsPlaceFault, most_client};
 
-use crate::importing::Rows;
+use crate::reading_rows::Rows;
 use app_faults::{Fault, RowFault};
 use canvas_doc::{Doc, ObjId, Object};
 use canvas_judge::{Counts, State};

@@ -8,10 +8,10 @@ ghost use Rattle.app_admin.specs.Begun.{ImportsTo, WritesImported};
 ghost use Rattle.app_admin.specs.Imports.{IsImported, row_texts};
 ghost use Rattle.app_admin.specs.Losing.{TellsLoss};
 
+use crate::finding_loss::{FolderSums, SumSource, find_loss};
 use crate::folders::{Ground, begin_on, existing};
-use crate::importing::read_rows;
-use crate::losing::{FolderSums, SumSource, find_loss};
 use crate::making::document_of;
+use crate::reading_rows::read_rows;
 use crate::traces::trace_in;
 use app_faults::Fault;
 use canvas_journal::look;

@@ -6,7 +6,7 @@ ghost use Rattle.canvas_lines.specs.Reports.{WritesReport};
 ghost use Rattle.app_admin.specs.Shown.{WritesRows, WritesRowsOf, WritesTreeOf};
 
 use crate::homes::Home;
-use crate::rows::{Layout, rows_text};
+use crate::writing_rows::{Layout, rows_text};
 use app_faults::Fault;
 use canvas_journal::look;
 use canvas_lines::{report_text, write_out};

@@ -5,7 +5,7 @@ ghost use Rattle.canvas_journal.specs.Found.{Finds, IsState};
 ghost use Rattle.canvas_journal.specs.Meaning.{Versioned};
 ghost use Rattle.app_admin.specs.Torn.{AreRemovable, AreTorn, torn_above};
 
-use crate::losing::{SumSource, find_loss, taken_number};
+use crate::finding_loss::{SumSource, find_loss, taken_number};
 use crate::taking::take;
 use app_faults::Fault;
 use canvas_shelf::Shelf;

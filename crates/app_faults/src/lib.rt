@@ -7,12 +7,12 @@ mod errors;
 mod etcd;
 mod fault;
 mod row_fault;
+mod sentences;
 mod subject;
-mod told;
 
 pub use causes::{Advice, Why};
 pub use etcd::{fault_of_cause, fault_of_etcd, of_document};
 pub use fault::Fault;
 pub use row_fault::RowFault;
+pub use sentences::{Told, end, finish, tell};
 pub use subject::Subject;
-pub use told::{Told, end, finish, tell};

@@ -2,18 +2,18 @@
 //! alive. Both are watched. And which faults may end a server of one.
 #![tactic(auto)]
 
+mod checkpoint_refusals;
 mod copies;
+mod guarding;
 mod leasing;
-mod losing;
-mod refused;
+mod setting_aside;
 mod shelf;
 mod tasks;
-mod torn;
 
+pub use checkpoint_refusals::{Refused, with_refusal};
 pub use copies::Copies;
+pub use guarding::{guard, keep_all};
 pub use leasing::{KeptLease, LEASE_SECONDS, Term};
-pub use losing::{guard, keep_all};
-pub use refused::{Refused, with_refusal};
+pub use setting_aside::{remove_torn, set_torn_aside};
 pub use shelf::{DocumentShelf, FolderShelf, NoWitness};
 pub use tasks::{Task, begin_task};
-pub use torn::{remove_torn, set_torn_aside};

@@ -4,7 +4,7 @@ use Rattle.app_admin.specs.Begun.{WritesBegun, WritesImported}
 use Rattle.app_admin.specs.Checks.{WritesCheck, WritesShelf}
 use Rattle.app_admin.specs.Logs.{WritesLog}
 use Rattle.app_admin.specs.Shown.{WritesRows}
-use Rattle.app_admin.specs.declared.rows.Layout.{Layout}
+use Rattle.app_admin.specs.declared.writing_rows.Layout.{Layout}
 use Rattle.app_faults.specs.Told.{Ends, IsTold}
 use Rattle.app_faults.specs.declared.subject.Subject.{Subject}
 use Rattle.app_faults.specs.declared.subject.Subject.TheVariants as subject

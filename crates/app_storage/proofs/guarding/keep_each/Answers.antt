@@ -6,7 +6,7 @@ use Rattle.canvas_journal.specs.Opening.{paired}
 use Rattle.canvas_journal.proofs.Paired.{each_listed, seen_paired}
 use Rattle.app_admin.proofs.Lines.{tail_listed}
 use Rattle.app_storage.proofs.Copying.{copied_on}
-use Rattle.app_storage.proofs.losing.keep_each.Goals as goal
+use Rattle.app_storage.proofs.guarding.keep_each.Goals as goal
 
 pub loop-number-init : goal.loop-number-init
 loop-number-init g c =

@@ -11,7 +11,7 @@ use Rattle.disk_integrity.specs.declared.trace.Trace.{Trace}
 use Rattle.app_admin.specs.Checkpoints.{checkpoint_bytes}
 use Rattle.app_admin.specs.Losing.{content_of, number_of}
 use Rattle.app_admin.specs.Taken.{TakesFrom, source_of}
-use Rattle.app_admin.proofs.losing.find_loss.Goals as goal
+use Rattle.app_admin.proofs.finding_loss.find_loss.Goals as goal
 
 -- what is told of these segments
 abbrev Tells : Option Loss → Option ℕ → List ℕ → Option Trace → List Listed → Type 0

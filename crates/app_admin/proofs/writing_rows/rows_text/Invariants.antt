@@ -1,7 +1,7 @@
 use Rattle.std.proofs.Common.{◌≡◌, ◌++◌}
 use Rattle.std.specs.FinMap as map
 use Rattle.app_admin.specs.Texts.{end, joined, rows_text}
-use Rattle.app_admin.proofs.rows.rows_text.Given as goal
+use Rattle.app_admin.proofs.writing_rows.rows_text.Given as goal
 
 -- the text, and what is still to come
 abbrev pub invariant-loop-row : goal.invariant-loop-row

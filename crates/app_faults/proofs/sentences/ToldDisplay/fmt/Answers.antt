@@ -1,6 +1,6 @@
 use Rattle.std.proofs.Common.{append_assoc}
 use Rattle.std.proofs.Output.{has_written_of_eq}
-use Rattle.app_faults.proofs.told.ToldDisplay.fmt.Goals as goal
+use Rattle.app_faults.proofs.sentences.ToldDisplay.fmt.Goals as goal
 
 pub returns-in-NotKept-clause-writes : goal.returns-in-NotKept-clause-writes
 returns-in-NotKept-clause-writes g c = λ plain ok. rw c.in-NotKept.is (has_written_of_eq _ _ _ _ _ (simp append_assoc) (c.write-in-NotKept.ensures.writes plain ok))

@@ -1,7 +1,7 @@
 use Rattle.std.proofs.Common.{◌++◌, [], ◌∷◌}
 use Rattle.canvas_lines.specs.Lines.{lines_of}
 use Rattle.app_admin.proofs.Reading.{count_on, line_on, row_on, row_off}
-use Rattle.app_admin.proofs.importing.read_rows.Goals as goal
+use Rattle.app_admin.proofs.reading_rows.read_rows.Goals as goal
 
 pub loop-line-preserved-in-Continue-1 : goal.loop-line-preserved-in-Continue-1
 loop-line-preserved-in-Continue-1 c =

@@ -3,7 +3,7 @@ use Rattle.std.specs.List.{AllByRecursion}
 use Rattle.canvas_shelf.specs.Disk.{seen, is_listed}
 use Rattle.canvas_journal.specs.Opening.{paired}
 use Rattle.app_admin.specs.Losing.{content_of}
-use Rattle.app_admin.proofs.losing.read_each.Given as goal
+use Rattle.app_admin.proofs.finding_loss.read_each.Given as goal
 
 -- what was read so far, and what the segments that are left hold
 abbrev pub invariant-loop-number : goal.invariant-loop-number

@@ -2,7 +2,7 @@ use Rattle.std.proofs.Common.{◌≡◌, ◌++◌, true, IsTrue, drop}
 use Rattle.std.specs.List.{AllByRecursion}
 use Rattle.canvas_shelf.specs.Disk.{is_listed, seen}
 use Rattle.canvas_journal.specs.Opening.{paired}
-use Rattle.app_storage.proofs.losing.keep_each.Given as goal
+use Rattle.app_storage.proofs.guarding.keep_each.Given as goal
 
 -- the copies so far, and the segments that are left
 abbrev pub invariant-loop-number : goal.invariant-loop-number

@@ -5,7 +5,7 @@ use Rattle.canvas_journal.specs.Opening.{paired}
 use Rattle.canvas_journal.proofs.Paired.{each_listed, seen_paired}
 use Rattle.disk_integrity.specs.declared.listed.Listed.{Listed}
 use Rattle.app_admin.specs.Losing.{content_of}
-use Rattle.app_admin.proofs.losing.read_each.Goals as goal
+use Rattle.app_admin.proofs.finding_loss.read_each.Goals as goal
 
 pub loop-number-init : goal.loop-number-init
 loop-number-init g c =

@@ -7,7 +7,7 @@ ghost use Rattle.app_admin.specs.Torn.{AreRemovable};
 ghost use Rattle.disk_integrity.specs.declared.trace.Trace.{Trace};
 ghost use Rattle.app_storage.specs.Faults.{IsLossFault};
 
-use crate::losing::{fault_of_looking, trace_of};
+use crate::guarding::{fault_of_looking, trace_of};
 use app_admin::{FolderSums, removable_segments};
 use app_faults::Fault;
 use app_identity::read_identity;

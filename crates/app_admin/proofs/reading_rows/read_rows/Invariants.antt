@@ -3,7 +3,7 @@ use Rattle.std.specs.Prelude.{◌^◌, ◌<◌}
 use Rattle.canvas_lines.specs.Lines.{lines_of}
 use Rattle.canvas_journal.specs.Found.{AreRowTexts}
 use Rattle.app_admin.specs.Imports.{row_texts}
-use Rattle.app_admin.proofs.importing.read_rows.Given as goal
+use Rattle.app_admin.proofs.reading_rows.read_rows.Given as goal
 
 -- the lines so far, whose texts are the rows, and those that are left
 abbrev pub invariant-loop-line : goal.invariant-loop-line

@@ -2,7 +2,7 @@ use Rattle.std.proofs.Common.{Option, subst}
 use Rattle.app_admin.specs.Losing.{TellsLoss}
 use Rattle.disk_integrity.specs.declared.loss.Loss.{Loss}
 use Rattle.disk_integrity.specs.declared.trace.Trace.{Trace}
-use Rattle.app_storage.proofs.losing.guard.Goals as goal
+use Rattle.app_storage.proofs.guarding.guard.Goals as goal
 
 pub returns-in-None-clause-whole : goal.returns-in-None-clause-whole
 returns-in-None-clause-whole g c =

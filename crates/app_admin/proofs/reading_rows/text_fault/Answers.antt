@@ -2,7 +2,7 @@ use Rattle.std.proofs.Common.{sym, subst, ◌∙◌}
 use Rattle.serde_json.specs.View.{view}
 use Rattle.canvas_wire.specs.Text.{IsRowError}
 use Rattle.app_admin.proofs.Refusing.{parts_fault, range_fault, depth_fault}
-use Rattle.app_admin.proofs.importing.text_fault.Goals as goal
+use Rattle.app_admin.proofs.reading_rows.text_fault.Goals as goal
 
 pub returns-in-NotAMessage : goal.returns-in-NotAMessage
 returns-in-NotAMessage c =
