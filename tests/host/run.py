@@ -1234,18 +1234,25 @@ def goes_on(server, mine, other):
     require(call("check", mine).endswith(b"no loss: a crash may have left it so\n"), "the folder that was moved has lost something")
 
 
+def serving(folder):
+    """A server that has opened its folder: it listens before."""
+    server = Server(folder, "--quiet")
+    require(server.get("/health")[0] == 200, "a server isn't healthy")
+    return server
+
+
 def moved(room):
     above = os.path.dirname(room)
     drawn(room, 60)
     old, link = os.path.join(above, "old"), os.path.join(above, "link")
     first = copied(room, "first")
     second = copied(room, "second")
-    server = Server(room, "--quiet")
+    server = serving(room)
     os.rename(room, old)
     shutil.copytree(first, room)
     goes_on(server, old, room)
     os.symlink(first, link)
-    server = Server(link, "--quiet")
+    server = serving(link)
     os.remove(link)
     os.symlink(second, link)
     goes_on(server, first, second)
