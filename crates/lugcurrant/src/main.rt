@@ -7,7 +7,7 @@ mod running;
 
 use running::run;
 use std::env;
-use std::io::{self, ErrorKind, Input};
+use std::io::{self, ErrorKind, Input, LineWriter};
 use std::process::ExitCode;
 
 // The program's words, of which the first is its name.
@@ -18,14 +18,18 @@ fn words(rt: &HostRuntime) -> io::Result<Vec<String>> {
 
 fn main(rt: HostRuntime) -> ExitCode {
     let status = match words(&rt) {
-        Ok(words) => run(
-            &rt,
-            rt,
-            &words,
-            &mut rt.reader(),
-            &mut rt.stdout(),
-            &mut rt.stderr(),
-        ),
+        // Each line about a fault is written by one call, so that no line of another thread cuts it.
+        Ok(words) => match LineWriter::new(rt.alloc(), rt.stderr()) {
+            Ok(mut faults) => run(
+                &rt,
+                rt,
+                &words,
+                &mut rt.reader(),
+                &mut rt.stdout(),
+                &mut faults,
+            ),
+            Err(_) => 3,
+        },
         Err(error) => if error.kind() == ErrorKind::OutOfMemory {
             3
         } else {
