@@ -15,6 +15,7 @@ pub struct Meter {
     syncs: AtomicU64,
     checkpoints: AtomicU64,
     checkpoint_micros: AtomicU64,
+    checkpoint_version: AtomicU64,
 }
 
 // How many edits were refused, by the reason.
@@ -70,6 +71,7 @@ impl Meter {
             syncs: AtomicU64::new(0),
             checkpoints: AtomicU64::new(0),
             checkpoint_micros: AtomicU64::new(0),
+            checkpoint_version: AtomicU64::new(opening),
         }
     }
 
@@ -100,8 +102,9 @@ impl Meter {
         self.syncs.fetch_add(1, Ordering::SeqCst);
     }
 
-    // A checkpoint was made, in this time.
-    pub(crate) fn checkpoint(&self, took: Duration) {
+    // A checkpoint was made of this version, in this time.
+    pub(crate) fn checkpoint(&self, version: u64, took: Duration) {
+        self.checkpoint_version.store(version, Ordering::SeqCst);
         let micros = u64::try_from(took.as_micros()).unwrap_or(u64::MAX);
         self.checkpoint_micros.fetch_add(micros, Ordering::SeqCst);
         self.checkpoints.fetch_add(1, Ordering::SeqCst);
@@ -149,6 +152,11 @@ impl Meter {
     /// How often entries were synced.
     pub fn syncs(&self) -> u64 {
         self.syncs.load(Ordering::SeqCst)
+    }
+
+    /// The version of the last checkpoint; that of the opening, which is written as one, if there was no other.
+    pub fn checkpoint_version(&self) -> u64 {
+        self.checkpoint_version.load(Ordering::SeqCst)
     }
 
     /// How many checkpoints were made.

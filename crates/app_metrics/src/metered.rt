@@ -81,10 +81,11 @@ impl<K: Keeper, C: Clock> Metered<K, C> {
         }
     }
 
-    // A checkpoint was made since this time.
-    fn count_checkpoint(&self, begun: Option<Instant>) {
+    // A checkpoint of this version was made since this time.
+    fn count_checkpoint(&self, version: u64, begun: Option<Instant>) {
         let took = begun.and_then(|begun| begun.elapsed(&self.clock).ok());
-        self.meter.checkpoint(took.unwrap_or(Duration::ZERO));
+        self.meter
+            .checkpoint(version, took.unwrap_or(Duration::ZERO));
     }
 }
 
@@ -120,7 +121,7 @@ impl<K: Keeper, C: Clock> Keeper for Metered<K, C> {
     fn checkpoint(&mut self, alloc: Global, state: &State, version: u64) -> Result<(), KeepError> {
         let begun = Instant::now(&self.clock).ok();
         self.keeper.checkpoint(alloc, state, version)?;
-        self.count_checkpoint(begun);
+        self.count_checkpoint(version, begun);
         Ok(())
     }
 

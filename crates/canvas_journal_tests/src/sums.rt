@@ -66,6 +66,7 @@ fn writes_a_line_for_each_sync(rt: HostRuntime) -> Result<(), Fail> {
         bytes: 56,
         checkpoints: 1,
         checkpoint_bytes: 3,
+        bytes_since: 53,
     };
     assert!(rt; written(&rt, "sums_lines", Standing::Nothing, TWICE)? == Some(counts));
     assert!(rt; are_sums(&rt, "sums_lines", 7, Some(SUMS)));

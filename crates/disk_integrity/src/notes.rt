@@ -15,6 +15,7 @@ struct Cells {
     bytes: AtomicU64,
     checkpoints: AtomicU64,
     checkpoint_bytes: AtomicU64,
+    bytes_since: AtomicU64,
 }
 
 /// What is noted of a shelf: the first call that failed, and counts. Each share reads the same, in any thread, and waits for nobody.
@@ -33,6 +34,8 @@ pub struct CallCounts {
     pub checkpoints: u64,
     /// How many bytes the last of these had when it was first synced.
     pub checkpoint_bytes: u64,
+    /// How many bytes were appended since then.
+    pub bytes_since: u64,
 }
 
 impl Drop for Notes {
@@ -51,6 +54,7 @@ impl Notes {
             bytes: AtomicU64::new(0),
             checkpoints: AtomicU64::new(0),
             checkpoint_bytes: AtomicU64::new(0),
+            bytes_since: AtomicU64::new(0),
         };
         Ok(Notes {
             cells: Arc::new(alloc, cells)?,
@@ -78,6 +82,7 @@ impl Notes {
             bytes: self.cells.bytes.load(Ordering::SeqCst),
             checkpoints: self.cells.checkpoints.load(Ordering::SeqCst),
             checkpoint_bytes: self.cells.checkpoint_bytes.load(Ordering::SeqCst),
+            bytes_since: self.cells.bytes_since.load(Ordering::SeqCst),
         }
     }
 
@@ -94,6 +99,7 @@ impl Notes {
     // So many bytes were appended.
     pub(crate) fn append(&self, bytes: u64) {
         self.cells.bytes.fetch_add(bytes, Ordering::SeqCst);
+        self.cells.bytes_since.fetch_add(bytes, Ordering::SeqCst);
     }
 
     // A segment was synced.
@@ -104,6 +110,7 @@ impl Notes {
     // A new segment was synced for the first time, with so many bytes.
     pub(crate) fn checkpoint(&self, bytes: u64) {
         self.cells.checkpoint_bytes.store(bytes, Ordering::SeqCst);
+        self.cells.bytes_since.store(0, Ordering::SeqCst);
         self.cells.checkpoints.fetch_add(1, Ordering::SeqCst);
     }
 }
