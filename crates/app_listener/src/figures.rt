@@ -1,6 +1,6 @@
 // What a server counts while it runs.
-ghost use Rattle.std.specs.Prelude.{◌≡◌};
-ghost use Rattle.app_listener.specs.Figures.{checkpoint_at, next_checkpoint_at};
+ghost use Rattle.std.specs.Prelude.{◌≡◌, ◌↔◌, IsTrue};
+ghost use Rattle.app_listener.specs.Figures.{IsDue, bytes_kept, entries_kept};
 
 use crate::noes::NoCounts;
 use app_metrics::{Meter, Numbers};
@@ -59,7 +59,7 @@ impl Figures {
         self.past_floor.store(past_floor, Ordering::SeqCst);
     }
 
-    /// The version of the last checkpoint.
+    /// The version up to which entries were let go of, a tenth of a second ago.
     pub fn floor(&self) -> u64 {
         let past_floor = self.past_floor.load(Ordering::SeqCst);
         self.published
@@ -67,29 +67,37 @@ impl Figures {
             .saturating_sub(past_floor)
     }
 
-    /// The least version of a copy that is worth to be sent once more: whoever is sent it asks for fewer entries than a checkpoint waits for.
+    /// The least version of a copy that is worth to be sent once more: whoever is sent it is told the entries after it, and they aren't many.
     pub fn least_copy(&self) -> u64 {
         self.published
             .load(Ordering::SeqCst)
-            .saturating_sub(self.least_entries())
+            .saturating_sub(self.tail_entries())
+            .max(self.floor())
     }
 
-    // How many entries pay for a checkpoint.
-    fn least_entries(&self) -> u64 {
-        checkpoint_at(self.objects.load(Ordering::SeqCst))
+    /// The most entries that a checkpoint keeps: as many as there are objects, and at least 256.
+    pub fn tail_entries(&self) -> u64 {
+        entries_kept(self.objects.load(Ordering::SeqCst))
     }
 
-    /// How many entries stand after a checkpoint when the next one is made. If it is refused, it is tried again after the same number of further
-    /// entries.
-    pub fn checkpoint_at(&self) -> u64 {
-        let least = self.least_entries();
+    /// The most bytes of the texts of these entries: as many as the last checkpoint took, but at least 1 MiB and at most 16 MiB.
+    pub fn tail_bytes(&self) -> u64 {
+        bytes_kept(self.notes.counts().checkpoint_bytes)
+    }
+
+    /// Checks whether a checkpoint is due: the entries after the last one take as many bytes as it did, and are 256 or take 1 MiB. One that
+    /// was refused is tried again after as many further entries as a checkpoint may keep.
+    pub fn is_checkpoint_due(&self) -> bool {
+        let version = self.meter.version();
         let refused = self.refused();
         if self.seen_refused.swap(refused, Ordering::SeqCst) != refused {
-            let until = self.meter.version().saturating_add(least);
+            let until = version.saturating_add(self.tail_entries());
             self.held_until.store(until, Ordering::SeqCst);
         }
-        let until = self.held_until.load(Ordering::SeqCst);
-        next_checkpoint_at(least, self.floor(), until)
+        let entries = version.saturating_sub(self.meter.checkpoint_version());
+        let counts = self.notes.counts();
+        version >= self.held_until.load(Ordering::SeqCst)
+            && is_due(entries, counts.bytes_since, counts.checkpoint_bytes)
     }
 
     // How many checkpoints were refused.
@@ -140,7 +148,7 @@ impl Figures {
         Numbers {
             version: self.meter.version(),
             published: self.published.load(Ordering::SeqCst),
-            floor: self.floor(),
+            floor: self.meter.checkpoint_version(),
             objects: self.objects.load(Ordering::SeqCst),
             clients: self.clients.load(Ordering::SeqCst),
             connections: self.connections.load(Ordering::SeqCst),
@@ -159,17 +167,24 @@ impl Figures {
     }
 }
 
-// How many entries stand after a checkpoint of a document of so many objects when the next one is made: so each edit pays for at most
-// one row of it.
-fn checkpoint_at(objects: u64) -> u64
-    ensures { result ≡ checkpoint_at objects }
+// Checks whether a checkpoint is due after so many entries of so many bytes, where the last one took `last` bytes: so the bytes that are
+// written for checkpoints are no more than those of the entries.
+fn is_due(entries: u64, bytes: u64, last: u64) -> bool
+    ensures { IsTrue result ↔ IsDue entries bytes last }
+{
+    bytes >= last && (entries >= 256 || bytes >= 1_048_576)
+}
+
+// The most entries that a checkpoint of a document of so many objects keeps.
+fn entries_kept(objects: u64) -> u64
+    ensures { result ≡ entries_kept objects }
 {
     objects.max(256)
 }
 
-// The same, if the last checkpoint is at version `floor` and none is tried before version `until`.
-fn next_checkpoint_at(least: u64, floor: u64, until: u64) -> u64
-    ensures { result ≡ next_checkpoint_at least floor until }
+// The most bytes of their texts, where the last checkpoint took `last` bytes.
+fn bytes_kept(last: u64) -> u64
+    ensures { result ≡ bytes_kept last }
 {
-    least.max(until.saturating_sub(floor))
+    last.max(1_048_576).min(16_777_216)
 }

@@ -7,6 +7,7 @@ mod documents;
 mod glancing;
 mod hosting;
 mod opening;
+mod pace;
 mod permits;
 mod progress;
 mod seated;

@@ -6,6 +6,7 @@ ghost use Rattle.canvas_nodes.specs.Answers.{GivesTexts, IsAnswer, refused};
 ghost use Rattle.app_server.specs.Seats.{SeatGives};
 
 use crate::copies::Copies;
+use crate::pace::FiguresPace;
 use app_listener::Shared;
 use canvas_board::RoomName;
 use canvas_journal::Keeper;
@@ -92,7 +93,7 @@ impl<'a, N: RoomName, D: Drop, W: Wait + Clock + Clone + Drop> Seated<'a, N, D, 
         }
     }
 
-    // Checks whether this version is below the last checkpoint, by what was published a tenth of a second ago.
+    // Checks whether this version is below the floor, by what was published a tenth of a second ago.
     fn is_below(&self, version: u64) -> bool {
         version < self.shared.figures.floor()
     }
@@ -157,8 +158,7 @@ where
             return self.too_large();
         }
         self.answerer
-            .checkpoint_at(self.shared.figures.checkpoint_at());
-        self.answerer.answer(message)
+            .answer_at(message, &FiguresPace(&self.shared.figures))
     }
 }
 

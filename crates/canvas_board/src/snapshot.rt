@@ -76,7 +76,7 @@ impl<N: RoomName> Snapshot<N> {
         self.version
     }
 
-    /// How many entries were passed by the last checkpoint.
+    /// How many entries the last checkpoint let go of.
     pub fn floor(&self) -> u64
         ensures { result ≡ (board N.opening self.now).floor }
     {

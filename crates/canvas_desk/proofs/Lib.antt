@@ -5,3 +5,4 @@ pub mod Running
 pub mod Told
 pub mod Batched
 pub mod Crashes
+pub mod KeptEntries

@@ -7,7 +7,9 @@ mod desk;
 mod faults;
 mod judging;
 mod laws;
+mod tails;
 
 pub use desk::Desk;
 pub use faults::{Refusal, SubmitError};
 pub use laws::found_after_every_crash;
+pub use tails::TailLimit;

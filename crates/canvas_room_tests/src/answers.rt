@@ -134,6 +134,29 @@ const BEHIND_FLOOR: Asks = &[
     (0, Ask::Tidy(1, Ok(false))),
 ];
 
+// A checkpoint keeps as many entries as it may, by their number and by the bytes of their texts, and a later one no more than are there.
+const KEEPING: Asks = &[
+    (0, Ask::Join(Ok(Some(1)))),
+    (0, Ask::Edit(1, 1, None)),
+    (0, Ask::Edit(1, 2, None)),
+    (0, Ask::Keep(9, 1000)),
+    (0, Ask::Read(0, Some(&[(0, 0), (1, 1), (1, 2)]))),
+    (0, Ask::Keep(2, 1000)),
+    (0, Ask::Read(0, None)),
+    (0, Ask::Read(1, Some(&[(1, 1), (1, 2)]))),
+    (0, Ask::Keep(9, 1000)),
+    (0, Ask::Read(0, None)),
+    (0, Ask::Read(1, Some(&[(1, 1), (1, 2)]))),
+    (0, Ask::Keep(9, 100)),
+    (0, Ask::Read(1, None)),
+    (0, Ask::Read(2, Some(&[(1, 2)]))),
+    (0, Ask::Edit(1, 3, None)),
+    (0, Ask::Read(2, Some(&[(1, 2), (1, 3)]))),
+    (0, Ask::Keep(9, 0)),
+    (0, Ask::Read(3, None)),
+    (0, Ask::Read(4, Some(&[]))),
+];
+
 // A keeper that fails in its second commit is asked no more, and both seats read what was published.
 const FAILING: Asks = &[
     (0, Ask::Join(Ok(Some(1)))),
@@ -165,6 +188,7 @@ const ROWS: &[(&str, usize, u64, Scenes)] = &[
             (BEHIND_FLOOR, Shown::Tidied),
         ]),
     ),
+    ("keeps entries", 1, 0, Scenes(&[(KEEPING, Shown::Tidied)])),
     (
         "fails once, by an append",
         2,

@@ -1,9 +1,9 @@
 //! What seats are asked one after the other, and what they have to answer.
 use crate::seats::{join_by, reads, refuses};
 use canvas_board::RoomName;
-use canvas_desk::SubmitError;
+use canvas_desk::{SubmitError, TailLimit};
 use canvas_journal::Keeper;
-use canvas_room::Room;
+use canvas_room::{Pace, Room};
 use std::alloc::Global;
 use std::sync::Wait;
 use std::test::Fail;
@@ -22,10 +22,26 @@ pub enum Ask {
     Joined(u32, bool),
     /// A checkpoint where so many entries stand after the floor: whether it is made, or why it fails.
     Tidy(u64, Result<bool, SubmitError>),
+    /// A checkpoint that keeps entries: so many, of so many bytes.
+    Keep(u64, u64),
 }
 
 /// What is asked in turn, each of the seat of that place.
 pub type Asks = &'static [(usize, Ask)];
+
+// A checkpoint now, which keeps entries.
+#[derive(Drop)]
+struct Keeping(TailLimit);
+
+impl Pace for Keeping {
+    fn is_due(&self, _kept: u64) -> bool {
+        true
+    }
+
+    fn tail(&self) -> TailLimit {
+        self.0
+    }
+}
 
 // Checks whether a seat answers so.
 fn is_answered<K: Keeper + Drop, N: RoomName, Q: Wait + Drop, W: Wait>(
@@ -40,6 +56,9 @@ fn is_answered<K: Keeper + Drop, N: RoomName, Q: Wait + Drop, W: Wait>(
         Ask::Read(from, wanted) => reads(alloc, seat, from, wanted),
         Ask::Joined(client, wanted) => seat.joined(client) == Ok(wanted),
         Ask::Tidy(at_least, wanted) => seat.tidy(rt, at_least) == wanted,
+        Ask::Keep(entries, bytes) => {
+            seat.tidy_at(rt, &Keeping(TailLimit { entries, bytes })) == Ok(true)
+        }
     })
 }
 

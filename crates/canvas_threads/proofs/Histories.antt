@@ -44,14 +44,14 @@ one_more b log e r may = record {
   kept = ap (λ (l : List Entry). l ++ e ∷ []) r.kept ∙ sym (drop-append b.floor log (e ∷ []) (omega (arith, r.low, r.version)));
 }
 
-floored : (b : Served) (log : List Entry) (v : ℕ) → Records b log → v ≡ b.version → Records (step b (Floor v)) log
-floored b log v r at = record {
+floored : (b : Served) (log : List Entry) (v : ℕ) → Records b log → MayFollow b (Floor v) → Records (step b (Floor v)) log
+floored b log v r may = record {
   legal = r.legal;
   state = r.state;
   version = r.version;
   shown = r.shown;
-  low = omega (arith, at);
-  kept = ap (drop (v - b.floor)) r.kept ∙ drop-drop b.floor (v - b.floor) log ∙ ap (λ (k : ℕ). drop k log) (omega (arith, at, r.low));
+  low = may.1;
+  kept = ap (drop (v - b.floor)) r.kept ∙ drop-drop b.floor (v - b.floor) log ∙ ap (λ (k : ℕ). drop k log) (omega (arith, may.0));
 }
 
 records_from : (b : Served) (log : List Entry) (marks : List Mark) → Records b log → LegalFrom b marks → Records (board_from b marks) (log ++ entries_of marks)

@@ -82,7 +82,7 @@ module _ (N D W : RattleType) (g : Ghosts N.Denot) where
   Answerer-send : IsSend (Seat.the_row N D g) → IsSend W → IsSend (Answerer.the_row N D W g)
   Answerer-send s w =
       view_send (in_answerer.the_row N D W g) _ _ _ _ (recorded_send (in_answerer.the_field N D W g).row _ _ (in_answerer.the_type N D W g).to_one
-      (struct_send (shape (in_answerer.the_type N D W g)) (heap.the_field_send, (w, (s, (search sendable, tt))))))
+      (struct_send (shape (in_answerer.the_type N D W g)) (heap.the_field_send, (w, (s, tt)))))
 
   -- a link to a seat
   pub SeatLink-send : IsSend (Seat.the_row N D g) → IsSend W → IsSend (Link.the_row N D W g)

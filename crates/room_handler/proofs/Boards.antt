@@ -5,7 +5,7 @@ use Rattle.canvas_model.specs.Log.{Entry, last_version}
 use Rattle.canvas_model.proofs.Tests.{lt_false}
 use Rattle.canvas_server.specs.Served.{Served, tail_of}
 use Rattle.canvas_journal.proofs.Entries.{take-least}
-use Rattle.canvas_board.specs.Marks.{Failed, Floor, IsLegal, LegalFrom, Logged, Mark, Opening, board, board_from, start, step}
+use Rattle.canvas_board.specs.Marks.{Failed, Floor, IsLegal, LegalFrom, Logged, Mark, MayFollow, Opening, board, board_from, start, step}
 
 -- ---- floors and counts
 
@@ -22,11 +22,11 @@ filled_logged b e f l = record {
   few = inr (omega (arith, l));
 }
 
-filled_floor : (b : Served) (v : ℕ) → IsFilled b → v ≡ b.version → IsFilled (step b (Floor v))
+filled_floor : (b : Served) (v : ℕ) → IsFilled b → MayFollow b (Floor v) → IsFilled (step b (Floor v))
 filled_floor b v f l = record {
-  whole = omega (arith, l, f.whole, length-drop (v - b.floor) b.kept);
+  whole = omega (arith, l.0, l.1, f.whole, length-drop (v - b.floor) b.kept);
   shown = f.shown;
-  few = inl (omega (arith, l, f.whole, length-drop (v - b.floor) b.kept));
+  few = ⊎_elim (λ (none : length b.kept ≡ 0). inl (omega (arith, none, length-drop (v - b.floor) b.kept))) (λ (few : b.version ≤ last_version). inr few) f.few;
 }
 
 filled : (b : Served) (xs : List Mark) → IsFilled b → LegalFrom b xs → IsFilled (board_from b xs)

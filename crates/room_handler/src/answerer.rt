@@ -11,18 +11,16 @@ use canvas_board::RoomName;
 use canvas_journal::Keeper;
 use canvas_judge::Message;
 use canvas_nodes::{Answerer, texts_of};
-use canvas_room::{Lock, Seat};
+use canvas_room::{EveryEntries, Lock, Pace, Seat};
 use std::alloc::{AllocError, Global};
 use std::marker::Model;
 use std::sync::Wait;
 
-/// A seat that answers clients, with what it needs to submit, and how many entries stand after a checkpoint when it makes the next one.
-/// Contracts see it as its seat.
+/// A seat that answers clients, with what it needs to submit. Contracts see it as its seat.
 pub struct SeatAnswerer<N: RoomName, D: Drop, W: Drop> {
     alloc: Global,
     rt: W,
     seat: Seat<N, D>,
-    checkpoint_at: u64,
 }
 
 impl<N: RoomName, D: Drop, W: Drop> Drop for SeatAnswerer<N, D, W> {
@@ -31,7 +29,6 @@ impl<N: RoomName, D: Drop, W: Drop> Drop for SeatAnswerer<N, D, W> {
             alloc: _,
             rt: _,
             seat: _,
-            checkpoint_at: _,
         } = self;
     }
 }
@@ -50,23 +47,11 @@ impl<N: RoomName, D: Drop, W: Drop> Model for SeatAnswerer<N, D, W> {
 }
 
 impl<N: RoomName, D: Drop, W: Drop> SeatAnswerer<N, D, W> {
-    /// An answerer at this seat, which waits by `rt`, and makes a checkpoint where 256 entries stand after the last one.
+    /// An answerer at this seat, which waits by `rt`.
     pub fn new(alloc: Global, rt: W, seat: Seat<N, D>) -> Self
         ensures { result ≡ seat }
     {
-        SeatAnswerer {
-            alloc,
-            rt,
-            seat,
-            checkpoint_at: CHECKPOINT_AT,
-        }
-    }
-
-    /// From now on it makes a checkpoint where so many entries stand after the last one.
-    pub fn checkpoint_at(&mut self, entries: u64)
-        ensures { self.new ≡ self.old }
-    {
-        self.checkpoint_at = entries;
+        SeatAnswerer { alloc, rt, seat }
     }
 
     /// The seat.
@@ -77,7 +62,6 @@ impl<N: RoomName, D: Drop, W: Drop> SeatAnswerer<N, D, W> {
             alloc: _,
             rt: _,
             seat,
-            checkpoint_at: _,
         } = self;
         seat
     }
@@ -88,19 +72,28 @@ impl<K: Keeper + Drop, N: RoomName, R: Wait + Drop, W: Wait + Drop> SeatAnswerer
     Lock<K, N, R>,
     W,
 > {
-    // What its seat answers. Fails only if memory runs out for the answer.
+    /// What its seat answers a message, behind which it makes a checkpoint if one is due at this pace. Fails only if memory runs out for the
+    /// answer.
+    pub fn answer_at<P: Pace>(
+        &mut self,
+        message: &Message,
+        pace: &P,
+    ) -> Result<Vec<Message>, AllocError>
+        ensures gives { IfOk result (λ answer. Gives N.opening self.old (seen_message message.now) (map seen_message answer.items) self.new) }
+        ensures whole { IfOk result (λ answer. IsAnswer (map seen_message answer.items)) }
+        ensures sees { SeesOn N.opening self.old self.new }
+    {
+        answer(self.alloc, &self.rt, &mut self.seat, message, pace)
+    }
+
+    // What its seat answers a message, where a checkpoint is made whenever 256 entries are kept. Fails only if memory runs out for the
+    // answer.
     pub(crate) fn told(&mut self, message: &Message) -> Result<Vec<Message>, AllocError>
         ensures gives { IfOk result (λ answer. Gives N.opening self.old (seen_message message.now) (map seen_message answer.items) self.new) }
         ensures whole { IfOk result (λ answer. IsAnswer (map seen_message answer.items)) }
         ensures sees { SeesOn N.opening self.old self.new }
     {
-        answer(
-            self.alloc,
-            &self.rt,
-            &mut self.seat,
-            message,
-            self.checkpoint_at,
-        )
+        self.answer_at(message, &EveryEntries(CHECKPOINT_AT))
     }
 }
 

@@ -9,35 +9,35 @@ use crate::requests::answer_request;
 use canvas_board::RoomName;
 use canvas_journal::Keeper;
 use canvas_judge::{Message, NoReason};
-use canvas_room::{Lock, Seat};
+use canvas_room::{Lock, Pace, Seat};
 use canvas_server::Request;
 use std::alloc::{AllocError, Global};
 use std::sync::Wait;
 
-/// How many entries stand after a checkpoint when the next one is made, where nobody says otherwise.
+/// How many entries are kept when a checkpoint is made, where nobody says otherwise; it keeps none of them.
 pub const CHECKPOINT_AT: u64 = 256;
 
 /// What a seat answers a client's message, in order: to a Join or an edit what became of it, to an Ask what came after the version that
 /// the client has, and to any other message a No for NotRead. The last message is a Welcome, an Idle or a No, and no other.
 ///
 /// A Join and an edit are submitted, which may wait for the room's lock. What was judged the seat has seen afterwards; then it makes a
-/// checkpoint where so many entries stand after the last one as `checkpoint_at` says, and whether that failed isn't told. An Ask waits
-/// for nobody; it is answered by at most 64 entries, or by a copy where a checkpoint has passed some entry after the client's version.
+/// checkpoint if one is due at this pace, and whether that failed isn't told. An Ask waits for nobody; it is answered by at most 64 entries,
+/// or by a copy where a checkpoint let go of some entry after the client's version.
 ///
 /// Fails only if memory runs out for the answer, and then nothing was submitted.
-pub fn answer<K: Keeper + Drop, N: RoomName, R: Wait + Drop, W: Wait>(
+pub fn answer<K: Keeper + Drop, N: RoomName, R: Wait + Drop, W: Wait, P: Pace>(
     alloc: Global,
     rt: &W,
     seat: &mut Seat<N, Lock<K, N, R>>,
     message: &Message,
-    checkpoint_at: u64,
+    pace: &P,
 ) -> Result<Vec<Message>, AllocError>
     ensures table { IfOk result (λ answer. IsAnswerTo N.opening seat.old (seen_message message.now) (map seen_message answer.items) seat.new) }
     ensures whole { IfOk result (λ answer. IsAnswer (map seen_message answer.items)) }
     ensures sees { SeesOn N.opening seat.old seat.new }
 {
     match message {
-        Message::Join => answer_request(alloc, rt, seat, &Request::Join, checkpoint_at),
+        Message::Join => answer_request(alloc, rt, seat, &Request::Join, pace),
         Message::Edit {
             client,
             seq,
@@ -50,7 +50,7 @@ pub fn answer<K: Keeper + Drop, N: RoomName, R: Wait + Drop, W: Wait>(
                 seq,
                 change,
             };
-            answer_request(alloc, rt, seat, &edit, checkpoint_at)
+            answer_request(alloc, rt, seat, &edit, pace)
         }
         Message::Ask { client, version } => answer_ask(alloc, seat, *client, *version),
         _ => alone(alloc, Message::No(NoReason::NotRead)),

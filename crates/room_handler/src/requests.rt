@@ -11,36 +11,36 @@ use canvas_board::{Receipt, RoomName};
 use canvas_desk::{Refusal, SubmitError};
 use canvas_journal::{KeepError, Keeper};
 use canvas_judge::{Entry, Message, NoReason, Outcome, What};
-use canvas_room::{Lock, Seat};
+use canvas_room::{Lock, Pace, Seat};
 use canvas_server::Request;
 use std::alloc::{AllocError, Global};
 use std::sync::Wait;
 
 /// The answer to a request: a Welcome where it was a Join, Idle where it was an edit that is judged, now or before, and otherwise a No
 /// with the number of the `SubmitError`. It may wait for the room's lock. Fails only if memory runs out, and then nothing was
-/// asked of the room. Behind an answer a checkpoint is made where so many entries stand after the last one.
-pub fn answer_request<K: Keeper + Drop, N: RoomName, R: Wait + Drop, W: Wait>(
+/// asked of the room. Behind an answer a checkpoint is made if one is due at this pace.
+pub fn answer_request<K: Keeper + Drop, N: RoomName, R: Wait + Drop, W: Wait, P: Pace>(
     alloc: Global,
     rt: &W,
     seat: &mut Seat<N, Lock<K, N, R>>,
     request: &Request,
-    checkpoint_at: u64,
+    pace: &P,
 ) -> Result<Vec<Message>, AllocError>
     ensures answers { IfOk result (λ answer. AnswersRequest N.opening (seen_request request.now) seat.old (map seen_message answer.items) seat.new) }
     ensures sees { SeesOn N.opening seat.old seat.new }
 {
     let mut answer = Vec::with_capacity(alloc, 1)?;
-    let message = submit(rt, seat, request, checkpoint_at);
+    let message = submit(rt, seat, request, pace);
     answer.push_reserved(message);
     Ok(answer)
 }
 
 // Has a request judged, and says what became of it.
-fn submit<K: Keeper + Drop, N: RoomName, R: Wait + Drop, W: Wait>(
+fn submit<K: Keeper + Drop, N: RoomName, R: Wait + Drop, W: Wait, P: Pace>(
     rt: &W,
     seat: &mut Seat<N, Lock<K, N, R>>,
     request: &Request,
-    checkpoint_at: u64,
+    pace: &P,
 ) -> Message
     ensures says { SaysOf N.opening (seen_request request.now) seat.old (seen_message result) seat.new }
     ensures sees { SeesOn N.opening seat.old seat.new }
@@ -48,25 +48,25 @@ fn submit<K: Keeper + Drop, N: RoomName, R: Wait + Drop, W: Wait>(
     match seat.submit(rt, request) {
         Ok(receipt) => {
             let message = judged(receipt.entry());
-            take_in(rt, seat, receipt, checkpoint_at);
+            take_in(rt, seat, receipt, pace);
             message
         }
         Err(error) => refused(error),
     }
 }
 
-// Learns a receipt; then makes a checkpoint where it is time for one, and whether that failed isn't told.
-fn take_in<K: Keeper + Drop, N: RoomName, R: Wait + Drop, W: Wait>(
+// Learns a receipt; then makes a checkpoint if one is due, and whether that failed isn't told.
+fn take_in<K: Keeper + Drop, N: RoomName, R: Wait + Drop, W: Wait, P: Pace>(
     rt: &W,
     seat: &mut Seat<N, Lock<K, N, R>>,
     receipt: Receipt<N>,
-    checkpoint_at: u64,
+    pace: &P,
 )
     ensures learned { IsPrefix receipt.history seat.new }
     ensures sees { Sees N.opening seat.old seat.new }
 {
     seat.learn(receipt);
-    let _ = seat.tidy(rt, checkpoint_at);
+    let _ = seat.tidy_at(rt, pace);
 }
 
 // What is answered where this entry was judged: the id to a Join, and Idle to an edit.

@@ -5,7 +5,7 @@ use canvas_board::RoomName;
 use canvas_journal::Keeper;
 use canvas_judge::Message;
 use canvas_nodes::Answerer;
-use canvas_room::{BlankRoom, Room};
+use canvas_room::{BlankRoom, EveryEntries, Room};
 use canvas_sockets::serve_one;
 use canvas_wire::{decode, encode};
 use memory_sockets::{heard, sent, socket};
@@ -97,7 +97,7 @@ fn answered<K: Keeper + Drop, N: RoomName, Q: Wait + Drop, W: Wait>(
     line: &str,
 ) -> Result<Vec<Message>, Fail> {
     let message = decode(alloc, alloc, line.as_bytes())?;
-    Ok(answer(alloc, rt, seat, &message, CHECKPOINT_AT)?)
+    Ok(answer(alloc, rt, seat, &message, &EveryEntries(CHECKPOINT_AT))?)
 }
 
 // The same, noted.

@@ -12,6 +12,6 @@ returns g c honest seen begins left was =
     (record { is_honest = honest; runs = c.requires.alive; kept = c.keeper-keeper.ensures.kept c.requires.alive honest; legal = c.due-due.ensures.legal }) (
       c.submit_many-answers.new.self,
       (c.args.desk.now, refl, inl (record { stays_failed = batch.failed; stays_honest = batch.honest; crash = batch.crash })),
-      inr (refl, (c.checkpoint-answer.result, record { ok = floor.ok; refused = floor.refused; stays_failed = floor.failed; stays_honest = floor.honest; crash = floor.crash })),
+      inr (refl, (c.checkpoint-answer.result, inl (record { ok = floor.ok; refused = floor.refused; stays_failed = floor.failed; stays_honest = floor.honest; crash = floor.crash }))),
     )
     begins was
