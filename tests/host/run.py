@@ -17,6 +17,8 @@ own; only the named groups, where some are named.
 - copies: 63 clients ask for a copy of 10 MB at once, as after a restart, while one edits: all have it, stay, and edit; the memory goes back
   while they are there. One that reads nothing of its copy loses its connection. (Figures: the memory above the document, the longest edit,
   and the seconds.)
+- pace: a client that is up to 255 entries late at a checkpoint is told entries, and no copy. A document of 20 large values isn't written again for
+  600 small edits. One value that is set again and again, 1 MiB each time, takes little memory.
 - pieces: a client asks for a large copy and begins an edit in the same write, cut at each byte in turn; also where the edit comes in two frames
   with a ping between them, and behind a large edit. Nothing is lost where the server lets go of what a large message took.
 - large: a document of 100 MB is imported, served, and copied to a client in one message.
@@ -563,6 +565,51 @@ def copies(room):
             f"the longest edit {longest[0] * 1000:.0f} ms")
 
 
+def number_of(server, name):
+    """What a server counts under this name."""
+    return int(re.search(rf"(?m)^lugcurrant_{name} ([0-9]+)$", server.get("/metrics")[2].decode()).group(1))
+
+
+def pace(room):
+    os.makedirs(room)
+    server = Server(os.path.join(room, "late"), "--quiet")
+    client, late = Client(server.port), Client(server.port)
+    name, other = client.join(), late.join()
+    require(client.ask("edit", name, 1, page(name, 1)) == [["idle"]], "an edit isn't judged")
+    for number in range(2, 1101):
+        require(client.ask("edit", name, number, ["set", [name, 1], "count", number]) == [["idle"]], "an edit isn't judged")
+        if number % 50 == 0 and number > 255:
+            answer = late.ask("ask", other, number + 2 - 255)
+            require(answer[0][0] == "entry" and len(answer) == 65, "a client that is 255 entries late is told", answer[0][0], len(answer) - 1)
+    made, tail = number_of(server, "checkpoints_total"), late.ask("ask", other, 2)
+    require(3 <= made <= 4, "of 1,102 entries so many checkpoints are made:", made)
+    require(tail[0][0] == "copy", "a client that is 1,100 entries late is told", tail[0][0])
+    server.kill()
+    server = Server(os.path.join(room, "large"), "--message-bytes", "4194304", "--quiet")
+    client = Client(server.port)
+    name = client.join()
+    for number in range(1, 21):
+        require(client.ask("edit", name, 2 * number - 1, page(name, number)) == [["idle"]], "an edit isn't judged")
+        require(client.ask("edit", name, 2 * number, ["set", [name, number], "text", "a" * (1 << 20)]) == [["idle"]], "an edit isn't judged")
+    before = number_of(server, "checkpoints_total")
+    require(1 <= before <= 10, "of 20 MB so many checkpoints are made:", before)
+    for number in range(41, 641):
+        require(client.ask("edit", name, number, ["set", [name, 1], "count", number]) == [["idle"]], "an edit isn't judged")
+    after = number_of(server, "checkpoints_total")
+    require(after == before, "for 600 small edits 20 MB are written again so many times:", after - before)
+    server.kill()
+    server = Server(os.path.join(room, "again"), "--message-bytes", "4194304", "--quiet")
+    client = Client(server.port)
+    name = client.join()
+    require(client.ask("edit", name, 1, page(name, 1)) == [["idle"]], "an edit isn't judged")
+    for number in range(2, 202):
+        require(client.ask("edit", name, number, ["set", [name, 1], "text", "a" * (1 << 20)]) == [["idle"]], "an edit isn't judged")
+    memory = server.memory() // 1024
+    require(memory < 100, "a value of 1 MiB that is set 200 times takes so many MB:", memory)
+    server.kill()
+    return f"{made} checkpoints of 1,102 entries, {before} of 20 MB, none for 600 small edits; 200 values of 1 MiB in the place of one: {memory} MB"
+
+
 def two_frames(payload):
     """A message in two frames, with a ping between them."""
     half = len(payload) // 2
@@ -691,9 +738,9 @@ def refusals(server):
 
 
 def counting(client, name, numbers):
-    """Has a client edit under these numbers."""
+    """Has a client edit under these numbers, in entries of some 130 bytes."""
     for number in numbers:
-        require(client.ask("edit", name, number, ["set", [0, 0], "count", number]) == [["idle"]], "edit", number, "isn't answered")
+        require(client.ask("edit", name, number, ["set", [0, 0], "count", f"{number}{'.' * 75}"]) == [["idle"]], "edit", number, "isn't answered")
 
 
 def space(room):
@@ -712,6 +759,10 @@ def space(room):
         server.kill()
         size = os.path.getsize(os.path.join(room, highest(room)))
         started = starts_without_room(small, room, size)
+        # 256 entries are as long as this document, so that a checkpoint is made after each 256.
+        os.truncate(os.path.join(small, "filler"), 0)
+        room = os.path.join(small, "other")
+        call("import", room, text=("\n".join(lines[:11]) + "\n").encode())
         served = runs_without_room(small, room, os.path.join(above, "log"))
         return f"a document of {size} bytes: {started}; {served}"
     finally:
@@ -728,21 +779,22 @@ def starts_without_room(small, room, size):
     # The new segment can't be written for another reason: there is room for a part of it alone.
     limit = {"preexec_fn": lambda: resource.setrlimit(resource.RLIMIT_FSIZE, (size // 2, size // 2)), "restore_signals": False}
     refused_starts(room, 3, 4, f"the folder {room} can't be read and written: .*\n", **limit)
-    # A server that was killed leaves its scratch file, and the next one removes it.
-    with open(os.path.join(room, ".space"), "wb") as scratch:
-        scratch.write(bytes(1000))
     os.truncate(os.path.join(small, "filler"), filled - missing - 16384)
     os.posix_fallocate(os.open(os.path.join(small, "filler"), os.O_RDWR), 0, filled - missing - 16384)
+    Server(room, "--quiet", log=os.path.join(os.path.dirname(small), "started")).kill()
     return f"{STARTS} starts on a full disk say that {missing} are missing"
 
 
 def runs_without_room(small, room, log):
+    # A server that was killed leaves its scratch file, and the next one removes it.
+    with open(os.path.join(room, ".space"), "wb") as scratch:
+        scratch.write(bytes(1000))
     server = Server(room, "--quiet", log=log)
     client = Client(server.port)
     name = client.join()
     require(not os.path.exists(os.path.join(room, ".space")), "the scratch file that was left is still there")
     line = f"no room for a checkpoint of {room}: (\\d+) bytes are missing; free them, edits go on meanwhile"
-    fill(small, 200000)
+    fill(small, 140000)
     counting(client, name, range(1, 300))
     counts, told = refusals(server)
     require(counts == (0, 1) and len(told) == 1 and re.fullmatch(line, told[0]), counts, told)
@@ -752,7 +804,7 @@ def runs_without_room(small, room, log):
     os.truncate(os.path.join(small, "filler"), 0)
     counting(client, name, range(600, 900))
     require(refusals(server) == ((1, 2), told), "with room:", refusals(server))
-    fill(small, 200000)
+    fill(small, 140000)
     counting(client, name, range(900, 1200))
     counts, told = refusals(server)
     require(counts == (1, 3) and len(told) == 2 and re.fullmatch(line, told[1]), counts, told)
@@ -770,7 +822,7 @@ def runs_without_room(small, room, log):
     counting(client, name, range(1800, 2100))
     require(refusals(server) == ((3, 5), told), "with open files:", refusals(server))
     server.kill()
-    require(".count 2099\n" in shown(room), "the last edit isn't there")
+    require(f'.count "2099{"." * 75}"' in shown(room), "the last edit isn't there")
     return "2099 edits, 3 checkpoints, 3 without room and 2 without an open file"
 
 
@@ -1420,7 +1472,7 @@ def coming(room):
     return f"{served[0]} clients in {SECONDS:.0f} s, none refused, memory {before} kB after a third, {after} kB at the end"
 
 
-GROUPS = (reuse, full, quiet, pages, origins, identity, kills, figures, sizes, copies, pieces, large, disk, space, sentences, rights, rows, restored, whole, lost, torn, gone, moved, checked, served,
+GROUPS = (reuse, full, quiet, pages, origins, identity, kills, figures, sizes, copies, pace, pieces, large, disk, space, sentences, rights, rows, restored, whole, lost, torn, gone, moved, checked, served,
           memory, coming)
 
 sys.exit(try_groups(GROUPS, NAMES))
