@@ -1,6 +1,7 @@
 // The client: passes numbers and bytes to the WebAssembly module of the proved client, and keeps the tree's objects as it read them.
 // All merging is done by the module.
 import { FAULTS, HEARD, KINDS, NUMBERS } from './api.js';
+import { NO_CHILDREN, Signals } from './signals.js';
 
 export const ROOT = '0:0';
 const { DONE, NOT_SHOWN, MEMORY, NONE, NO } = NUMBERS;
@@ -92,7 +93,7 @@ export async function compile(source) {
 }
 
 export class Client {
-  #calls; #handle; #made; #buffer; #room; #shown; #watchers = new Set(); #savedTo = 0;
+  #calls; #handle; #made; #buffer; #room; #shown; #watchers = new Set(); #savedTo = 0; #signals = null;
 
   // Where the module is found if `load` is given none: the package's entry for node or browsers says so.
   static defaultModule = null;
@@ -142,7 +143,16 @@ export class Client {
   // Calls `told` with 'edit' after each edit, with 'took' and its bytes after each message that was taken, and with 'anew' after `become`.
   // Answers a function that ends it.
   watch(told) { this.#watchers.add(told); return () => this.#watchers.delete(told); }
-  #tell(what, bytes) { for (const told of this.#watchers) told(what, bytes); }
+  #tell(what, bytes) {
+    for (const told of this.#watchers) told(what, bytes);
+    this.#signals?.soon();
+  }
+
+  // What a program listens to: the document, one object, the children of one (signals.js).
+  get signals() {
+    this.#signals ??= new Signals(this.#shown);
+    return this.#signals;
+  }
 
   // Ends the client, with all that waits.
   free() { this.#need(this.#calls.lugcurrant_free(this.#handle)); this.#shown.touchAll(); }
@@ -210,11 +220,13 @@ export class Client {
     both.set(second, first.length);
     const [at] = this.#write(both), begin = BigInt(first.length);
     this.#edited(id, this.#calls.lugcurrant_set(this.#handle, client, counter, at, begin, at + begin, BigInt(second.length)));
+    this.#signals?.wasSet(id);
   }
 
   clear(id, name) {
     const [client, counter] = numbersOf(id), [at, length] = this.#write(bytesOf(name));
     this.#edited(id, this.#calls.lugcurrant_clear(this.#handle, client, counter, at, length));
+    this.#signals?.wasSet(id);
   }
 
   // Moves the object into the parent, behind its child `after` or as the first.
@@ -313,12 +325,16 @@ export class Client {
   }
 }
 
-// The objects of the tree of a client, as they were when they were read last. An object is never altered: what changes is another one.
+// The objects of the tree of a client, as they were when they were read last. An object is never altered: what changes is another one, and what is
+// read again and hasn't changed stays the same one, as do its children's ids.
 class Shown {
   #read; #objects = new Map(); #isAll = true;
   #touched = new Set();             // what may have changed since
   #stale = new Set();               // the objects of which the children are to be read
   #before = new Map();              // what has changed since the last `take`, as it was then, or null
+  #reread = new Map();              // what this update has read, as it was before, or null
+  #news = null;                     // what has changed since the last `takeNews`, and whether its children have; while there are listeners
+  #copy = null;                     // the objects as a Map that stays as it is
 
   constructor(read) { this.#read = read; }
 
@@ -329,7 +345,58 @@ class Shown {
     if (this.#isAll) this.#readAll();
     for (const id of this.#touched) { this.#refresh(id); this.#touched.delete(id); }
     for (const id of this.#stale) { this.#list(id); this.#stale.delete(id); }
+    this.#settle();
     return this.#objects;
+  }
+
+  // Keeps the former object if the new one is the same, and the former list of its children if that is the same.
+  #settle() {
+    for (const [id, was] of this.#reread) {
+      const now = this.#objects.get(id) ?? null;
+      if (was === now) continue;
+      if (was && now && isSameList(was.children, now.children)) now.children = was.children;
+      if (was && now && isSame(was, now)) { this.#objects.set(id, was); continue; }
+      this.#copy = null;
+      if (this.#news) this.#news.set(id, this.#news.get(id) || (was?.children ?? NO_CHILDREN) !== (now?.children ?? NO_CHILDREN));
+    }
+    this.#reread.clear();
+  }
+
+  // The objects as a Map of their own, the same one until something changes.
+  snapshot() {
+    const objects = this.update();
+    this.#copy ??= new Map(objects);
+    return this.#copy;
+  }
+
+  // From now on what changes is noted for `takeNews`; or no longer.
+  listen(isListening) {
+    this.#news = null;
+    if (!isListening) return;
+    this.#tryUpdate();
+    this.#news = new Map();
+  }
+
+  // What has changed since the last call: each id with its object as it is, or null, and whether its children have changed. What is as before again is
+  // among them: somebody may have seen it between. What can't be read now, as memory has run out or the client was freed, is in a later call.
+  takeNews() {
+    if (!this.#tryUpdate()) return [];
+    const news = [...this.#news].map(([id, hasOthers]) => ({ id, now: this.#objects.get(id) ?? null, hasOthers }));
+    this.#news.clear();
+    return news;
+  }
+
+  // Reads what has changed; whether it could.
+  #tryUpdate() {
+    try { this.update(); return true; } catch (fault) {
+      if (!(fault instanceof ClientError)) throw fault;
+      return false;
+    }
+  }
+
+  // These news as `take` gives them.
+  changesOf(news) {
+    return { put: this.#inOrder(news.filter(({ now }) => now).map(({ now }) => now)), gone: news.filter(({ now }) => !now).map(({ id }) => id) };
   }
 
   take() {
@@ -352,7 +419,11 @@ class Shown {
   }
 
   // Notes how the object was, before it changes.
-  #keep(id) { if (!this.#before.has(id)) this.#before.set(id, this.#objects.get(id) ?? null); }
+  #keep(id) {
+    const was = this.#objects.get(id) ?? null;
+    if (!this.#before.has(id)) this.#before.set(id, was);
+    if (!this.#reread.has(id)) this.#reread.set(id, was);
+  }
 
   // An object that may have come into the tree, changed in it, or gone from it with what is below it.
   #refresh(id) {
@@ -364,7 +435,7 @@ class Shown {
   #load(id) {
     const was = this.#objects.get(id), now = this.#read.object(id);
     this.#keep(id);
-    this.#objects.set(id, { ...now, children: was?.children ?? [] });
+    this.#objects.set(id, { ...now, children: was?.children ?? NO_CHILDREN });
     if (!was) this.#stale.add(id);
     if (was && was.parent === now.parent && was.position === now.position) return;
     for (const parent of [was?.parent, now.parent]) if (parent) this.#stale.add(parent);
@@ -373,7 +444,7 @@ class Shown {
   // Reads the children of an object, and of these the ones that weren't known to be its children.
   #list(id) {
     if (!this.#objects.has(id)) return;
-    const children = this.#read.children(id);
+    const read = this.#read.children(id), children = read.length ? read : NO_CHILDREN;
     for (const child of children) if (this.#objects.get(child)?.parent !== id) this.#load(child);
     this.#keep(id);
     this.#objects.set(id, { ...this.#objects.get(id), children });
@@ -402,8 +473,20 @@ class Shown {
   }
 }
 
+// Whether two objects of one id, or two values, are the same. Of values of other types 1 and true, or 1 and 1n, never are.
 function isSame(a, b) {
-  const words = ({ kind, parent, position, properties, children }) =>
-    JSON.stringify([kind, parent, position, Object.entries(properties).map(([name, value]) => [name, valueText(value)]), children]);
-  return words(a) === words(b);
+  return a.kind === b.kind && a.parent === b.parent && a.position === b.position && isSameList(a.children, b.children) && isSameProperties(a.properties, b.properties);
 }
+
+function isSameProperties(a, b) {
+  const names = Object.keys(a);
+  return names.length === Object.keys(b).length && names.every((name) => name in b && isSameValue(a[name], b[name]));
+}
+
+function isSameValue(a, b) {
+  if (a instanceof Colour) return b instanceof Colour && a.rgba === b.rgba;
+  if (Array.isArray(a)) return Array.isArray(b) && a.length === b.length && a.every((it, k) => isSameValue(it, b[k]));
+  return a === b;
+}
+
+const isSameList = (a, b) => a === b || (a.length === b.length && a.every((id, k) => id === b[k]));

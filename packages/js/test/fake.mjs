@@ -1,12 +1,13 @@
 // A made-up server with the rules of docs/rules.md, and a client by the simple merge of docs/clients.md, both in plain JavaScript. They share no
 // code with the programs. Ids are texts here, and a document is a Map of objects by them.
-const BEARS = { document: ['page'], page: ['frame', 'shape', 'text'], frame: ['frame', 'shape', 'text'], shape: [], text: [] };
-const word = (id) => id.join(':'), ids = (text) => text.split(':').map(Number);
+export const BEARS = { document: ['page'], page: ['frame', 'shape', 'text'], frame: ['frame', 'shape', 'text'], shape: [], text: [] };
+export const word = (id) => id.join(':');
+const ids = (text) => text.split(':').map(Number);
 const LONGEST = 128, DEEPEST = 100;
 
 const newDoc = () => new Map([['0:0', { kind: 'document', place: null, props: new Map() }]]);
 const copyDoc = (doc) => new Map([...doc].map(([id, o]) => [id, { kind: o.kind, place: o.place, props: new Map(o.props) }]));
-const parentOf = (o) => o.place && word(o.place[0]);
+export const parentOf = (o) => o.place && word(o.place[0]);
 
 function numberOf(position, digits) {
   let n = 0n;
@@ -25,15 +26,15 @@ export function middle(low, high) {
   return null;
 }
 
-function below(doc, id) {
+export function below(doc, id) {
   const kids = new Map();
   for (const [name, o] of doc) if (o.place) { const p = parentOf(o); if (!kids.has(p)) kids.set(p, []); kids.get(p).push(name); }
   const found = [id];
   for (let k = 0; k < found.length; k += 1) found.push(...(kids.get(found[k]) ?? []));
   return found;
 }
-function depth(doc, id) { let n = 0; for (let at = id; at !== '0:0'; at = parentOf(doc.get(at))) n += 1; return n; }
-function height(doc, id) { const all = below(doc, id), base = depth(doc, id); return Math.max(...all.map((x) => depth(doc, x) - base)); }
+export function depth(doc, id) { let n = 0; for (let at = id; at !== '0:0'; at = parentOf(doc.get(at))) n += 1; return n; }
+export function height(doc, id) { const all = below(doc, id), base = depth(doc, id); return Math.max(...all.map((x) => depth(doc, x) - base)); }
 function free(doc, parent, position, except) {
   const taken = [...doc].filter(([id, o]) => o.place && parentOf(o) === parent && id !== except).map(([, o]) => o.place[1]);
   if (!taken.includes(position)) return position;
@@ -196,3 +197,16 @@ export class Plain {
   // The tree of the view: what no chain of parents leads to from the root isn't in it.
   text() { return treeText(this.view()); }
 }
+
+// A WebSocket class whose connections lead to a made-up server, and end after a No.
+export const socketsTo = (fake) => class {
+  readyState = 0;
+  constructor() { setTimeout(() => { this.readyState = 1; this.onopen(); }); }
+  send(bytes) {
+    for (const answer of this.readyState === 1 ? fake.answer(Buffer.from(bytes).toString()) : []) {
+      setTimeout(() => this.onmessage({ data: Buffer.from(answer) }));
+      if (answer.startsWith('["no",')) this.close();
+    }
+  }
+  close() { this.readyState = 3; setTimeout(() => this.onclose()); }
+};

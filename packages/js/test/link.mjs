@@ -13,7 +13,7 @@ import { fileURLToPath } from 'node:url';
 import { Client, Kept, Link, ROOT, shelfOfFile } from '../src/node.js';
 import { Server, endAfter } from '../../../tests/web/server.mjs';
 import { Browser, sleep, until } from '../../../tests/web/devtools.mjs';
-import { FakeServer } from './fake.mjs';
+import { FakeServer, socketsTo } from './fake.mjs';
 
 endAfter(200);
 const server = await Server.start(process.argv[2], { words: ['--clients', '3'] });
@@ -217,19 +217,6 @@ async function otherOrigin(first) {
   await browser.end();
   site.close();
 }
-
-// A WebSocket class whose connections lead to a made-up server, and end after a No.
-const socketsTo = (fake) => class {
-  readyState = 0;
-  constructor() { setTimeout(() => { this.readyState = 1; this.onopen(); }); }
-  send(bytes) {
-    for (const answer of this.readyState === 1 ? fake.answer(Buffer.from(bytes).toString()) : []) {
-      setTimeout(() => this.onmessage({ data: Buffer.from(answer) }));
-      if (answer.startsWith('["no",')) this.close();
-    }
-  }
-  close() { this.readyState = 3; setTimeout(() => this.onclose()); }
-};
 
 // The connection ends right after the No to an edit. The edit is lost for the reason of that No, whatever the state is on the next connection.
 async function takenOutLater() {

@@ -119,6 +119,48 @@ export declare class Client {
   become(other: Client): void;
   /** Calls `told` after each edit, each message that was taken, and each `become`. Answers a function that ends it. */
   watch(told: (what: 'edit' | 'took' | 'anew', bytes: Uint8Array | string | null) => void): () => void;
+  /** What a program listens to: the document, one object, or the children of one. */
+  readonly signals: Signals;
+}
+
+/** The event `changed` of a signal. */
+export interface ChangedEvent<Detail> extends Event {
+  readonly type: 'changed';
+  /** The new value; of the whole document, what has changed. */
+  readonly detail: Detail;
+}
+
+type Listener<E> = ((event: E) => void) | { handleEvent(event: E): void };
+
+/**
+ * A part of the document to listen to. An event `changed` comes once the program has made all its edits of a turn, or a message of the server was
+ * taken; but at once after a property was set or cleared of an object whose signal has a listener.
+ */
+export declare class Signal<Value, Detail = Value> extends EventTarget {
+  private constructor();
+  /** The value that the client shows now: the same one as before if it hasn't changed. */
+  readonly value: Value;
+  /** Calls `act` with the detail of each event, and returns a function that ends it. It needs no `this`. */
+  readonly subscribe: (act: (detail: Detail) => void) => () => void;
+  /** Adds a listener: for `changed`, one of the part's changes. */
+  addEventListener(type: 'changed', act: Listener<ChangedEvent<Detail>> | null, options?: boolean | AddEventListenerOptions): void;
+  addEventListener(type: string, act: EventListenerOrEventListenerObject | null, options?: boolean | AddEventListenerOptions): void;
+  /** Removes it. */
+  removeEventListener(type: 'changed', act: Listener<ChangedEvent<Detail>> | null, options?: boolean | EventListenerOptions): void;
+  removeEventListener(type: string, act: EventListenerOrEventListenerObject | null, options?: boolean | EventListenerOptions): void;
+}
+
+/** The signals of a client: `client.signals`. */
+export declare class Signals {
+  private constructor();
+  /** The whole document: its objects by their ids, as a Map that stays as it is. An event has what `changed()` of the client returns. */
+  readonly document: Signal<ReadonlyMap<ObjectId, CanvasObject>, Changes>;
+  /** An object of the tree, with its properties and its children's ids; null while it isn't in the tree. */
+  object(id: ObjectId): Signal<CanvasObject | null>;
+  /** The ids of an object's children, in their order; none if it isn't in the tree. */
+  children(id: ObjectId): Signal<readonly ObjectId[]>;
+  /** How many signals have a listener. */
+  readonly size: number;
 }
 
 export interface Changes { put: CanvasObject[]; gone: ObjectId[] }
@@ -132,7 +174,27 @@ export interface LostEdit { change: string; code: string }
 export interface UnsureEdit { change: string }
 export interface Anew { made: number; lost: LostEdit[]; unsure: UnsureEdit[]; ids: ReadonlyMap<ObjectId, ObjectId> }
 
-export interface LinkEvents { state: Link; change: boolean; refused: Refusal; anew: Anew; settled: Link; unsent: number }
+/** The events of a link, and what each has in `detail`. */
+export interface LinkEvents {
+  /** The state or its words are others. */
+  state: Link;
+  /** The document may have changed: true after own edits, false after a message of the server. */
+  change: boolean;
+  /** The server refused an own edit. */
+  refused: Refusal;
+  /** The client has become another one, and its edits were made again. */
+  anew: Anew;
+  /** Nothing waits any more, and what there is was heard. */
+  settled: Link;
+  /** The number of edits that the server hasn't acknowledged is another one. */
+  unsent: number;
+}
+
+/** An event of a link. */
+export interface LinkEvent<Detail> extends Event {
+  /** What belongs to the event. */
+  readonly detail: Detail;
+}
 
 export interface FlowOptions {
   /** Edits under way at once, and their bytes. */
@@ -186,7 +248,14 @@ export declare class Link extends EventTarget {
   /** Whether edits would be lost if the program ended now. */
   readonly isLosing: boolean;
   offline: boolean;
+  /** Calls `act` with the detail of each event of this name, and returns a function that ends it. */
   on<K extends keyof LinkEvents>(name: K, act: (detail: LinkEvents[K]) => void): () => void;
+  /** Adds a listener, whose event has the detail that `on` gives. */
+  addEventListener<K extends keyof LinkEvents>(name: K, act: Listener<LinkEvent<LinkEvents[K]>> | null, options?: boolean | AddEventListenerOptions): void;
+  addEventListener(name: string, act: EventListenerOrEventListenerObject | null, options?: boolean | AddEventListenerOptions): void;
+  /** Removes it. */
+  removeEventListener<K extends keyof LinkEvents>(name: K, act: Listener<LinkEvent<LinkEvents[K]>> | null, options?: boolean | EventListenerOptions): void;
+  removeEventListener(name: string, act: EventListenerOrEventListenerObject | null, options?: boolean | EventListenerOptions): void;
   /** The changes of the tree, until the link is closed. */
   changes(): AsyncGenerator<Changes>;
   /** When nothing waits, and what there is was heard. */
