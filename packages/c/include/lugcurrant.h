@@ -220,6 +220,13 @@ static inline const char *lugcurrant_fault_sentence(uint32_t number)
 }
 /* api.json: end */
 
+/* Returns the version of the library that is loaded, in the form of LUGCURRANT_VERSION_NUMBER. It is that of the header with which packages/c/build made
+ * the library, and no call of the proved client. */
+uint32_t lugcurrant_library_version(void);
+
+/* Checks whether the library that is loaded and this header are of one version: their major and minor numbers are the same. */
+#define LUGCURRANT_LIBRARY_MATCHES() (lugcurrant_library_version() / 100 == LUGCURRANT_VERSION_NUMBER / 100)
+
 /* Why an edit is refused: the first that holds, in the order NOT_OPEN, IS_ROOT, NOT_SHOWN, PARENT_NOT_SHOWN, BAD_PARENT, OWN_DESCENDANT,
  * TOO_DEEP, CROWDED, IDS_SPENT, FULL; at a position that is named TAKEN stands in the place of CROWDED, and at an end CROWDED is looked for
  * first, and TAKEN never comes. MEMORY comes before every other reason. Of bytes: NOT_A_CLIENT comes before OUT_OF_RANGE. */

@@ -1,6 +1,6 @@
 // The client: passes numbers and bytes to the WebAssembly module of the proved client, and keeps the tree's objects as it read them.
 // All merging is done by the module.
-import { FAULTS, HEARD, KINDS, NUMBERS } from './api.js';
+import { FAULTS, HEARD, KINDS, NUMBERS, VERSION } from './api.js';
 import { NO_CHILDREN, Signals } from './signals.js';
 
 export const ROOT = '0:0';
@@ -92,6 +92,15 @@ export async function compile(source) {
   return WebAssembly.compileStreaming(given);
 }
 
+// Checks that the module has this package's major and minor version, which packages/wasm/build writes into a section of it. A module that was built
+// before it had a version is taken.
+function checkVersion(module) {
+  const [section] = WebAssembly.Module.customSections(module, 'lugcurrant.version');
+  if (!section) return;
+  const found = fromUtf8.decode(section), minor = (version) => version.split('.').slice(0, 2).join('.');
+  if (minor(found) !== minor(VERSION)) throw new Error(`cannot use canvas.wasm: it has version ${found}, and this package ${VERSION}; take both from one build (packages/wasm/build)`);
+}
+
 export class Client {
   #calls; #handle; #made; #buffer; #room; #shown; #watchers = new Set(); #savedTo = 0; #signals = null;
 
@@ -103,7 +112,9 @@ export class Client {
   static async load(source = null, saved = null) {
     const module = source ?? Client.defaultModule?.();
     if (!module) throw new TypeError('Client.load needs the module canvas.wasm: its bytes, the answer to a request for it, or the compiled module');
-    return new Client((await WebAssembly.instantiate(await compile(module), {})).exports, saved);
+    const compiled = await compile(module);
+    checkVersion(compiled);
+    return new Client((await WebAssembly.instantiate(compiled, {})).exports, saved);
   }
 
   constructor(exports, saved = null) {

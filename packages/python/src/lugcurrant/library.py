@@ -5,7 +5,7 @@ import os
 from pathlib import Path
 from typing import Any
 
-from ._api import CALLS, FAULTS, Handle
+from ._api import CALLS, FAULTS, VERSION, Handle
 
 BUILD = "packages/c/build --unproved makes it, and packages/python/build a wheel with it; or name it in the variable LUGCURRANT_LIBRARY"
 
@@ -32,6 +32,7 @@ class Library:
             loaded = ctypes.CDLL(path)
         except OSError as fault:
             raise LibraryMissing(f"the library {path} can't be loaded ({fault}): {BUILD}") from None
+        self._check_version(path, loaded)
         self._calls: dict[str, Any] = {}
         for name, (result, arguments) in CALLS.items():
             call = getattr(loaded, "lugcurrant_" + name, None)
@@ -40,6 +41,18 @@ class Library:
             call.restype = result
             call.argtypes = [ctypes.POINTER(Handle), *arguments]
             self._calls[name] = call
+
+    @staticmethod
+    def _check_version(path: str, loaded: Any) -> None:
+        """Checks that the library has this package's major and minor version. A library that was built before it had a version is taken."""
+        call = getattr(loaded, "lugcurrant_library_version", None)
+        if call is None:
+            return
+        call.restype = ctypes.c_uint32
+        number = call()
+        found = f"{number // 10000}.{number // 100 % 100}.{number % 100}"
+        if found.split(".")[:2] != VERSION.split(".")[:2]:
+            raise LibraryMissing(f"cannot use the library {path}: it has version {found}, and this package {VERSION}; {BUILD}")
 
     def __call__(self, name: str, handle: Handle, *arguments: object) -> int:
         """What the call of this name answers."""
