@@ -143,6 +143,7 @@ static inline const char *lugcurrant_refusal_sentence(uint32_t number)
 }
 /* api.json: end */
 
+/* A flow: made by lugcurrant_flow_new. Its fields are the library's. */
 typedef struct lugcurrant_flow lugcurrant_flow;
 
 /* How a flow behaves. A field that is 0 has the value that its comment ends with. */
@@ -192,11 +193,11 @@ typedef struct lugcurrant_flow_event {
 
     uint64_t made;                         /* ANEW: how many edits were made again, and wait now */
     const lugcurrant_flow_edit *lost;      /* ANEW: those that could not be */
-    size_t lost_count;
+    size_t lost_count;                     /* ANEW: their number */
     const lugcurrant_flow_edit *unsure;    /* ANEW: those that may have been judged or not, and that the document doesn't show; no code */
-    size_t unsure_count;
+    size_t unsure_count;                   /* ANEW: their number */
     const lugcurrant_flow_new_id *ids;     /* ANEW: the objects that have another id, by their former ids */
-    size_t ids_count;
+    size_t ids_count;                      /* ANEW: their number */
 } lugcurrant_flow_event;
 
 /* Makes a flow for the client, without a connection, in the state LUGCURRANT_STATE_CONNECTING. `options` may be null. The program frees it

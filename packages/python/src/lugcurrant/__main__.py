@@ -8,6 +8,7 @@ from .link import Link
 
 
 async def show(url: str) -> int:
+    """Prints the tree of the document at this URL after each change, until the link has ended."""
     link = Link(Client(), url, state=lambda link: print(f"-- {link.state.value}{': ' + link.words if link.words else ''}", flush=True))
     running = asyncio.create_task(link.run())
     async for _ in link.changes():
@@ -18,6 +19,7 @@ async def show(url: str) -> int:
 
 
 def main() -> int:
+    """Runs the program, and returns its status."""
     word = sys.argv[1] if len(sys.argv) > 1 else "7411"
     try:
         return asyncio.run(show(word if "://" in word else f"ws://127.0.0.1:{word}/"))

@@ -168,7 +168,7 @@ class Handle(ctypes.Structure):
 
 
 class MadeId(ctypes.Structure):
-    """The id of an object that was created."""
+    """The id of an object that was created: `client` and `counter`."""
 
     _fields_ = [("client", ctypes.c_uint32), ("counter", ctypes.c_uint32)]
     client: int

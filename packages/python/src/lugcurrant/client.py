@@ -17,7 +17,7 @@ Watcher = Callable[[str, bytes | None], None]
 
 @dataclass(frozen=True)
 class Heard:
-    """What was heard of the server. `reason` is the number of a No, and else 0."""
+    """What was heard of the server: `what` it was to the client. `reason` is the number of a No, and else 0."""
 
     what: What
     reason: int = 0
@@ -35,7 +35,7 @@ class Heard:
 
 @dataclass
 class Changes:
-    """What has become other in the tree: objects that are new or changed, and ids that are gone."""
+    """What has become other in the tree: `put` has the objects that are new or changed, and `gone` the ids that are gone."""
 
     put: list[Shown] = field(default_factory=list)
     gone: list[ObjectId] = field(default_factory=list)

@@ -26,7 +26,7 @@ _HELD = (State.DISK_FAILED, State.DISK_FAILED_BEFORE, State.NO_MEMORY)
 
 @dataclass
 class Event:
-    """What came of a message: "took", "refused", "state", "anew" or "caught up", and what belongs to it."""
+    """What came of a message: its `type` is "took", "refused", "state", "anew" or "caught up", and `detail` has what belongs to it."""
 
     type: str
     detail: dict[str, Any] = field(default_factory=dict)
@@ -138,6 +138,7 @@ class Flow:
 
     @property
     def is_settled(self) -> bool:
+        """Whether nothing waits, and what there is was heard."""
         return self.is_caught_up and self.anew is None and self.client.waiting == 0
 
     # What to send.

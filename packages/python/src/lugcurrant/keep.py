@@ -26,11 +26,25 @@ class ReplayError(Exception):
 class Shelf(Protocol):
     """Keeps one client. Each call answers once it is kept."""
 
-    def read(self) -> list[bytes]: ...
-    def put(self, whole: bytes) -> None: ...
-    def add(self, parts: list[bytes]) -> None: ...
-    def end(self) -> None: ...
-    def close(self) -> None: ...
+    def read(self) -> list[bytes]:
+        """Returns the whole client, and what was added after it; nothing if none was kept."""
+        ...
+
+    def put(self, whole: bytes) -> None:
+        """Keeps the whole client, in place of all that was kept."""
+        ...
+
+    def add(self, parts: list[bytes]) -> None:
+        """Keeps more parts."""
+        ...
+
+    def end(self) -> None:
+        """Forgets what was kept, and lets the lock go."""
+        ...
+
+    def close(self) -> None:
+        """Lets the lock go."""
+        ...
 
 
 class FileShelf:
@@ -61,6 +75,7 @@ class FileShelf:
         return parts or ([bytes_] if bytes_ else [])  # no crash cuts the whole client: it is no client then
 
     def put(self, whole: bytes) -> None:
+        """Writes the whole client into a new file, which takes the place of the former one."""
         if self._file:
             self._file.close()
         self._file = open(f"{self.path}.new", "wb")
@@ -73,16 +88,19 @@ class FileShelf:
             os.close(folder)
 
     def add(self, parts: list[bytes]) -> None:
+        """Appends parts, and syncs the file."""
         assert self._file is not None
         self._file.write(b"".join(len(part).to_bytes(4, "little") + part for part in parts))
         self._file.flush()
         os.fsync(self._file.fileno())
 
     def end(self) -> None:
+        """Removes the file, and lets the lock go."""
         self.close()
         self.path.unlink(missing_ok=True)
 
     def close(self) -> None:
+        """Lets the lock go. What was kept stays."""
         for file in (self._file, self._lock):
             if file:
                 file.close()
@@ -117,6 +135,7 @@ class Kept:
         return client
 
     def watch(self, client: Client) -> None:
+        """Keeps this client from now on. `load` does so with the client that it returns."""
         self._client = client
         self._whole = False
 
@@ -133,6 +152,7 @@ class Kept:
 
     @property
     def is_keeping(self) -> bool:
+        """Whether it keeps: false after an error or `close`."""
         return self._shelf is not None
 
     def flush(self) -> None:

@@ -12,7 +12,8 @@ if TYPE_CHECKING:
 
 @dataclass(frozen=True, eq=False)
 class Shown:
-    """An object in the tree, and its children in order."""
+    """An object in the tree: its `id`, `kind`, `parent` and `position` (None and "" for the document), its `properties` by their names, and the ids of
+    its `children` in order."""
 
     id: ObjectId
     kind: str

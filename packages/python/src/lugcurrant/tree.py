@@ -9,7 +9,7 @@ from .values import ObjectId, Value, value_of
 
 @dataclass
 class Node:
-    """An object, its properties, and its children in order."""
+    """An object: its `id`, `kind` and `position`, its `properties` by their names, and its `children` in order."""
 
     id: ObjectId
     kind: str

@@ -6,7 +6,7 @@ from typing import Any, NamedTuple, Union
 
 
 class ObjectId(NamedTuple):
-    """The client that created the object, and which of that client's creations it was."""
+    """An object's id: the `client` that created it, and which of that client's creations it was, its `counter`."""
 
     client: int
     counter: int
@@ -26,7 +26,7 @@ ROOT = ObjectId(0, 0)
 
 @dataclass(frozen=True)
 class Colour:
-    """A colour, 8 bits each for red, green, blue and how opaque it is."""
+    """A colour: `rgba` has 8 bits each for red, green, blue and how opaque it is."""
 
     rgba: int
 
