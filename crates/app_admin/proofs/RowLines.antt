@@ -15,7 +15,7 @@ use Rattle.canvas_journal.proofs.Rows.{each_once}
 use Rattle.app_admin.specs.declared.writing_rows.Layout.{Layout}
 use Rattle.app_admin.specs.declared.writing_rows.Layout.TheVariants.{Array, Lines}
 use Rattle.app_admin.specs.Imports.{before, row_part, row_texts}
-use Rattle.app_admin.specs.Texts.{end, joined, rows_text}
+use Rattle.app_admin.specs.Texts.{end_of_rows, joined_rows, rows_text}
 use Rattle.app_admin.proofs.OneLine.{IsOneLine, one-append, text_line}
 
 -- ---- a line
@@ -78,22 +78,22 @@ row_line row = array_line (items_in (row_form.write row))
 
 -- ---- all rows
 
-lines_back : (rows : List Row) (t : List ℕ) → IsRowLine t → row_texts (lines_of (t ++ (joined Lines true rows ++ end Lines))) ≡ t ∷ map row_text rows
+lines_back : (rows : List Row) (t : List ℕ) → IsRowLine t → row_texts (lines_of (t ++ (joined_rows Lines true rows ++ end_of_rows Lines))) ≡ t ∷ map row_text rows
 lines_back [] t is = ap row_texts (line_ends t [] is.one) ∙ ap (λ (o : Option (List ℕ)). before o []) is.part
 lines_back (row ∷ rows) t is =
-    let rest = row_text row ++ (joined Lines true rows ++ end Lines) in
-    let same : t ++ (joined Lines true (row ∷ rows) ++ end Lines) ≡ t ++ 10 ∷ rest = ap (λ (l : List ℕ). t ++ 10 ∷ l) (append_assoc (row_text row) (joined Lines true rows) (end Lines)) in
+    let rest = row_text row ++ (joined_rows Lines true rows ++ end_of_rows Lines) in
+    let same : t ++ (joined_rows Lines true (row ∷ rows) ++ end_of_rows Lines) ≡ t ++ 10 ∷ rest = ap (λ (l : List ℕ). t ++ 10 ∷ l) (append_assoc (row_text row) (joined_rows Lines true rows) (end_of_rows Lines)) in
     ap (λ (l : List ℕ). row_texts (lines_of l)) same
     ∙ ap row_texts (line_ends t rest is.one)
     ∙ ap (λ (o : Option (List ℕ)). before o (row_texts (lines_of rest))) is.part
     ∙ ap (λ (l : List (List ℕ)). t ∷ l) (lines_back rows (row_text row) (row_line row))
 
-array_back : (rows : List Row) (t : List ℕ) → IsRowLine t → row_texts (lines_of (t ++ (joined Array true rows ++ end Array))) ≡ t ∷ map row_text rows
+array_back : (rows : List Row) (t : List ℕ) → IsRowLine t → row_texts (lines_of (t ++ (joined_rows Array true rows ++ end_of_rows Array))) ≡ t ∷ map row_text rows
 array_back [] t is = ap row_texts (line_ends t (93 ∷ 10 ∷ []) is.one) ∙ ap (λ (o : Option (List ℕ)). before o []) is.part
 array_back (row ∷ rows) t is =
-    let rest = row_text row ++ (joined Array true rows ++ end Array) in
-    let same : t ++ (joined Array true (row ∷ rows) ++ end Array) ≡ (t ++ 44 ∷ []) ++ 10 ∷ rest =
-    ap (λ (l : List ℕ). t ++ 44 ∷ 10 ∷ l) (append_assoc (row_text row) (joined Array true rows) (end Array)) ∙ sym (append_assoc t (44 ∷ []) (10 ∷ rest)) in
+    let rest = row_text row ++ (joined_rows Array true rows ++ end_of_rows Array) in
+    let same : t ++ (joined_rows Array true (row ∷ rows) ++ end_of_rows Array) ≡ (t ++ 44 ∷ []) ++ 10 ∷ rest =
+    ap (λ (l : List ℕ). t ++ 44 ∷ 10 ∷ l) (append_assoc (row_text row) (joined_rows Array true rows) (end_of_rows Array)) ∙ sym (append_assoc t (44 ∷ []) (10 ∷ rest)) in
     ap (λ (l : List ℕ). row_texts (lines_of l)) same
     ∙ ap row_texts (line_ends (t ++ 44 ∷ []) rest (one-append t (44 ∷ []) is.one (refl, tt)))
     ∙ ap (λ (o : Option (List ℕ)). before o (row_texts (lines_of rest))) is.comma
@@ -101,9 +101,9 @@ array_back (row ∷ rows) t is =
 
 pub each_row_has_a_line : (layout : Layout) (rows : List Row) → row_texts (lines_of (rows_text layout rows)) ≡ map row_text rows
 each_row_has_a_line Lines [] = refl
-each_row_has_a_line Lines (row ∷ rows) = ap (λ (l : List ℕ). row_texts (lines_of l)) (append_assoc (row_text row) (joined Lines true rows) (end Lines)) ∙ lines_back rows (row_text row) (row_line row)
+each_row_has_a_line Lines (row ∷ rows) = ap (λ (l : List ℕ). row_texts (lines_of l)) (append_assoc (row_text row) (joined_rows Lines true rows) (end_of_rows Lines)) ∙ lines_back rows (row_text row) (row_line row)
 each_row_has_a_line Array [] = refl
-each_row_has_a_line Array (row ∷ rows) = ap (λ (l : List ℕ). row_texts (lines_of l)) (append_assoc (row_text row) (joined Array true rows) (end Array)) ∙ array_back rows (row_text row) (row_line row)
+each_row_has_a_line Array (row ∷ rows) = ap (λ (l : List ℕ). row_texts (lines_of l)) (append_assoc (row_text row) (joined_rows Array true rows) (end_of_rows Array)) ∙ array_back rows (row_text row) (row_line row)
 
 pub rows_come_back : (layout : Layout) (rows others : List Row) → AreRowTexts (map row_text rows) rows → AreRowTexts (row_texts (lines_of (rows_text layout rows))) others → others ≡ rows
 rows_come_back layout rows others are read =

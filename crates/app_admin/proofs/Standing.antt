@@ -5,7 +5,7 @@ use Rattle.std.specs.FinMap as map
 use Rattle.canvas_model.specs.Document.{Doc}
 use Rattle.canvas_doc.proofs.Shallow.{same_doc}
 use Rattle.canvas_journal.specs.Meaning.{Row}
-use Rattle.app_admin.specs.RowFaults.{IsBadRow, IsClientFault, IsStandFault}
+use Rattle.app_admin.specs.RowFaults.{IsBadRow, IsClientFault, IsPlacingFault}
 use Rattle.app_faults.specs.declared.row_fault.RowFault.{RowFault}
 
 -- the rows, and the lines, before what is left
@@ -17,7 +17,7 @@ begin rows lines = ([], [], refl, refl, refl)
 
 -- the next row isn't taken
 pub bad_row : (rows more left_rows : List Row) (lines left later : List ℕ) (row : Row) (n : ℕ) (fault : RowFault) → Begun rows left_rows lines left → left_rows ≡ row ∷ more → left ≡ n ∷ later
-    → (IsClientFault (length rows) row fault ⊎ IsStandFault (map.from_sorted rows) row fault) → IsBadRow rows lines n fault
+    → (IsClientFault (length rows) row fault ⊎ IsPlacingFault (map.from_sorted rows) row fault) → IsBadRow rows lines n fault
 bad_row rows more left_rows lines left later row n fault (before, earlier, among, line, together) here there is = record {
   row = row;
   rows_before = before;
@@ -32,9 +32,9 @@ bad_row rows more left_rows lines left later row n fault (before, earlier, among
 
 -- the next object of a document isn't taken
 pub bad_object : (d : Doc) (more left_rows : List Row) (lines left later : List ℕ) (row : Row) (n : ℕ) (fault : RowFault) → Begun (map.entries d) left_rows lines left → left_rows ≡ row ∷ more
-    → left ≡ n ∷ later → IsStandFault d row fault → IsBadRow (map.entries d) lines n fault
+    → left ≡ n ∷ later → IsPlacingFault d row fault → IsBadRow (map.entries d) lines n fault
 bad_object d more left_rows lines left later row n fault begun here there is =
-    bad_row (map.entries d) more left_rows lines left later row n fault begun here there (inr (subst (λ (x : Doc). IsStandFault x row fault) (sym (same_doc d)) is))
+    bad_row (map.entries d) more left_rows lines left later row n fault begun here there (inr (subst (λ (x : Doc). IsPlacingFault x row fault) (sym (same_doc d)) is))
 
 -- the next row is taken
 pub go_on : (rows more left_rows : List Row) (lines left later : List ℕ) (row : Row) (n : ℕ) → Begun rows left_rows lines left → left_rows ≡ row ∷ more → left ≡ n ∷ later → Begun rows more lines later

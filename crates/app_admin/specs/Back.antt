@@ -13,7 +13,7 @@ abbrev pub EachRowHasALine : Type 0
 EachRowHasALine = (layout : Layout) (rows : List Row) → row_texts (lines_of (rows_text layout rows)) ≡ map row_text rows
 
 -- what is read of what was written of rows is these rows, where the text of each is read as it
-abbrev pub RowsComeBack : Type 0
-RowsComeBack =
+abbrev pub WrittenRowsComeBack : Type 0
+WrittenRowsComeBack =
     (layout : Layout) (rows others : List Row) → AreRowTexts (map row_text rows) rows → AreRowTexts (row_texts (lines_of (rows_text layout rows))) others
     → others ≡ rows

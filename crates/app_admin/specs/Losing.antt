@@ -16,12 +16,12 @@ abbrev pub content_of : List Listed → Content
 content_of = map (λ s. (s.number, s.bytes.items))
 
 -- the number of what is taken
-abbrev pub number_of : Option Source → Option ℕ
-number_of = option_map (λ s. s.number)
+abbrev pub number_taken : Option Source → Option ℕ
+number_taken = option_map (λ s. s.number)
 
 -- nothing is lost in these segments, of which that one is taken and this found, where that is left beside them; or this is the first loss
-abbrev pub IsFirst : List Listed → Option ℕ → Versioned → Option Trace → Option Loss → Type 0
-IsFirst listed taken s trace loss =
+abbrev pub IsFirstLoss : List Listed → Option ℕ → Versioned → Option Trace → Option Loss → Type 0
+IsFirstLoss listed taken s trace loss =
     MatchOption loss (NothingLost taken (checkpoint_bytes s) trace listed) (IsLost taken (checkpoint_bytes s) trace listed)
 
 -- the first loss of the disk's segments, with some sums, and of what recovery takes and finds, where this is left beside them
@@ -29,4 +29,4 @@ abbrev pub TellsLoss : List Segment → Option Trace → Option Loss → Type 0
 TellsLoss disk trace loss =
     (listed : List Listed) × (source : Option Source) × (s : Versioned)
     × (content_of listed ≡ seen disk) × TakesFrom (seen disk) source × Finds (seen disk) (IsState s)
-    × IsFirst listed (number_of source) s trace loss
+    × IsFirstLoss listed (number_taken source) s trace loss

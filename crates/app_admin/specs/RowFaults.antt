@@ -108,7 +108,7 @@ IsLineFault number last text Memory = Unit {0}
 IsLineFault number last text fault = ⊥
 
 -- the first line of an input that isn't taken: those before it are rows
-pub record IsFirstBad (input : List ℕ) (n : ℕ) (fault : RowFault) : Type 0 where
+pub record IsFirstBadRow (input : List ℕ) (n : ℕ) (fault : RowFault) : Type 0 where
   pub done : List (List ℕ)
   pub line : List ℕ
   pub more : List (List ℕ)
@@ -122,7 +122,7 @@ pub record IsFirstBad (input : List ℕ) (n : ℕ) (fault : RowFault) : Type 0 w
 
 -- why an input isn't rows
 abbrev pub IsReadFault : List ℕ → Fault → Type 0
-IsReadFault input (BadLine n fault) = IsFirstBad input n fault
+IsReadFault input (BadLine n fault) = IsFirstBadRow input n fault
 IsReadFault input Memory = Unit {0}
 IsReadFault input fault = ⊥
 
@@ -146,8 +146,8 @@ IsDepthFault d id why.Circle = IsDepth d id None
 IsDepthFault d id fault = ⊥
 
 -- why a row of a document isn't taken
-abbrev pub IsStandFault : Doc → Row → RowFault → Type 0
-IsStandFault d row fault = ((place : Place) × (row.1.place ≡ Some place) × IsPlaceFault d row place fault) ⊎ IsDepthFault d row.0 fault
+abbrev pub IsPlacingFault : Doc → Row → RowFault → Type 0
+IsPlacingFault d row fault = ((place : Place) × (row.1.place ≡ Some place) × IsPlaceFault d row place fault) ⊎ IsDepthFault d row.0 fault
 
 -- why a row among so many isn't taken
 abbrev pub IsClientFault : ℕ → Row → RowFault → Type 0
@@ -164,7 +164,7 @@ pub record IsBadRow (rows : List Row) (lines : List ℕ) (n : ℕ) (fault : RowF
   pub among : rows ≡ rows_before ++ row ∷ rows_behind
   pub line : lines ≡ lines_before ++ n ∷ lines_behind
   pub together : length rows_before ≡ length lines_before
-  pub why : IsClientFault (length rows) row fault ⊎ IsStandFault (map.from_sorted rows) row fault
+  pub why : IsClientFault (length rows) row fault ⊎ IsPlacingFault (map.from_sorted rows) row fault
 
 -- why rows make no document
 abbrev pub IsMakeFault : List Row → List ℕ → Fault → Type 0

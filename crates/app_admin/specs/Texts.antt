@@ -16,9 +16,9 @@ between Array = codes ",\n"
 between Lines = codes "\n"
 
 -- and behind the last
-abbrev pub end : Layout → List ℕ
-end Array = codes "\n]\n"
-end Lines = codes "\n"
+abbrev pub end_of_rows : Layout → List ℕ
+end_of_rows Array = codes "\n]\n"
+end_of_rows Lines = codes "\n"
 
 -- what stands before a row, if others stand before it
 abbrev pub between_if : Layout → Bool → List ℕ
@@ -26,10 +26,10 @@ between_if layout false = []
 between_if layout true = between layout
 
 -- the texts of rows, if others stand before them
-abbrev pub joined : Layout → Bool → List Row → List ℕ
-joined layout later [] = []
-joined layout later (row ∷ rows) = between_if layout later ++ (row_text row ++ joined layout true rows)
+abbrev pub joined_rows : Layout → Bool → List Row → List ℕ
+joined_rows layout later [] = []
+joined_rows layout later (row ∷ rows) = between_if layout later ++ (row_text row ++ joined_rows layout true rows)
 
 -- the rows laid out so
 abbrev pub rows_text : Layout → List Row → List ℕ
-rows_text layout rows = head layout ++ (joined layout false rows ++ end layout)
+rows_text layout rows = head layout ++ (joined_rows layout false rows ++ end_of_rows layout)

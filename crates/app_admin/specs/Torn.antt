@@ -6,7 +6,7 @@ use Rattle.canvas_journal.specs.Meaning.{Versioned}
 use Rattle.disk_integrity.specs.Losses.{is_taken}
 use Rattle.disk_integrity.specs.declared.loss.Loss.{Loss}
 use Rattle.disk_integrity.specs.declared.trace.Trace.{Trace}
-use Rattle.app_admin.specs.Losing.{TellsLoss, number_of}
+use Rattle.app_admin.specs.Losing.{TellsLoss, number_taken}
 use Rattle.app_admin.specs.Taken.{Source, TakesFrom}
 
 -- the numbers before the taken one
@@ -21,7 +21,7 @@ from_taken taken ((n, bytes) ∷ older) = if is_taken taken n then (n, bytes) �
 
 -- these are the numbers of the listed segments above the one that recovery takes
 abbrev pub AreTorn : List Segment → List ℕ → Type 0
-AreTorn disk torn = (source : Option Source) × TakesFrom (seen disk) source × (torn ≡ torn_above (number_of source) (numbers disk))
+AreTorn disk torn = (source : Option Source) × TakesFrom (seen disk) source × (torn ≡ torn_above (number_taken source) (numbers disk))
 
 -- these are they, and if there are any, nothing is lost; or something is lost, and these are none
 abbrev pub AreRemovable : List Segment → Option Trace → List ℕ → Type 0
@@ -35,7 +35,7 @@ numbers_of = map (λ s. s.0)
 
 -- without the segments above the one that it takes, recovery finds the same
 abbrev pub TornAreNeedless : Type 0
-TornAreNeedless = (held : Content) (source : Option Source) (s : Versioned) → TakesFrom held source → Finds held (IsState s) → Finds (from_taken (number_of source) held) (IsState s)
+TornAreNeedless = (held : Content) (source : Option Source) (s : Versioned) → TakesFrom held source → Finds held (IsState s) → Finds (from_taken (number_taken source) held) (IsState s)
 
 -- these and the segments from the taken one on are all
 abbrev pub TornAndRestAreAll : Type 0

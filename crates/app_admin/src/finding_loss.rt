@@ -1,7 +1,7 @@
 // What stands in the segments of a folder that no crash leaves.
 ghost use Rattle.std.specs.Prelude.{◌≡◌, IfOk, IsTrue};
 ghost use Rattle.canvas_shelf.specs.Disk.{numbers, seen};
-ghost use Rattle.app_admin.specs.Losing.{TellsLoss, content_of, number_of};
+ghost use Rattle.app_admin.specs.Losing.{TellsLoss, content_of, number_taken};
 ghost use Rattle.app_admin.specs.Taken.{source_of};
 
 use crate::checkpoints::checkpoint_bytes;
@@ -68,7 +68,7 @@ pub fn find_loss<S: Shelf, N: SumSource>(
 
 /// The number of the segment that is taken, if one is.
 pub(crate) fn taken_number(taken: &Option<Taken>) -> Option<u32>
-    ensures { result ≡ number_of (source_of taken.now) }
+    ensures { result ≡ number_taken (source_of taken.now) }
 {
     match taken {
         Some(taken) => Some(taken.number),

@@ -42,7 +42,7 @@ impl Layout {
 
     // What stands behind the last row.
     fn end(self) -> &'static [u8]
-        ensures { result.now ≡ texts.end self }
+        ensures { result.now ≡ texts.end_of_rows self }
     {
         match self {
             Layout::Array => b"\n]\n",

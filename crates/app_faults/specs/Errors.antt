@@ -38,27 +38,27 @@ fault_of_create create.NotMade = Memory
 fault_of_create create.Device = Device
 
 -- the fault that a journal is that isn't read or opened
-abbrev pub fault_of_opening : OpenError → Fault
-fault_of_opening opening.Device = Device
-fault_of_opening (opening.Damaged segment offset) = Damaged segment offset
-fault_of_opening opening.TooLarge = TooLarge
-fault_of_opening opening.Memory = Memory
+abbrev pub fault_of_open_error : OpenError → Fault
+fault_of_open_error opening.Device = Device
+fault_of_open_error (opening.Damaged segment offset) = Damaged segment offset
+fault_of_open_error opening.TooLarge = TooLarge
+fault_of_open_error opening.Memory = Memory
 
 -- the fault that a folder is that isn't opened
-abbrev pub fault_of_folder : FolderError → Fault
-fault_of_folder folder.InUse = InUse
-fault_of_folder folder.Denied = Denied
-fault_of_folder folder.AboveDenied = AboveDenied
-fault_of_folder folder.NoDescriptor = NoDescriptor
-fault_of_folder folder.NoSpace = NoRoom
-fault_of_folder folder.Device = Device
-fault_of_folder folder.Memory = Memory
+abbrev pub fault_of_folder_error : FolderError → Fault
+fault_of_folder_error folder.InUse = InUse
+fault_of_folder_error folder.Denied = Denied
+fault_of_folder_error folder.AboveDenied = AboveDenied
+fault_of_folder_error folder.NoDescriptor = NoDescriptor
+fault_of_folder_error folder.NoSpace = NoRoom
+fault_of_folder_error folder.Device = Device
+fault_of_folder_error folder.Memory = Memory
 
 -- the fault that a line or a stream is
-abbrev pub fault_of_lines : lines.Fault → Fault
-fault_of_lines (line.BadLine n) = BadLine n NotARow
-fault_of_lines line.Memory = Memory
-fault_of_lines line.Stream = Stream
+abbrev pub fault_of_line_fault : lines.Fault → Fault
+fault_of_line_fault (line.BadLine n) = BadLine n NotARow
+fault_of_line_fault line.Memory = Memory
+fault_of_line_fault line.Stream = Stream
 
 -- the fault that a document without an identity is
 abbrev pub fault_of_identity : IdentityError → Fault

@@ -4,11 +4,11 @@ use Rattle.app_faults.specs.declared.subject.Subject.{Subject}
 use Rattle.app_faults.specs.declared.subject.Subject.TheVariants.{Folder, ServedFolder, Document, ServedDocument}
 
 -- a folder or a document
-abbrev pub place_text : Subject → List ℕ → List ℕ
-place_text Folder name = codes "the folder " ++ name
-place_text ServedFolder name = codes "the folder " ++ name
-place_text Document name = codes "the document " ++ name
-place_text ServedDocument name = codes "the document " ++ name
+abbrev pub subject_text : Subject → List ℕ → List ℕ
+subject_text Folder name = codes "the folder " ++ name
+subject_text ServedFolder name = codes "the folder " ++ name
+subject_text Document name = codes "the document " ++ name
+subject_text ServedDocument name = codes "the document " ++ name
 
 -- the document of a folder, or a document
 abbrev pub holder_text : Subject → List ℕ → List ℕ

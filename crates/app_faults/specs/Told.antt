@@ -4,8 +4,8 @@ use Rattle.std.specs.Fmt.{decimal}
 use Rattle.std.specs.Io.KnownBytes.{Appends}
 use Rattle.app_faults.specs.Causes.{advice_text, because_text, cause_text, loss_text, why_text}
 use Rattle.app_faults.specs.Rows.{row_sentence}
-use Rattle.app_faults.specs.Statuses.{status_of}
-use Rattle.app_faults.specs.Subjects.{holder_text, place_text, remedy_text, retry_text}
+use Rattle.app_faults.specs.Statuses.{exit_status_of}
+use Rattle.app_faults.specs.Subjects.{holder_text, subject_text, remedy_text, retry_text}
 use Rattle.app_faults.specs.declared.fault.Fault.{Fault}
 use Rattle.app_faults.specs.declared.fault.Fault.TheVariants.{NotAnOrigin, NotAUrl, NotAName, ClientCount, NoPage, StopFile, PortInUse, PortDenied, NoPort, InUse, Denied, AboveDenied, NoDescriptor, NoRoom, Device, Taken, NoSegment, Gone, Lost, NotKept, Identity, ChangedIdentity, Busy, Damaged, TooLarge, NoSpace, NoStore, BadLine, NoDocument, Stream, NoThread, JournalFailed, StoreFailed, LeaseEnded, Stopped, Memory}
 use Rattle.app_faults.specs.declared.subject.Subject.{Subject}
@@ -59,7 +59,7 @@ sentence ChangedIdentity Folder name port = codes "the file identity in " ++ nam
 sentence ChangedIdentity ServedFolder name port = codes "the file identity in " ++ name ++ codes " isn't the one that identity.sum names: put the one of a backup in its place, or delete both"
 sentence ChangedIdentity Document name port = codes "the identity of the document " ++ name ++ codes " isn't 32 hex digits: put the right one in its place"
 sentence ChangedIdentity ServedDocument name port = codes "the identity of the document " ++ name ++ codes " isn't 32 hex digits: put the right one in its place"
-sentence Busy s name port = place_text s name ++ codes " changes while it is checked" ++ retry_text s
+sentence Busy s name port = subject_text s name ++ codes " changes while it is checked" ++ retry_text s
 sentence (Damaged segment offset) s name port = holder_text s name ++ codes " is damaged in segment " ++ decimal segment ++ codes " at offset " ++ decimal offset ++ remedy_text s
 sentence TooLarge s name port = holder_text s name ++ codes " is too large for a checkpoint"
 sentence (NoSpace missing) s name port = codes "the disk of " ++ name ++ codes " has no room to open the document: " ++ decimal missing ++ codes " bytes are missing; free them, or move the folder"
@@ -78,16 +78,16 @@ sentence Stopped s name port = []
 sentence Memory s name port = codes "out of memory"
 
 -- the fault's status, if it was told by its sentence in a line of its own; or 4, as of a server's stop, which isn't told
-abbrev pub IsTold : Fault → Subject → List ℕ → ℕ → ℕ → Option (List ℕ) → Option (List ℕ) → Type 0
-IsTold fault subject name port status faults told =
-    ((fault ≡ Stopped → ⊥) × (status ≡ status_of fault) × Appends faults told (sentence fault subject name port ++ 10 ∷ [])) ⊎ (status ≡ 4)
+abbrev pub IsFaultTold : Fault → Subject → List ℕ → ℕ → ℕ → Option (List ℕ) → Option (List ℕ) → Type 0
+IsFaultTold fault subject name port status faults told =
+    ((fault ≡ Stopped → ⊥) × (status ≡ exit_status_of fault) × Appends faults told (sentence fault subject name port ++ 10 ∷ [])) ⊎ (status ≡ 4)
 
 -- a server that was stopped has the status 0, and nothing was told; else its fault was told
-abbrev pub IsEnd : Fault → Subject → List ℕ → ℕ → ℕ → Option (List ℕ) → Option (List ℕ) → Type 0
-IsEnd fault subject name port status faults told =
+abbrev pub IsServerEnd : Fault → Subject → List ℕ → ℕ → ℕ → Option (List ℕ) → Option (List ℕ) → Type 0
+IsServerEnd fault subject name port status faults told =
     ((fault ≡ Stopped) × (status ≡ 0) × (told ≡ faults))
-    ⊎ ((fault ≡ Stopped → ⊥) × IsTold fault subject name port status faults told)
+    ⊎ ((fault ≡ Stopped → ⊥) × IsFaultTold fault subject name port status faults told)
 
 -- the command did this to that folder or document, and its status is 0; or a fault ended it, which was told
-abbrev pub Ends : Type 0 → Subject → List ℕ → ℕ → Option (List ℕ) → Option (List ℕ) → Type 0
-Ends did subject name status faults told = ((status ≡ 0) × did) ⊎ ((fault : Fault) × IsTold fault subject name 0 status faults told)
+abbrev pub EndsCommand : Type 0 → Subject → List ℕ → ℕ → Option (List ℕ) → Option (List ℕ) → Type 0
+EndsCommand did subject name status faults told = ((status ≡ 0) × did) ⊎ ((fault : Fault) × IsFaultTold fault subject name 0 status faults told)

@@ -99,9 +99,9 @@ impl From<DeviceFailed> for Fault {
 }
 
 impl From<OpenError> for Fault {
-    ghost use Rattle.app_faults.specs.Errors.{fault_of_opening};
+    ghost use Rattle.app_faults.specs.Errors.{fault_of_open_error};
 
-    ghost from_gives = { λ error fault. fault ≡ fault_of_opening error };
+    ghost from_gives = { λ error fault. fault ≡ fault_of_open_error error };
 
     fn from(error: OpenError) -> Fault {
         match error {
@@ -114,9 +114,9 @@ impl From<OpenError> for Fault {
 }
 
 impl From<FolderError> for Fault {
-    ghost use Rattle.app_faults.specs.Errors.{fault_of_folder};
+    ghost use Rattle.app_faults.specs.Errors.{fault_of_folder_error};
 
-    ghost from_gives = { λ error fault. fault ≡ fault_of_folder error };
+    ghost from_gives = { λ error fault. fault ≡ fault_of_folder_error error };
 
     fn from(error: FolderError) -> Fault {
         match error {
@@ -132,9 +132,9 @@ impl From<FolderError> for Fault {
 }
 
 impl From<LineFault> for Fault {
-    ghost use Rattle.app_faults.specs.Errors.{fault_of_lines};
+    ghost use Rattle.app_faults.specs.Errors.{fault_of_line_fault};
 
-    ghost from_gives = { λ error fault. fault ≡ fault_of_lines error };
+    ghost from_gives = { λ error fault. fault ≡ fault_of_line_fault error };
 
     fn from(error: LineFault) -> Fault {
         match error {

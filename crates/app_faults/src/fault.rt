@@ -1,6 +1,6 @@
 // What failed, and the status that the program ends with.
 ghost use Rattle.std.specs.Prelude.{◌≡◌};
-ghost use Rattle.app_faults.specs.Statuses.{status_of, store_status, stored_status};
+ghost use Rattle.app_faults.specs.Statuses.{exit_status_of, store_status, stored_status};
 
 use crate::row_fault::RowFault;
 use disk_integrity::{Loss, ShelfCall};
@@ -115,7 +115,7 @@ impl Fault {
     /// look at the document; 6 if it is too large; 7 if another has the folder, the document or the port; 8 for want of rights; 9 for want of
     /// space; 10 if the server no longer owns its document; and 4 for all else.
     pub fn status(&self) -> u8
-        ensures { result ≡ status_of self.now }
+        ensures { result ≡ exit_status_of self.now }
     {
         match self {
             Fault::Stopped => 0,

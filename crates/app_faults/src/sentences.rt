@@ -1,6 +1,6 @@
 // A fault with what it is of: its sentence, and the end of the program.
 ghost use Rattle.std.specs.Prelude.{◌≡◌, MatchResult};
-ghost use Rattle.app_faults.specs.Told.{IsEnd, IsTold};
+ghost use Rattle.app_faults.specs.Told.{IsServerEnd, IsFaultTold};
 
 use crate::causes::{Advice, Because, Cause, Lost, Why};
 use crate::fault::Fault;
@@ -230,7 +230,7 @@ impl fmt::Display for Told<'_> {
 /// Tells of a fault: its sentence and a line feed. The program's status: the fault's, or 4 where it can't be told. `Stopped` isn't told of a
 /// command: it ends with 4.
 pub fn tell<F: Write>(told: &Told<'_>, faults: &mut F) -> u8
-    ensures { IsTold told.now.fault told.now.subject told.now.name.now told.now.port result (F.contents faults.old) (F.contents faults.new) }
+    ensures { IsFaultTold told.now.fault told.now.subject told.now.name.now told.now.port result (F.contents faults.old) (F.contents faults.new) }
 {
     if told.fault == Fault::Stopped {
         return 4;
@@ -243,7 +243,7 @@ pub fn tell<F: Write>(told: &Told<'_>, faults: &mut F) -> u8
 
 /// Ends a server: tells of its fault as `tell` does, or nothing of one that was stopped, whose status is 0.
 pub fn end<F: Write>(told: &Told<'_>, faults: &mut F) -> u8
-    ensures { IsEnd told.now.fault told.now.subject told.now.name.now told.now.port result (F.contents faults.old) (F.contents faults.new) }
+    ensures { IsServerEnd told.now.fault told.now.subject told.now.name.now told.now.port result (F.contents faults.old) (F.contents faults.new) }
 {
     if told.fault == Fault::Stopped {
         return 0;
@@ -253,7 +253,7 @@ pub fn end<F: Write>(told: &Told<'_>, faults: &mut F) -> u8
 
 /// The program's status for what a command answered about this folder or document: 0, or that of the fault, which is told.
 pub fn finish<F: Write>(done: Result<(), Fault>, subject: Subject, name: &str, faults: &mut F) -> u8
-    ensures { MatchResult done (λ _. result ≡ 0) (λ fault. IsTold fault subject name.now 0 result (F.contents faults.old) (F.contents faults.new)) }
+    ensures { MatchResult done (λ _. result ≡ 0) (λ fault. IsFaultTold fault subject name.now 0 result (F.contents faults.old) (F.contents faults.new)) }
 {
     match done {
         Ok(()) => 0,

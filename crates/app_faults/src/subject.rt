@@ -25,9 +25,9 @@ pub(crate) struct PlaceName<'a> {
 
 impl fmt::Display for PlaceName<'_> {
     ghost use Rattle.std.specs.Prelude.{Some};
-    ghost use Rattle.app_faults.specs.Subjects.{place_text};
+    ghost use Rattle.app_faults.specs.Subjects.{subject_text};
 
-    ghost output = { λ told. Some (place_text told.subject told.name.now) };
+    ghost output = { λ told. Some (subject_text told.subject told.name.now) };
 
     fn fmt<W: fmt::Write>(&self, f: &mut fmt::Formatter<W>) -> fmt::Result {
         let PlaceName { subject, name } = *self;

@@ -1,6 +1,6 @@
 // Where a document in an etcd is: by which hosts, and under which name.
 ghost use Rattle.std.specs.Prelude.{◌≡◌, ◌<◌, IfErr, IfOk, length, string_bytes, true};
-ghost use Rattle.etcd_gateway.specs.Keys.{is_name};
+ghost use Rattle.etcd_gateway.specs.Keys.{is_document_name};
 
 use etcd_gateway::{Host, host_of, is_name};
 use std::alloc::{AllocError, AllocFailed, Global};
@@ -61,9 +61,9 @@ impl Address {
     /// The errors: `NotAUrl`, for a URL that isn't as `http://127.0.0.1:2379`, or for none; `NotAName`, exactly if a document may not have
     /// this name; `Memory`.
     pub fn new(alloc: Global, urls: &[String], name: &str) -> Result<Address, AddressError>
-        ensures named { IfOk result (λ address. is_name (string_bytes address.name) ≡ true) }
+        ensures named { IfOk result (λ address. is_document_name (string_bytes address.name) ≡ true) }
         ensures reached { IfOk result (λ address. 0 < length address.hosts.items) }
-        ensures no_name { IfErr result (λ e. e ≡ AddressError.NotAName → is_name name.now ≡ true → ⊥) }
+        ensures no_name { IfErr result (λ e. e ≡ AddressError.NotAName → is_document_name name.now ≡ true → ⊥) }
     {
         let mut hosts = Vec::new(alloc);
         for url in urls {

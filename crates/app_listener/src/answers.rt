@@ -1,7 +1,7 @@
 // What is answered to a request that isn't a client's.
 ghost use Rattle.std.specs.Prelude.{◌≡◌, ◌++◌, ◌∷◌, [], IfOk, string_bytes};
 ghost use Rattle.net_http.specs.Sites.{seen_site};
-ghost use Rattle.app_listener.specs.Answers.{IsAnswerTo, turned_away};
+ghost use Rattle.app_listener.specs.Answers.{IsAnswerToEndpoint, turned_away};
 
 use crate::options::Shared;
 use net_http::{
@@ -25,7 +25,7 @@ pub(crate) fn answer_to<R>(
 ) -> Result<Vec<u8>, AllocError>
 where
     R: Files<File = File> + AllocGlobal,
-    ensures { IfOk result (λ answer. IsAnswerTo (seen_site shared.now.site) request.now.asked request.now.wants_body answer.items) }
+    ensures { IfOk result (λ answer. IsAnswerToEndpoint (seen_site shared.now.site) request.now.asked request.now.wants_body answer.items) }
 {
     let alloc = files.alloc();
     let site = &shared.site;
@@ -94,7 +94,7 @@ fn answer_file<R>(
 ) -> Result<Vec<u8>, AllocError>
 where
     R: Files<File = File> + AllocGlobal,
-    ensures { IfOk result (λ answer. IsAnswerTo (seen_site shared.now.site) (Endpoint.File file) wants_body answer.items) }
+    ensures { IfOk result (λ answer. IsAnswerToEndpoint (seen_site shared.now.site) (Endpoint.File file) wants_body answer.items) }
 {
     let alloc = files.alloc();
     let site = &shared.site;

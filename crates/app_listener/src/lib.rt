@@ -2,12 +2,12 @@
 #![tactic(auto)]
 
 mod answers;
+mod counters;
 mod doors;
-mod figures;
 mod noes;
 mod options;
 
 pub use answers::read_page;
+pub use counters::Figures;
 pub use doors::stand;
-pub use figures::Figures;
 pub use options::{Limits, Shared};

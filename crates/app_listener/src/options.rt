@@ -1,6 +1,6 @@
 // What the threads of a server share.
 
-use crate::figures::Figures;
+use crate::counters::Figures;
 use canvas_folder::Removed;
 use net_http::Site;
 use std::net::TcpListener;

@@ -27,21 +27,21 @@ clients_text n =
     ++ counter (codes "lugcurrant_requests_total") n.requests
 
 -- a number of edits that the rules refused, for a reason
-abbrev pub refused : List ℕ → ℕ → List ℕ
-refused = by_reason (codes "lugcurrant_refused_total")
+abbrev pub refused_by_reason : List ℕ → ℕ → List ℕ
+refused_by_reason = by_reason (codes "lugcurrant_refused_total")
 
 -- the edits that the rules refused, by the reason
 abbrev pub refusals_text : Refusals → List ℕ
 refusals_text r =
     type_line (codes "lugcurrant_refused_total") (codes "counter")
-    ++ refused (codes "is_root") r.is_root
-    ++ refused (codes "bad_id") r.bad_id
-    ++ refused (codes "gone") r.gone
-    ++ refused (codes "parent_gone") r.parent_gone
-    ++ refused (codes "bad_parent") r.bad_parent
-    ++ refused (codes "cycle") r.cycle
-    ++ refused (codes "crowded") r.crowded
-    ++ refused (codes "too_deep") r.too_deep
+    ++ refused_by_reason (codes "is_root") r.is_root
+    ++ refused_by_reason (codes "bad_id") r.bad_id
+    ++ refused_by_reason (codes "gone") r.gone
+    ++ refused_by_reason (codes "parent_gone") r.parent_gone
+    ++ refused_by_reason (codes "bad_parent") r.bad_parent
+    ++ refused_by_reason (codes "cycle") r.cycle
+    ++ refused_by_reason (codes "crowded") r.crowded
+    ++ refused_by_reason (codes "too_deep") r.too_deep
 
 -- a number of messages that were answered by a No, for a reason
 abbrev pub said_no : List ℕ → ℕ → List ℕ

@@ -5,7 +5,7 @@ use Rattle.app_faults.specs.declared.fault.Fault.{Fault}
 use Rattle.app_faults.specs.declared.fault.Fault.TheVariants.{ClientCount, Memory}
 
 -- the fault that a room that isn't made is
-abbrev pub fault_of_room : RoomError → Fault
-fault_of_room room.SeatCount = ClientCount
-fault_of_room room.NoPlace = Memory
-fault_of_room room.Memory = Memory
+abbrev pub fault_of_room_error : RoomError → Fault
+fault_of_room_error room.SeatCount = ClientCount
+fault_of_room_error room.NoPlace = Memory
+fault_of_room_error room.Memory = Memory

@@ -4,7 +4,7 @@ use Rattle.canvas_model.specs.Messages.{Message}
 use Rattle.canvas_judge.specs.declared.message.NoReason.TheVariants as no
 use Rattle.room_handler.specs.Large.{IsTooLarge}
 use Rattle.canvas_board.specs.Marks.{Mark, Opening}
-use Rattle.canvas_nodes.specs.Answers.{refused}
+use Rattle.canvas_nodes.specs.Answers.{refusal_alone}
 use Rattle.room_handler.specs.Table.{Gives}
 
 -- A seat: what it has seen, and how many bytes the text of an edit may have.
@@ -14,7 +14,7 @@ pub record SeatedValue : Type 0 where
 
 -- an edit that is too large is refused, and nothing more was seen
 abbrev pub RefusesSize : SeatedValue → Message → List Message → SeatedValue → Type 0
-RefusesSize old m answer new = IsTooLarge old.limit m × (answer ≡ refused no.TooLarge) × (new ≡ old)
+RefusesSize old m answer new = IsTooLarge old.limit m × (answer ≡ refusal_alone no.TooLarge) × (new ≡ old)
 
 -- any other message is answered by the front's table, and the limit stays
 abbrev pub GivesByTable : Opening → SeatedValue → Message → List Message → SeatedValue → Type 0

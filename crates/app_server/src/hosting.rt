@@ -1,7 +1,7 @@
 // What `lugcurrant serve` does: a room over the journal of a document, whose seats serve clients for as long as it runs.
 ghost use Rattle.std.specs.Prelude.{◌≡◌, ◌⊎◌, IfErr, string_bytes};
 ghost use Rattle.net_http.specs.Identities.{IsIdentity};
-ghost use Rattle.app_storage.specs.Faults.{IsPageFault, IsPreparingFault, IsRunningFault, IsServeFault, IsStopFault, IsThreadFault};
+ghost use Rattle.app_storage.specs.Faults.{IsPageFault, IsPreparingFault, IsRunningFault, MayEndServer, IsStopFault, IsThreadFault};
 
 use crate::copies::Copies;
 use crate::documents::{DocumentJournal, Taken, Tenure, take_document};
@@ -65,7 +65,7 @@ where
         + Sync
         + Drop
         + 'static,
-    ensures { IsServeFault options.serving.clients options.serving.stop_file result }
+    ensures { MayEndServer options.serving.clients options.serving.stop_file result }
 {
     let (place, mut serving) = options.apart();
     let path = serving.stop_file.take();
@@ -119,7 +119,7 @@ where
         + Sync
         + Drop
         + 'static,
-    ensures { IsServeFault serving.clients stop.path result }
+    ensures { MayEndServer serving.clients stop.path result }
 {
     let (room, shared) = match prepare_folder(rt, files, dir, serving) {
         Ok(prepared) => prepared,
@@ -150,7 +150,7 @@ where
         + Sync
         + Drop
         + 'static,
-    ensures { IsServeFault serving.clients stop.path result }
+    ensures { MayEndServer serving.clients stop.path result }
 {
     let (room, shared, tenure) = match prepare_document(rt, files, address, serving, &stop) {
         Ok(prepared) => prepared,

@@ -4,9 +4,9 @@ ghost use Rattle.app_admin.specs.Losing.{TellsLoss};
 ghost use Rattle.disk_integrity.specs.declared.trace.Trace.{Trace};
 ghost use Rattle.canvas_shelf.specs.Disk.{seen, top_is_listed};
 ghost use Rattle.canvas_journal.specs.Found.{Finds, IsState};
-ghost use Rattle.canvas_journal.specs.Meaning.{IsCounted, Versioned};
+ghost use Rattle.canvas_journal.specs.Meaning.{IsCountedByEntries, Versioned};
 ghost use Rattle.app_storage.specs.Faults.{IsOpeningFault, IsPortFault};
-ghost use Rattle.app_server.specs.Rooms.{fault_of_room};
+ghost use Rattle.app_server.specs.Rooms.{fault_of_room_error};
 
 use app_faults::Fault;
 use app_identity::read_identity;
@@ -113,7 +113,7 @@ fn open_locked<F: Folder + Drop>(
     accept_loss: bool,
 ) -> Result<OpenRoom<FolderShelf<F>>, Fault>
     requires top { IsTrue (⟦<DirShelf<F> as Shelf>⟧.honest shelf) → top_is_listed (⟦<DirShelf<F> as Shelf>⟧.disk shelf) ≡ true }
-    requires counted { IsTrue (⟦<DirShelf<F> as Shelf>⟧.honest shelf) → (s : Versioned) → Finds (seen (⟦<DirShelf<F> as Shelf>⟧.disk shelf)) (IsState s) → IsCounted s }
+    requires counted { IsTrue (⟦<DirShelf<F> as Shelf>⟧.honest shelf) → (s : Versioned) → Finds (seen (⟦<DirShelf<F> as Shelf>⟧.disk shelf)) (IsState s) → IsCountedByEntries s }
     ensures whole { IsTrue (⟦<DirShelf<F> as Shelf>⟧.honest shelf) → OnOk result (accept_loss ≡ false → (trace : Option Trace) × TellsLoss (⟦<DirShelf<F> as Shelf>⟧.disk shelf) trace None) }
     ensures found { IsTrue (⟦<DirShelf<F> as Shelf>⟧.honest shelf) → IfOk result (λ opened. Finds (seen (⟦<DirShelf<F> as Shelf>⟧.disk shelf)) (IsState (opened.room.opening.state, opened.room.opening.version))) }
     ensures seats { IfOk result (λ opened. opened.room.seats ≡ seats) }
@@ -142,7 +142,7 @@ pub(crate) fn room_of<S: Shelf + Drop>(
     seats: usize,
 ) -> Result<OpenRoom<S>, Fault>
     requires top { IsTrue (S.honest shelf) → top_is_listed (S.disk shelf) ≡ true }
-    requires counted { IsTrue (S.honest shelf) → (s : Versioned) → Finds (seen (S.disk shelf)) (IsState s) → IsCounted s }
+    requires counted { IsTrue (S.honest shelf) → (s : Versioned) → Finds (seen (S.disk shelf)) (IsState s) → IsCountedByEntries s }
     ensures found { IsTrue (S.honest shelf) → IfOk result (λ opened. Finds (seen (S.disk shelf)) (IsState (opened.room.opening.state, opened.room.opening.version))) }
     ensures seats { IfOk result (λ opened. opened.room.seats ≡ seats) }
     ensures faults { IfErr result (IsOpeningFault seats) }
@@ -162,7 +162,7 @@ pub(crate) fn room_of<S: Shelf + Drop>(
 
 // What it means that a room isn't made.
 fn fault_of_room(error: RoomError) -> Fault
-    ensures { result ≡ fault_of_room error }
+    ensures { result ≡ fault_of_room_error error }
 {
     match error {
         RoomError::SeatCount => Fault::ClientCount,

@@ -2,7 +2,7 @@
 ghost use Rattle.std.specs.Prelude.{◌≡◌, IfOk, map};
 ghost use Rattle.canvas_model.specs.Messages as messages;
 ghost use Rattle.canvas_judge.specs.Seen.{seen_message};
-ghost use Rattle.canvas_nodes.specs.Answers.{GivesTexts, IsAnswer, refused};
+ghost use Rattle.canvas_nodes.specs.Answers.{GivesTexts, IsAnswer, refusal_alone};
 ghost use Rattle.app_server.specs.Seats.{SeatGives};
 
 use crate::copies::Copies;
@@ -126,7 +126,7 @@ impl<'a, N: RoomName, D: Drop, W: Wait + Clock + Clone + Drop> Seated<'a, N, D, 
 
     // An answer that refuses an edit as too large.
     fn too_large(&self) -> Result<Vec<Message>, AllocError>
-        ensures { IfOk result (λ answer. map seen_message answer.items ≡ refused NoReason.TooLarge) }
+        ensures { IfOk result (λ answer. map seen_message answer.items ≡ refusal_alone NoReason.TooLarge) }
     {
         let mut answer = Vec::with_capacity(self.alloc, 1)?;
         answer.push_reserved(Message::No(NoReason::TooLarge));

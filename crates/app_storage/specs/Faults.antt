@@ -1,7 +1,7 @@
 -- What may end a server.
 use Rattle.std.specs.Prelude.{◌≡◌, ◌≤◌, ◌<◌, ◌⊎◌, ℕ, List, Option, IsSome}
 use Rattle.etcd_store.specs.declared.error.StoreError.{StoreError}
-use Rattle.app_faults.specs.Told.{IsEnd}
+use Rattle.app_faults.specs.Told.{IsServerEnd}
 use Rattle.app_faults.specs.declared.fault.Fault.{Fault}
 use Rattle.app_faults.specs.declared.fault.Fault.TheVariants.{NotAnOrigin, NotAUrl, NotAName, ClientCount, NoPage, StopFile, PortInUse, PortDenied, NoPort, InUse, Denied, AboveDenied, NoDescriptor, NoRoom, Device, Taken, NoSegment, Gone, Lost, NotKept, Identity, ChangedIdentity, Busy, Damaged, TooLarge, NoSpace, NoStore, BadLine, NoDocument, Stream, NoThread, JournalFailed, StoreFailed, LeaseEnded, Stopped, Memory}
 use Rattle.app_faults.specs.declared.subject.Subject.{Subject}
@@ -104,9 +104,9 @@ abbrev pub IsStopFault : {A : Type 0} → Option A → Fault → Type 0
 IsStopFault file fault = IsSome file × ((fault ≡ StopFile) ⊎ (fault ≡ Stopped))
 
 -- what may end a server for so many clients, which this file ends, if one
-abbrev pub IsServeFault : {A : Type 0} → ℕ → Option A → Fault → Type 0
-IsServeFault clients file fault = IsPageFault fault ⊎ IsPreparingFault clients fault ⊎ IsRunningFault fault ⊎ IsStopFault file fault
+abbrev pub MayEndServer : {A : Type 0} → ℕ → Option A → Fault → Type 0
+MayEndServer clients file fault = IsPageFault fault ⊎ IsPreparingFault clients fault ⊎ IsRunningFault fault ⊎ IsStopFault file fault
 
 -- a server of this folder or document, at this port, for so many clients, which this file ends, if one, was ended by a fault, which was told
-abbrev pub IsServed : {A : Type 0} → Subject → List ℕ → ℕ → ℕ → Option A → ℕ → Option (List ℕ) → Option (List ℕ) → Type 0
-IsServed subject name port clients file status faults told = (fault : Fault) × IsServeFault clients file fault × IsEnd fault subject name port status faults told
+abbrev pub IsServedUntilFault : {A : Type 0} → Subject → List ℕ → ℕ → ℕ → Option A → ℕ → Option (List ℕ) → Option (List ℕ) → Type 0
+IsServedUntilFault subject name port clients file status faults told = (fault : Fault) × MayEndServer clients file fault × IsServerEnd fault subject name port status faults told

@@ -1,6 +1,6 @@
 // Receipts.
 ghost use Rattle.std.specs.Prelude.{◌≡◌, ◌+◌};
-ghost use Rattle.canvas_board.specs.Marks.{IsLegal};
+ghost use Rattle.canvas_board.specs.Marks.{IsLegalHistory};
 ghost use Rattle.canvas_board.specs.Receipts.{EndsWith};
 
 use crate::{Front, RoomName};
@@ -64,7 +64,7 @@ impl<N: RoomName> Receipt<N> {
     pub fn before(&self) -> u64
         ensures version { self.now.version ≡ result + 1 }
         ensures ends { EndsWith N.opening self.now.history self.now.entry self.now.version }
-        ensures legal { IsLegal N.opening self.now.history }
+        ensures legal { IsLegalHistory N.opening self.now.history }
     {
         // What the type says of its history is known by this.
         let _known = self.front.len();

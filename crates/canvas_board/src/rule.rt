@@ -17,9 +17,9 @@ pub struct Published;
 
 impl<N: RoomName> Protocol<Board<N>, LinkedList<Mark>> for Published {
     ghost use Rattle.std.specs.Prelude.{[]};
-    ghost use Rattle.canvas_board.specs.Rules.{Keeps};
+    ghost use Rattle.canvas_board.specs.Rules.{KeepsViews};
 
-    ghost holds = { Keeps };
+    ghost holds = { KeepsViews };
 
     ghost first = { [] };
 }

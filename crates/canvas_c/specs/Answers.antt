@@ -24,17 +24,17 @@ use Rattle.canvas_embed.specs.Saves.{EncodesClient, IsLoadError, SpellsClient}
 use Rattle.canvas_embed.specs.Trees.{IsTreeText}
 use Rattle.canvas_c.specs.declared.ids.ObjectId.{ObjectId}
 use Rattle.canvas_c.specs.declared.session.Session.{Session}
-use Rattle.canvas_c.specs.Ids.{told}
-use Rattle.canvas_c.specs.Numbers.{done, not_shown, memory, held, nothing, no_room, no_client}
+use Rattle.canvas_c.specs.Ids.{object_told}
+use Rattle.canvas_c.specs.Numbers.{call_done, not_shown, memory, held, nothing, no_room, no_client}
 use Rattle.canvas_c.specs.Numbers.{edit_number, create_number, create_at_number, move_at_number, create_end_number, set_number, clear_number, wire_number, heard_number, load_number}
 
 -- a client without an id, and nothing is left to be read
-abbrev pub IsNew : Session → Type 0
-IsNew s = (s.client ≡ new_client) × (s.left.items ≡ [])
+abbrev pub IsNewSession : Session → Type 0
+IsNewSession s = (s.client ≡ new_client) × (s.left.items ≡ [])
 
 -- a new session is held; or one was held already, or memory was refused, and nothing has changed
 abbrev pub NewAnswer : ℕ → Option Session → Option Session → Type 0
-NewAnswer n None (Some new) = (n ≡ done) × IsNew new
+NewAnswer n None (Some new) = (n ≡ call_done) × IsNewSession new
 NewAnswer n None None = n ≡ memory
 NewAnswer n (Some old) new = (n ≡ held) × (new ≡ Some old)
 
@@ -45,14 +45,14 @@ IsLoaded bytes s = SpellsClient bytes s.client × (s.left.items ≡ [])
 -- a session is held of the client of which the bytes are the text; or they are none, and this is why; or one was held already: then nothing
 -- has changed. Bytes that a client could be are refused for want of memory alone.
 abbrev pub LoadAnswer : List ℕ → ℕ → Option Session → Option Session → Type 0
-LoadAnswer bytes n None (Some new) = (n ≡ done) × IsLoaded bytes new × ((client : Client) → SpellsClient bytes client → new.client ≡ client)
+LoadAnswer bytes n None (Some new) = (n ≡ call_done) × IsLoaded bytes new × ((client : Client) → SpellsClient bytes client → new.client ≡ client)
 LoadAnswer bytes n None None =
     (e : LoadError) × (n ≡ load_number e) × IsLoadError bytes e × ((client : Client) → SpellsClient bytes client → IsKept client → n ≡ memory)
 LoadAnswer bytes n (Some old) new = (n ≡ held) × (new ≡ Some old)
 
 -- the session that was held has ended, or none was held
 abbrev pub FreeAnswer : ℕ → Option Session → Option Session → Type 0
-FreeAnswer n (Some old) new = (n ≡ done) × (new ≡ None)
+FreeAnswer n (Some old) new = (n ≡ call_done) × (new ≡ None)
 FreeAnswer n None new = (n ≡ no_client) × (new ≡ None)
 
 -- the bytes are a text of a message, and that is what the client has received and what is told; or they are none, this is why, and nothing
@@ -71,13 +71,13 @@ TellAnswer bytes n old new =
 -- the client has made the edit, and stands where it stood; or this is why it hasn't, and nothing has changed
 abbrev pub EditAnswer : {E : Type 0} → (E → ℕ) → (Client → Client → Type 0) → (Client → E → Type 0) → ℕ → Session → Session → Type 0
 EditAnswer {E} number Made IsError n old new =
-    ((n ≡ done) × Made old.client new.client × StandsStill old.client new.client × (new.left ≡ old.left))
+    ((n ≡ call_done) × Made old.client new.client × StandsStill old.client new.client × (new.left ≡ old.left))
     ⊎ ((e : E) × (n ≡ number e) × IsError old.client e × (new ≡ old))
 
 -- the same of a creation: `made` is the id that the object got, or as it was
 abbrev pub CreateAnswer : ℕ → Target → ObjectId → ObjectId → ℕ → Session → Session → Type 0
 CreateAnswer kind target was made =
-    EditAnswer create_number (λ old new. HasCreatedKind old kind target (told made) new) (λ old e. IsCreateError old kind target e × (made ≡ was))
+    EditAnswer create_number (λ old new. HasCreatedKind old kind target (object_told made) new) (λ old e. IsCreateError old kind target e × (made ≡ was))
 
 abbrev pub SetAnswer : ObjId → List ℕ → List ℕ → ℕ → Session → Session → Type 0
 SetAnswer id name json = EditAnswer set_number (λ old new. HasSet old id name json new) (λ old e. IsSetError old id name json e)
@@ -94,7 +94,7 @@ DeleteAnswer id = EditAnswer edit_number (λ old new. HasMade old (Delete id) ne
 -- edits at a position that is named
 abbrev pub CreateAtAnswer : ℕ → ObjId → List ℕ → ObjectId → ObjectId → ℕ → Session → Session → Type 0
 CreateAtAnswer kind parent position was made =
-    EditAnswer create_at_number (λ old new. HasCreatedKindAt old kind parent position (told made) new) (λ old e. IsCreateAtError old kind parent position e × (made ≡ was))
+    EditAnswer create_at_number (λ old new. HasCreatedKindAt old kind parent position (object_told made) new) (λ old e. IsCreateAtError old kind parent position e × (made ≡ was))
 
 abbrev pub MoveAtAnswer : ObjId → ObjId → List ℕ → ℕ → Session → Session → Type 0
 MoveAtAnswer id parent position = EditAnswer move_at_number (λ old new. HasMovedToBytes old id parent position new) (λ old e. IsMoveAtError old id parent position e)
@@ -103,7 +103,7 @@ MoveAtAnswer id parent position = EditAnswer move_at_number (λ old new. HasMove
 module _ (Lies : Doc → ObjId → ObjId → Option Pos → Type 0) where
   abbrev pub CreateThereAnswer : ℕ → ObjId → ObjectId → ObjectId → ℕ → Session → Session → Type 0
   CreateThereAnswer kind parent was made =
-      EditAnswer create_end_number (λ old new. HasCreatedKindThere Lies old kind parent (told made) new) (λ old e. IsCreateEndError Lies old kind parent e × (made ≡ was))
+      EditAnswer create_end_number (λ old new. HasCreatedKindThere Lies old kind parent (object_told made) new) (λ old e. IsCreateEndError Lies old kind parent e × (made ≡ was))
 
   abbrev pub MoveThereAnswer : ObjId → ObjId → ℕ → Session → Session → Type 0
   MoveThereAnswer id parent = EditAnswer end_error_number (λ old new. HasMovedThere Lies old id parent new) (λ old e. IsEndError Lies old parent id (placed.Move id) e)
@@ -111,7 +111,7 @@ module _ (Lies : Doc → ObjId → ObjId → Option Pos → Type 0) where
 -- the text is left; or there is none, and this is why; or memory was refused. The client is as it was, and unless a text is left, all is
 abbrev pub TextAnswer : (List ℕ → Type 0) → Type 0 → ℕ → Session → Session → Type 0
 TextAnswer IsText IsNone n old new =
-    ((n ≡ done) × IsText new.left.items × (new.client ≡ old.client)) ⊎ (((n ≡ nothing) × IsNone × (new ≡ old)) ⊎ ((n ≡ memory) × (new ≡ old)))
+    ((n ≡ call_done) × IsText new.left.items × (new.client ≡ old.client)) ⊎ (((n ≡ nothing) × IsNone × (new ≡ old)) ⊎ ((n ≡ memory) × (new ≡ old)))
 
 abbrev pub JoinAnswer : ℕ → Session → Session → Type 0
 JoinAnswer n old new = TextAnswer (λ text. EncodesMessage text Join) ⊥ n old new
@@ -138,9 +138,9 @@ SaveAnswer n old new = TextAnswer (λ text. EncodesClient text old.client) ⊥ n
 
 -- the object is in the tree that the client shows, or it isn't
 abbrev pub InTreeAnswer : ObjId → ℕ → Session → Session → Type 0
-InTreeAnswer id n old new = (new ≡ old) × (((n ≡ done) × InTree old.client.view id) ⊎ ((n ≡ not_shown) × (InTree old.client.view id → ⊥)))
+InTreeAnswer id n old new = (new ≡ old) × (((n ≡ call_done) × InTree old.client.view id) ⊎ ((n ≡ not_shown) × (InTree old.client.view id → ⊥)))
 
 -- what was left stands at the start of the room, and behind it the room is as it was; or it is longer than the room, which is as it was
 abbrev pub ReadAnswer : List ℕ → List ℕ → ℕ → Session → Session → Type 0
 ReadAnswer was room n old new =
-    (new ≡ old) × (((n ≡ done) × (room ≡ old.left.items ++ drop (length old.left.items) was)) ⊎ ((n ≡ no_room) × (length was < length old.left.items) × (room ≡ was)))
+    (new ≡ old) × (((n ≡ call_done) × (room ≡ old.left.items ++ drop (length old.left.items) was)) ⊎ ((n ≡ no_room) × (length was < length old.left.items) × (room ≡ was)))

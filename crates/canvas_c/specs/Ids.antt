@@ -9,8 +9,8 @@ abbrev pub object : ℕ → ℕ → ObjId
 object client counter = record { client = client; counter = counter }
 
 -- the object that C was told of
-abbrev pub told : ObjectId → ObjId
-told id = object id.client id.counter
+abbrev pub object_told : ObjectId → ObjId
+object_told id = object id.client id.counter
 
 -- the child to come after: none where both numbers are 0
 unfoldable pub after_of : ℕ → ℕ → Option ObjId

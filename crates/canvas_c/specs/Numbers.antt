@@ -34,8 +34,8 @@ use Rattle.canvas_embed.specs.declared.heard.Heard.{Heard}
 use Rattle.canvas_embed.specs.declared.heard.Heard.TheVariants as heard
 
 -- the call has done what it is for
-abbrev pub done : ℕ
-done = 0
+abbrev pub call_done : ℕ
+call_done = 0
 
 -- the object isn't in the tree
 abbrev pub not_shown : ℕ

@@ -11,7 +11,7 @@ ghost use Rattle.canvas_client.specs.Ends.{LiesFirst, LiesLast};
 ghost use Rattle.canvas_client.specs.Kept.{IsKept};
 ghost use Rattle.canvas_embed.specs.Saves.{IsLoadError, SpellsClient};
 ghost use Rattle.canvas_embed.specs.declared.fault.LoadError.TheVariants as load;
-ghost use Rattle.canvas_c.specs.Answers.{AskAnswer, ChildrenAnswer, ClearAnswer, CreateAnswer, CreateAtAnswer, CreateThereAnswer, DeleteAnswer, FreeAnswer, InTreeAnswer, IsLoaded, IsNew, JoinAnswer, LoadAnswer, MoveAnswer, MoveAtAnswer, MoveThereAnswer, NewAnswer, ObjectAnswer, ReadAnswer, ReceiveAnswer, SaveAnswer, SetAnswer, TellAnswer, TreeAnswer, WaitingAnswer};
+ghost use Rattle.canvas_c.specs.Answers.{AskAnswer, ChildrenAnswer, ClearAnswer, CreateAnswer, CreateAtAnswer, CreateThereAnswer, DeleteAnswer, FreeAnswer, InTreeAnswer, IsLoaded, IsNewSession, JoinAnswer, LoadAnswer, MoveAnswer, MoveAtAnswer, MoveThereAnswer, NewAnswer, ObjectAnswer, ReadAnswer, ReceiveAnswer, SaveAnswer, SetAnswer, TellAnswer, TreeAnswer, WaitingAnswer};
 ghost use Rattle.canvas_c.specs.Held.{OnHeld};
 ghost use Rattle.canvas_c.specs.Ids.{object, target_of};
 ghost use Rattle.canvas_c.specs.Numbers.{no_client};
@@ -50,7 +50,7 @@ pub extern "C" fn lugcurrant_new(handle: &mut Handle, alloc: Global) -> u32
 
 // A new session in a box.
 fn boxed(alloc: Global) -> Result<Box<Session>, AllocError>
-    ensures { IfOk result (λ session. IsNew session.value) }
+    ensures { IfOk result (λ session. IsNewSession session.value) }
 {
     let session = Session::new(alloc)?;
     match Box::new(alloc, session) {

@@ -5,7 +5,7 @@ ghost use Rattle.canvas_client.specs.Ends.{LiesFirst, LiesLast};
 ghost use Rattle.canvas_client.specs.Kept.{IsKept};
 ghost use Rattle.canvas_embed.specs.Saves.{IsLoadError, SpellsClient};
 ghost use Rattle.canvas_embed.specs.declared.fault.LoadError.TheVariants as load;
-ghost use Rattle.canvas_c.specs.Answers.{AskAnswer, ChildrenAnswer, ClearAnswer, CreateAnswer, CreateAtAnswer, CreateThereAnswer, DeleteAnswer, InTreeAnswer, IsLoaded, IsNew, JoinAnswer, MoveAnswer, MoveAtAnswer, MoveThereAnswer, ObjectAnswer, ReadAnswer, ReceiveAnswer, SaveAnswer, SetAnswer, TellAnswer, TreeAnswer, WaitingAnswer};
+ghost use Rattle.canvas_c.specs.Answers.{AskAnswer, ChildrenAnswer, ClearAnswer, CreateAnswer, CreateAtAnswer, CreateThereAnswer, DeleteAnswer, InTreeAnswer, IsLoaded, IsNewSession, JoinAnswer, MoveAnswer, MoveAtAnswer, MoveThereAnswer, ObjectAnswer, ReadAnswer, ReceiveAnswer, SaveAnswer, SetAnswer, TellAnswer, TreeAnswer, WaitingAnswer};
 
 use crate::ids::ObjectId;
 use crate::numbers::{
@@ -27,7 +27,7 @@ pub struct Session {
 impl Session {
     /// A client without an id. Errors: out of memory.
     pub fn new(alloc: Global) -> Result<Session, AllocError>
-        ensures { IfOk result IsNew }
+        ensures { IfOk result IsNewSession }
     {
         let client = Client::new(alloc)?;
         Ok(Session {

@@ -8,8 +8,8 @@ use Rattle.canvas_nodes.specs.GoesOn.{GoesOn}
 use Rattle.canvas_daemon.specs.declared.fault.DaemonFault.{DaemonFault}
 use Rattle.canvas_daemon.specs.declared.fault.DaemonFault.TheVariants.{Usage, BadLine, Memory, Device, Damaged, TooLarge}
 use Rattle.canvas_daemon.specs.Faults.{IsMemoryOrDevice}
-use Rattle.canvas_daemon.specs.Answered.{AnswersLine, HasJoined, IsUnreadable, PlaysEach, PlaysLine, WritesBlock, version_line}
-use Rattle.canvas_daemon.specs.Edited.{HasEnded, IsCutBy, IsCutShort, IsLeftBy, IsLineCutBy, IsPlayed, Plays, PlaysAll, TakesLines}
+use Rattle.canvas_daemon.specs.Answered.{AnswersLine, HasJoined, IsUnreadable, PlaysEach, PlaysLine, WritesBlock, version_and_waiting_line}
+use Rattle.canvas_daemon.specs.Edited.{HasEnded, EndsByFault, IsCutShort, IsLeftBy, IsLineCutBy, IsEditedToEnd, PlaysLines, PlaysAll, TakesLines}
 use Rattle.canvas_daemon.proofs.Taking.{more_taken, nothing_taken}
 
 -- one line more was answered
@@ -21,7 +21,7 @@ one_more old mid new (first ∷ lines) line text answer (head, rest, between, pl
 
 -- the lines before this number were taken and answered
 abbrev pub PlaysBefore : Client → (read left written after : Option (List ℕ)) → Client → ℕ → Type 0
-PlaysBefore old read left written after new number = (plays : Plays old read left written after new) × (length plays.lines + 1 ≡ number)
+PlaysBefore old read left written after new number = (plays : PlaysLines old read left written after new) × (length plays.lines + 1 ≡ number)
 
 -- no line was answered yet
 pub none_before : (client : Client) (read written : Option (List ℕ)) → PlaysBefore client read read written written client 1
@@ -49,7 +49,7 @@ one_text read left next line text is same taken =
     (subst (λ (o : Option (Vec ℕ Global)). MatchOption o (TakesLines read left [] × HasEnded read left) (λ line. TakesLines read left (line.items ∷ []))) is taken)
 
 -- where nothing more was taken or written
-cut_short : (old mid : Client) (read left written after : Option (List ℕ)) → Plays old read left written after mid → IsCutShort old read written after
+cut_short : (old mid : Client) (read left written after : Option (List ℕ)) → PlaysLines old read left written after mid → IsCutShort old read written after
 cut_short old mid read left written after plays = record {
   lines = plays.lines;
   answers = plays.answers;
@@ -60,7 +60,7 @@ cut_short old mid read left written after plays = record {
 }
 
 -- a fault of the input ends the lines
-pub cut_at_reading : (old mid : Client) (read between left written after : Option (List ℕ)) (fault : DaemonFault) → Plays old read between written after mid → IsMemoryOrDevice fault → IsCutBy old read left written after fault
+pub cut_at_reading : (old mid : Client) (read between left written after : Option (List ℕ)) (fault : DaemonFault) → PlaysLines old read between written after mid → IsMemoryOrDevice fault → EndsByFault old read left written after fault
 cut_at_reading old mid read between left written after Usage plays is = is
 cut_at_reading old mid read between left written after (BadLine n) plays is = absurd is
 cut_at_reading old mid read between left written after Memory plays is = cut_short old mid read between written after plays
@@ -70,7 +70,7 @@ cut_at_reading old mid read between left written after TooLarge plays is = is
 
 -- a fault of the next line ends the lines
 pub cut_at_line : (old mid : Client) (read between left written told after : Option (List ℕ)) (line : List ℕ) (number : ℕ) (fault : DaemonFault) → PlaysBefore old read between written told mid number
-    → TakesLines between left (line ∷ []) → IsLineCutBy number (IsUnreadable line) told after fault → IsCutBy old read left written after fault
+    → TakesLines between left (line ∷ []) → IsLineCutBy number (IsUnreadable line) told after fault → EndsByFault old read left written after fault
 cut_at_line old mid read between left written told after line number Usage plays taken cut = cut
 cut_at_line old mid read between left written told after line number (BadLine n) (plays, counted) taken (is, unreadable, same) = record {
   lines = plays.lines;
@@ -90,7 +90,7 @@ cut_at_line old mid read between left written told after line number (Damaged se
 cut_at_line old mid read between left written told after line number TooLarge plays taken cut = cut
 
 -- a client that had joined was cut in its lines
-pub left_by_cut : (joined : Client) (read left written after : Option (List ℕ)) (fault : DaemonFault) → HasJoined joined → IsCutBy joined read left written after fault → IsLeftBy read left written after fault
+pub left_by_cut : (joined : Client) (read left written after : Option (List ℕ)) (fault : DaemonFault) → HasJoined joined → EndsByFault joined read left written after fault → IsLeftBy read left written after fault
 left_by_cut joined read left written after Usage has cut = cut
 left_by_cut joined read left written after (BadLine n) has cut = (joined, has, cut)
 left_by_cut joined read left written after Memory has cut = inr (inl (joined, has, cut))
@@ -112,12 +112,12 @@ left_at_end joined between read left written told after TooLarge has all is same
 
 -- after all lines and the version nothing more was written
 pub left_unshown : (joined between last : Client) (read left written answered told after : Option (List ℕ)) (fault : DaemonFault) → HasJoined joined → PlaysAll joined read left written answered between → GoesOn between last
-    → Appends answered told (version_line last) → IsMemoryOrDevice fault → ((fault ≡ Device → ⊥) → after ≡ told) → IsLeftBy read left written after fault
+    → Appends answered told (version_and_waiting_line last) → IsMemoryOrDevice fault → ((fault ≡ Device → ⊥) → after ≡ told) → IsLeftBy read left written after fault
 left_unshown joined between last read left written answered told after Usage has all goes_on tells is same = is
 left_unshown joined between last read left written answered told after (BadLine n) has all goes_on tells is same = absurd is
 left_unshown joined between last read left written answered told after Memory has (plays, ended) goes_on tells is same =
     let other : Memory ≡ Device → ⊥ = λ e. cc in
-    let told_all = Appends-trans written answered told plays.answers (version_line last) plays.is_written tells in
+    let told_all = Appends-trans written answered told plays.answers (version_and_waiting_line last) plays.is_written tells in
     inr (inr (record {
       lines = plays.lines;
       joined = joined;
@@ -129,7 +129,7 @@ left_unshown joined between last read left written answered told after Memory ha
       at_end = ended;
       played = plays.played;
       goes_on = goes_on;
-      is_written = subst (λ (o : Option (List ℕ)). Appends written o (plays.answers ++ version_line last)) (sym (same other)) told_all;
+      is_written = subst (λ (o : Option (List ℕ)). Appends written o (plays.answers ++ version_and_waiting_line last)) (sym (same other)) told_all;
     }))
 left_unshown joined between last read left written answered told after Device has all goes_on tells is same = tt
 left_unshown joined between last read left written answered told after (Damaged segment offset) has all goes_on tells is same = is
@@ -137,7 +137,7 @@ left_unshown joined between last read left written answered told after TooLarge 
 
 -- all lines were answered, and then the version and the block were written
 pub played_to_end : (joined between last : Client) (read left written answered told after : Option (List ℕ)) → HasJoined joined → PlaysAll joined read left written answered between → GoesOn between last
-    → Appends answered told (version_line last) → WritesBlock last told after → IsPlayed read left written after
+    → Appends answered told (version_and_waiting_line last) → WritesBlock last told after → IsEditedToEnd read left written after
 played_to_end joined between last read left written answered told after has (plays, ended) goes_on tells (block, is_block, shows) = record {
   lines = plays.lines;
   joined = joined;
@@ -151,5 +151,5 @@ played_to_end joined between last read left written answered told after has (pla
   played = plays.played;
   goes_on = goes_on;
   is_block = is_block;
-  is_written = Appends-trans written told after (plays.answers ++ version_line last) block (Appends-trans written answered told plays.answers (version_line last) plays.is_written tells) shows;
+  is_written = Appends-trans written told after (plays.answers ++ version_and_waiting_line last) block (Appends-trans written answered told plays.answers (version_and_waiting_line last) plays.is_written tells) shows;
 }

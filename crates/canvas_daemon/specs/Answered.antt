@@ -19,8 +19,8 @@ abbrev pub HasJoined : Client → Type 0
 HasJoined client = GoesOn new_client client × IsSome client.id
 
 -- the line of a client's version and of how many of its edits wait
-abbrev pub version_line : Client → List ℕ
-version_line client = codes "version " ++ decimal client.version ++ codes " waiting " ++ decimal (length client.waiting) ++ 10 ∷ []
+abbrev pub version_and_waiting_line : Client → List ℕ
+version_and_waiting_line client = codes "version " ++ decimal client.version ++ codes " waiting " ++ decimal (length client.waiting) ++ 10 ∷ []
 
 -- the client's block, under the name `me`
 abbrev pub IsOwnBlock : Client → List ℕ → Type 0
@@ -36,20 +36,20 @@ MakesEdit old request (Made n) new = HasMade old request new × (n ≡ last_numb
 MakesEdit old request (Refused error) new = IsSomeAnd (refusal error) (Refuses old request) × (new ≡ old)
 
 -- the line that answers an edit
-abbrev pub answer_line : EditAnswer → List ℕ
-answer_line (Made n) = edit_line n
-answer_line (Refused error) = refusal_line (refusal error)
+abbrev pub edit_answer_line : EditAnswer → List ℕ
+edit_answer_line (Made n) = edit_line n
+edit_answer_line (Refused error) = refusal_line (refusal error)
 
 -- the line spells an edit, and what became of it is told
 abbrev pub PlaysEdit : Client → List ℕ → List ℕ → Client → Type 0
-PlaysEdit old line text new = (request : EditRequest) × (answer : EditAnswer) × SpellsEdit line request × MakesEdit old request answer new × (text ≡ answer_line answer)
+PlaysEdit old line text new = (request : EditRequest) × (answer : EditAnswer) × SpellsEdit line request × MakesEdit old request answer new × (text ≡ edit_answer_line answer)
 
 -- what a client makes of a line, and the text that answers it: none, where the line is passed over; its version after `exchange`, by which
 -- it has gone on; its block for `show`; and otherwise what became of the edit that the line spells
 abbrev pub PlaysLine : Client → List ℕ → List ℕ → Client → Type 0
 PlaysLine old line text new =
     ((is_passed line ≡ true) × (text ≡ []) × (new ≡ old))
-    ⊎ ((line ≡ codes "exchange") × GoesOn old new × (text ≡ version_line new))
+    ⊎ ((line ≡ codes "exchange") × GoesOn old new × (text ≡ version_and_waiting_line new))
     ⊎ ((line ≡ codes "show") × IsOwnBlock old text × (new ≡ old))
     ⊎ PlaysEdit old line text new
 

@@ -6,7 +6,7 @@ use Rattle.canvas_nodes.specs.GoesOn.{GoesOn}
 use Rattle.canvas_lines.specs.Lines.{lines_of}
 use Rattle.canvas_daemon.specs.declared.fault.DaemonFault.{DaemonFault}
 use Rattle.canvas_daemon.specs.declared.fault.DaemonFault.TheVariants.{Usage, BadLine, Memory, Device, Damaged, TooLarge}
-use Rattle.canvas_daemon.specs.Answered.{HasJoined, IsOwnBlock, IsUnreadable, PlaysEach, version_line}
+use Rattle.canvas_daemon.specs.Answered.{HasJoined, IsOwnBlock, IsUnreadable, PlaysEach, version_and_waiting_line}
 
 -- these lines were taken from the front of the input, where what it holds is known
 abbrev pub TakesLines : Option (List ℕ) → Option (List ℕ) → List (List ℕ) → Type 0
@@ -23,7 +23,7 @@ abbrev pub HasEnded : Option (List ℕ) → Option (List ℕ) → Type 0
 HasEnded read left = IfSome read (λ xs. IsAtEnd left)
 
 -- lines were taken and answered, from this client on to that one, and the answers were written
-pub record Plays (old : Client) (read left written after : Option (List ℕ)) (new : Client) : Type 0 where
+pub record PlaysLines (old : Client) (read left written after : Option (List ℕ)) (new : Client) : Type 0 where
   pub lines : List (List ℕ)
   pub answers : List ℕ
   pub taken : TakesLines read left lines
@@ -32,10 +32,10 @@ pub record Plays (old : Client) (read left written after : Option (List ℕ)) (n
 
 -- all lines of the input were taken and answered
 abbrev pub PlaysAll : Client → (read left written after : Option (List ℕ)) → Client → Type 0
-PlaysAll old read left written after new = Plays old read left written after new × HasEnded read left
+PlaysAll old read left written after new = PlaysLines old read left written after new × HasEnded read left
 
 -- the n-th line, from 1, can't be read; those before it were answered, and no more was written
-pub record IsCutAt (old : Client) (read left written after : Option (List ℕ)) (n : ℕ) : Type 0 where
+pub record EndsAtBadLine (old : Client) (read left written after : Option (List ℕ)) (n : ℕ) : Type 0 where
   pub lines : List (List ℕ)
   pub line : List ℕ
   pub answers : List ℕ
@@ -65,17 +65,17 @@ IsLineCutBy number P written after (Damaged segment offset) = ⊥
 IsLineCutBy number P written after TooLarge = ⊥
 
 -- the fault ended the lines; with a failed device what was written isn't known
-abbrev pub IsCutBy : Client → (read left written after : Option (List ℕ)) → DaemonFault → Type 0
-IsCutBy old read left written after Usage = ⊥
-IsCutBy old read left written after (BadLine n) = IsCutAt old read left written after n
-IsCutBy old read left written after Memory = IsCutShort old read written after
-IsCutBy old read left written after Device = Unit {0}
-IsCutBy old read left written after (Damaged segment offset) = ⊥
-IsCutBy old read left written after TooLarge = ⊥
+abbrev pub EndsByFault : Client → (read left written after : Option (List ℕ)) → DaemonFault → Type 0
+EndsByFault old read left written after Usage = ⊥
+EndsByFault old read left written after (BadLine n) = EndsAtBadLine old read left written after n
+EndsByFault old read left written after Memory = IsCutShort old read written after
+EndsByFault old read left written after Device = Unit {0}
+EndsByFault old read left written after (Damaged segment offset) = ⊥
+EndsByFault old read left written after TooLarge = ⊥
 
 -- All lines of the input were answered by a client that had joined. It then went on once more, and its version and its block were
 -- written after the answers.
-pub record IsPlayed (read left written after : Option (List ℕ)) : Type 0 where
+pub record IsEditedToEnd (read left written after : Option (List ℕ)) : Type 0 where
   pub lines : List (List ℕ)
   pub joined : Client
   pub between : Client
@@ -88,7 +88,7 @@ pub record IsPlayed (read left written after : Option (List ℕ)) : Type 0 where
   pub played : PlaysEach joined lines answers between
   pub goes_on : GoesOn between last
   pub is_block : IsOwnBlock last block
-  pub is_written : Appends written after (answers ++ version_line last ++ block)
+  pub is_written : Appends written after (answers ++ version_and_waiting_line last ++ block)
 
 -- the same, but that the block wasn't written
 pub record IsUnshown (read left written after : Option (List ℕ)) : Type 0 where
@@ -102,13 +102,13 @@ pub record IsUnshown (read left written after : Option (List ℕ)) : Type 0 wher
   pub at_end : HasEnded read left
   pub played : PlaysEach joined lines answers between
   pub goes_on : GoesOn between last
-  pub is_written : Appends written after (answers ++ version_line last)
+  pub is_written : Appends written after (answers ++ version_and_waiting_line last)
 
 -- What a fault leaves: for a bad line what a client wrote that had joined and was cut there; for want of memory nothing, or what it wrote
 -- that was cut, maybe before its block; with a failed device what was written isn't known.
 abbrev pub IsLeftBy : (read left written after : Option (List ℕ)) → DaemonFault → Type 0
 IsLeftBy read left written after Usage = ⊥
-IsLeftBy read left written after (BadLine n) = (joined : Client) × HasJoined joined × IsCutAt joined read left written after n
+IsLeftBy read left written after (BadLine n) = (joined : Client) × HasJoined joined × EndsAtBadLine joined read left written after n
 IsLeftBy read left written after Memory = (after ≡ written) ⊎ ((joined : Client) × HasJoined joined × IsCutShort joined read written after) ⊎ IsUnshown read left written after
 IsLeftBy read left written after Device = Unit {0}
 IsLeftBy read left written after (Damaged segment offset) = ⊥

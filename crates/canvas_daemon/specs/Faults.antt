@@ -17,31 +17,31 @@ use Rattle.canvas_daemon.specs.declared.fault.DaemonFault.TheVariants.{Usage, Ba
 
 -- 2 for words or a line that can't be read, 3 for want of memory, 4 for a device, socket or stream that failed, 5 for a damaged
 -- journal, 6 for one without room
-abbrev pub IsFaultStatus : DaemonFault → ℕ → Type 0
-IsFaultStatus Usage status = status ≡ 2
-IsFaultStatus (BadLine n) status = status ≡ 2
-IsFaultStatus Memory status = status ≡ 3
-IsFaultStatus Device status = status ≡ 4
-IsFaultStatus (Damaged segment offset) status = status ≡ 5
-IsFaultStatus TooLarge status = status ≡ 6
+abbrev pub IsDaemonStatus : DaemonFault → ℕ → Type 0
+IsDaemonStatus Usage status = status ≡ 2
+IsDaemonStatus (BadLine n) status = status ≡ 2
+IsDaemonStatus Memory status = status ≡ 3
+IsDaemonStatus Device status = status ≡ 4
+IsDaemonStatus (Damaged segment offset) status = status ≡ 5
+IsDaemonStatus TooLarge status = status ≡ 6
 
 -- the text of a fault
-abbrev pub fault_text : DaemonFault → List ℕ
-fault_text Usage = codes "usage: canvasd serve DIR PORT N | edit PORT | show DIR | trial DIR"
-fault_text (BadLine n) = codes "line " ++ decimal n ++ codes ": cannot read"
-fault_text Memory = codes "out of memory"
-fault_text Device = codes "device or socket failed"
-fault_text (Damaged segment offset) = codes "damaged segment " ++ decimal segment ++ codes " offset " ++ decimal offset
-fault_text TooLarge = codes "too large"
+abbrev pub daemon_fault_text : DaemonFault → List ℕ
+daemon_fault_text Usage = codes "usage: canvasd serve DIR PORT N | edit PORT | show DIR | trial DIR"
+daemon_fault_text (BadLine n) = codes "line " ++ decimal n ++ codes ": cannot read"
+daemon_fault_text Memory = codes "out of memory"
+daemon_fault_text Device = codes "device or socket failed"
+daemon_fault_text (Damaged segment offset) = codes "damaged segment " ++ decimal segment ++ codes " offset " ++ decimal offset
+daemon_fault_text TooLarge = codes "too large"
 
 -- a fault is told by its text in a line of its own
-abbrev pub fault_line : DaemonFault → List ℕ
-fault_line fault = fault_text fault ++ 10 ∷ []
+abbrev pub daemon_fault_line : DaemonFault → List ℕ
+daemon_fault_line fault = daemon_fault_text fault ++ 10 ∷ []
 
 -- the fault's status where it was told, or 4
-abbrev pub IsEnd : DaemonFault → ℕ → Option (List ℕ) → Option (List ℕ) → Type 0
-IsEnd fault status faults told =
-    (IsFaultStatus fault status × Appends faults told (fault_line fault)) ⊎ (status ≡ 4)
+abbrev pub IsDaemonEnd : DaemonFault → ℕ → Option (List ℕ) → Option (List ℕ) → Type 0
+IsDaemonEnd fault status faults told =
+    (IsDaemonStatus fault status × Appends faults told (daemon_fault_line fault)) ⊎ (status ≡ 4)
 
 -- the fault that a journal that isn't opened is
 abbrev pub fault_of_opening : OpenError → DaemonFault

@@ -5,18 +5,18 @@ use Rattle.canvas_daemon.specs.declared.args.DaemonCommand as declared
 use Rattle.canvas_daemon.specs.declared.args.DaemonCommand.TheVariants as command
 
 -- what is asked for
-pub data Asked : Type 0 where
+pub data AskedOfDaemon : Type 0 where
   -- a server of this folder at this port, for so many connections
-  AsksServe : List ℕ → ℕ → ℕ → Asked
+  AsksServe : List ℕ → ℕ → ℕ → AskedOfDaemon
   -- a client of the server at this port
-  AsksEdit : ℕ → Asked
+  AsksEdit : ℕ → AskedOfDaemon
   -- the document in this folder
-  AsksShow : List ℕ → Asked
+  AsksShow : List ℕ → AskedOfDaemon
   -- a server of this folder with two clients
-  AsksTrial : List ℕ → Asked
+  AsksTrial : List ℕ → AskedOfDaemon
 
 -- what contracts see of a command
-abbrev pub seen_command : declared.DaemonCommand → Asked
+abbrev pub seen_command : declared.DaemonCommand → AskedOfDaemon
 seen_command (command.Serve dir port connections) = AsksServe dir.now port connections
 seen_command (command.Edit port) = AsksEdit port
 seen_command (command.Show dir) = AsksShow dir.now
@@ -39,7 +39,7 @@ abbrev pub SpellsConnections : List ℕ → ℕ → Type 0
 SpellsConnections word count = IsConnectionCount count × (word ≡ decimal count)
 
 -- the words ask for this
-abbrev pub AskFor : List (List ℕ) → Asked → Type 0
+abbrev pub AskFor : List (List ℕ) → AskedOfDaemon → Type 0
 AskFor words (AsksServe dir port count) = IsPort port × IsConnectionCount count × (words ≡ codes "serve" ∷ dir ∷ decimal port ∷ decimal count ∷ [])
 AskFor words (AsksEdit port) = IsPort port × (words ≡ codes "edit" ∷ decimal port ∷ [])
 AskFor words (AsksShow dir) = words ≡ codes "show" ∷ dir ∷ []

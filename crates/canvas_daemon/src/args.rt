@@ -1,6 +1,6 @@
 // The words that the program is called with.
 ghost use Rattle.std.specs.Prelude.{◌∷◌, ℕ, IfNone, IfSome, codes, map, string_bytes};
-ghost use Rattle.canvas_daemon.specs.Words.{AskFor, Asked, SpellsConnections, SpellsPort, seen_command};
+ghost use Rattle.canvas_daemon.specs.Words.{AskFor, AskedOfDaemon, SpellsConnections, SpellsPort, seen_command};
 
 use canvas_model::words::read_number;
 
@@ -40,7 +40,7 @@ pub enum DaemonCommand<'a> {
 /// PORT is 1 to 65535 and N 1 to 64, in decimal digits without leading zeros. `None` where they ask for none.
 pub fn read_command(words: &[String]) -> Option<DaemonCommand<'_>>
     ensures some { IfSome result (λ command. AskFor (map string_bytes words.now) (seen_command command)) }
-    ensures none { IfNone result ((asked : Asked) → AskFor (map string_bytes words.now) asked → ⊥) }
+    ensures none { IfNone result ((asked : AskedOfDaemon) → AskFor (map string_bytes words.now) asked → ⊥) }
 {
     let (first, rest) = words.split_first()?;
     match first.as_bytes() {
@@ -55,7 +55,7 @@ pub fn read_command(words: &[String]) -> Option<DaemonCommand<'_>>
 // The command that `serve` and these words ask for.
 fn read_serve(rest: &[String]) -> Option<DaemonCommand<'_>>
     ensures some { IfSome result (λ command. AskFor (codes "serve" ∷ map string_bytes rest.now) (seen_command command)) }
-    ensures none { IfNone result ((asked : Asked) → AskFor (codes "serve" ∷ map string_bytes rest.now) asked → ⊥) }
+    ensures none { IfNone result ((asked : AskedOfDaemon) → AskFor (codes "serve" ∷ map string_bytes rest.now) asked → ⊥) }
 {
     let [dir, port, connections] = rest else {
         return None;
@@ -72,7 +72,7 @@ fn read_serve(rest: &[String]) -> Option<DaemonCommand<'_>>
 // The command that `edit` and these words ask for.
 fn read_edit(rest: &[String]) -> Option<DaemonCommand<'_>>
     ensures some { IfSome result (λ command. AskFor (codes "edit" ∷ map string_bytes rest.now) (seen_command command)) }
-    ensures none { IfNone result ((asked : Asked) → AskFor (codes "edit" ∷ map string_bytes rest.now) asked → ⊥) }
+    ensures none { IfNone result ((asked : AskedOfDaemon) → AskFor (codes "edit" ∷ map string_bytes rest.now) asked → ⊥) }
 {
     let [port] = rest else {
         return None;
@@ -84,7 +84,7 @@ fn read_edit(rest: &[String]) -> Option<DaemonCommand<'_>>
 // The command that `show` and these words ask for.
 fn read_show(rest: &[String]) -> Option<DaemonCommand<'_>>
     ensures some { IfSome result (λ command. AskFor (codes "show" ∷ map string_bytes rest.now) (seen_command command)) }
-    ensures none { IfNone result ((asked : Asked) → AskFor (codes "show" ∷ map string_bytes rest.now) asked → ⊥) }
+    ensures none { IfNone result ((asked : AskedOfDaemon) → AskFor (codes "show" ∷ map string_bytes rest.now) asked → ⊥) }
 {
     let [dir] = rest else {
         return None;
@@ -95,7 +95,7 @@ fn read_show(rest: &[String]) -> Option<DaemonCommand<'_>>
 // The command that `trial` and these words ask for.
 fn read_trial(rest: &[String]) -> Option<DaemonCommand<'_>>
     ensures some { IfSome result (λ command. AskFor (codes "trial" ∷ map string_bytes rest.now) (seen_command command)) }
-    ensures none { IfNone result ((asked : Asked) → AskFor (codes "trial" ∷ map string_bytes rest.now) asked → ⊥) }
+    ensures none { IfNone result ((asked : AskedOfDaemon) → AskFor (codes "trial" ∷ map string_bytes rest.now) asked → ⊥) }
 {
     let [dir] = rest else {
         return None;

@@ -1,7 +1,7 @@
 // What `canvasd edit` does: a client that plays the lines of its input.
 ghost use Rattle.std.specs.Prelude.{◌≡◌, ◌↔◌, ◌-◌, [], ◌∷◌, IfErr, IfOk, IsTrue, MatchOption, OnOk, length, slice_get, string_bytes};
-ghost use Rattle.canvas_daemon.specs.Answered.{AnswersEdit, AnswersLine, IsUnreadable, MakesEdit, SpellsNoEdit, answer_line};
-ghost use Rattle.canvas_daemon.specs.Edited.{HasEnded, IsCutBy, IsLeftBy, IsLineCutBy, IsPlayed, PlaysAll, TakesLines};
+ghost use Rattle.canvas_daemon.specs.Answered.{AnswersEdit, AnswersLine, IsUnreadable, MakesEdit, SpellsNoEdit, edit_answer_line};
+ghost use Rattle.canvas_daemon.specs.Edited.{HasEnded, EndsByFault, IsLeftBy, IsLineCutBy, IsEditedToEnd, PlaysAll, TakesLines};
 ghost use Rattle.canvas_daemon.specs.Faults.{IsMemoryOrDevice};
 
 use crate::fault::DaemonFault;
@@ -30,7 +30,7 @@ where
     R: Net<Stream = TcpStream> + RandomSource + AllocGlobal + Clone + Drop,
     I: BufRead,
     W: Write,
-    ensures played { OnOk result (IsPlayed
+    ensures played { OnOk result (IsEditedToEnd
         (I.remaining input.old) (I.remaining input.new)
         (W.contents output.old) (W.contents output.new)) }
     ensures left { IfErr result (IsLeftBy
@@ -69,7 +69,7 @@ where
     ensures played { OnOk result (PlaysAll node.old.client
         (I.remaining input.old) (I.remaining input.new)
         (W.contents output.old) (W.contents output.new) node.new.client) }
-    ensures cut { IfErr result (IsCutBy node.old.client
+    ensures cut { IfErr result (EndsByFault node.old.client
         (I.remaining input.old) (I.remaining input.new)
         (W.contents output.old) (W.contents output.new)) }
 {
@@ -195,7 +195,7 @@ where
 
 // The line that answers an edit.
 fn answer_line(alloc: Global, answer: EditAnswer) -> Result<String, AllocError>
-    ensures { IfOk result (λ line. string_bytes line ≡ answer_line answer) }
+    ensures { IfOk result (λ line. string_bytes line ≡ edit_answer_line answer) }
 {
     match answer {
         EditAnswer::Made(edit) => edit_line(alloc, edit),

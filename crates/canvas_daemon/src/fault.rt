@@ -1,6 +1,6 @@
 // What ends the program early: its text, and the status that the program ends with.
 ghost use Rattle.std.specs.Prelude.{◌≡◌};
-ghost use Rattle.canvas_daemon.specs.Faults.{IsEnd, IsFaultStatus};
+ghost use Rattle.canvas_daemon.specs.Faults.{IsDaemonEnd, IsDaemonStatus};
 
 use canvas_folder::FolderError;
 use canvas_journal::OpenError;
@@ -36,9 +36,9 @@ pub enum DaemonFault {
 
 impl fmt::Display for DaemonFault {
     ghost use Rattle.std.specs.Prelude.{Some};
-    ghost use Rattle.canvas_daemon.specs.Faults.{fault_text};
+    ghost use Rattle.canvas_daemon.specs.Faults.{daemon_fault_text};
 
-    ghost output = { λ fault. Some (fault_text fault) };
+    ghost output = { λ fault. Some (daemon_fault_text fault) };
 
     fn fmt<W: fmt::Write>(&self, f: &mut fmt::Formatter<W>) -> fmt::Result {
         match self {
@@ -157,7 +157,7 @@ impl From<LineFault> for DaemonFault {
 impl DaemonFault {
     /// The program's status.
     pub fn status(&self) -> u8
-        ensures { IsFaultStatus self.now result }
+        ensures { IsDaemonStatus self.now result }
     {
         match self {
             DaemonFault::Usage | DaemonFault::BadLine(_) => 2,
@@ -171,7 +171,7 @@ impl DaemonFault {
 
 /// Tells of a fault on `faults`: its text and a line feed. The program's status: the fault's, or 4 where it can't be told.
 pub fn end<F: Write>(fault: &DaemonFault, faults: &mut F) -> u8
-    ensures { IsEnd fault.now result (F.contents faults.old) (F.contents faults.new) }
+    ensures { IsDaemonEnd fault.now result (F.contents faults.old) (F.contents faults.new) }
 {
     if writeln!(faults, "{fault}").is_err() || faults.flush().is_err() {
         return 4;

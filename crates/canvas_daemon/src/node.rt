@@ -4,7 +4,7 @@ ghost use Rattle.std.specs.Io.KnownBytes.{Appends};
 ghost use Rattle.canvas_client.specs.Asked.{HasMade, IsRefusal, refusal};
 ghost use Rattle.canvas_model.specs.Client.{last_number};
 ghost use Rattle.canvas_nodes.specs.GoesOn.{GoesOn};
-ghost use Rattle.canvas_daemon.specs.Answered.{HasJoined, WritesBlock, version_line};
+ghost use Rattle.canvas_daemon.specs.Answered.{HasJoined, WritesBlock, version_and_waiting_line};
 ghost use Rattle.canvas_daemon.specs.Faults.{IsMemoryOrDevice};
 
 use crate::fault::DaemonFault;
@@ -125,7 +125,7 @@ impl<R: RandomSource + AllocGlobal + Clone + Drop> LinkedClient<R> {
     ) -> Result<(), DaemonFault>
         ensures goes_on { GoesOn self.old.client self.new.client }
         ensures told { OnOk result
-            (Appends (W.contents output.old) (W.contents output.new) (version_line self.new.client)) }
+            (Appends (W.contents output.old) (W.contents output.new) (version_and_waiting_line self.new.client)) }
         ensures unwritten { IfErr result (λ fault. (fault ≡ DaemonFault.Device → ⊥) → W.contents output.new ≡ W.contents output.old) }
         ensures faults { IfErr result IsMemoryOrDevice }
     {
@@ -136,7 +136,7 @@ impl<R: RandomSource + AllocGlobal + Clone + Drop> LinkedClient<R> {
     /// Writes `version B waiting W`.
     pub fn tell<W: Write>(&self, alloc: Global, output: &mut W) -> Result<(), DaemonFault>
         ensures told { OnOk result
-            (Appends (W.contents output.old) (W.contents output.new) (version_line self.now.client)) }
+            (Appends (W.contents output.old) (W.contents output.new) (version_and_waiting_line self.now.client)) }
         ensures unwritten { IfErr result (λ fault. (fault ≡ DaemonFault.Device → ⊥) → W.contents output.new ≡ W.contents output.old) }
         ensures faults { IfErr result IsMemoryOrDevice }
     {

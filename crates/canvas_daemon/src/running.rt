@@ -1,6 +1,6 @@
 // The program: its words, and the status that it ends with.
 ghost use Rattle.std.specs.Prelude.{IfErr, IfOk, map, string_bytes};
-ghost use Rattle.canvas_daemon.specs.Runs.{Does, Fails, IsRun};
+ghost use Rattle.canvas_daemon.specs.Runs.{Does, Fails, IsDaemonRun};
 
 use crate::args::{DaemonCommand, read_command};
 use crate::editing::edit;
@@ -38,7 +38,7 @@ where
     I: BufRead,
     W: Write,
     F: Write,
-    ensures { IsRun (map string_bytes words.now) result
+    ensures { IsDaemonRun (map string_bytes words.now) result
         (I.remaining input.old) (I.remaining input.new)
         (W.contents output.old) (W.contents output.new)
         (F.contents faults.old) (F.contents faults.new) }

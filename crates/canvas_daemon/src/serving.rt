@@ -3,7 +3,7 @@ ghost use Rattle.std.specs.Prelude.{◌≡◌, IfErr, IfOk, IsTrue, OnOk, false,
 ghost use Rattle.std.specs.Io.KnownBytes.{Appends};
 ghost use Rattle.canvas_shelf.specs.Disk.{seen, top_is_listed};
 ghost use Rattle.canvas_journal.specs.Found.{Finds, IsState};
-ghost use Rattle.canvas_journal.specs.Meaning.{IsCounted, Versioned};
+ghost use Rattle.canvas_journal.specs.Meaning.{IsCountedByEntries, Versioned};
 ghost use Rattle.canvas_daemon.specs.Faults.{IsMemoryOrDevice};
 ghost use Rattle.canvas_daemon.specs.Served.{BeginsServing, BeginsServingAt, IsServeFault, WritesServed, WritesServedAt, served_line, serving_line};
 
@@ -98,7 +98,7 @@ fn room_of<S: Shelf + Drop>(
     seats: u32,
 ) -> Result<(BlankRoom<Journal<S>>, u64), DaemonFault>
     requires top { IsTrue (S.honest shelf) → top_is_listed (S.disk shelf) ≡ true }
-    requires counted { IsTrue (S.honest shelf) → (s : Versioned) → Finds (seen (S.disk shelf)) (IsState s) → IsCounted s }
+    requires counted { IsTrue (S.honest shelf) → (s : Versioned) → Finds (seen (S.disk shelf)) (IsState s) → IsCountedByEntries s }
     ensures found { IsTrue (S.honest shelf) → IfOk result (λ opened. Finds (seen (S.disk shelf)) (IsState (opened.0.opening.state, opened.0.opening.version))) }
     ensures seats { IfOk result (λ opened. opened.0.seats ≡ seats) }
     ensures version { IfOk result (λ opened. opened.1 ≡ opened.0.opening.version) }

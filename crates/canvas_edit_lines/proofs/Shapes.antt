@@ -5,13 +5,13 @@ use Rattle.canvas_lines.specs.declared.words.Verb.{Verb}
 use Rattle.canvas_lines.specs.declared.words.Verb.TheVariants as verb
 use Rattle.canvas_lines.specs.Spelling.{SpellsName, SpellsVerb}
 use Rattle.canvas_lines.proofs.Spellings.{one_verb}
-use Rattle.canvas_edit_lines.specs.Words.{SpellsAfter, SpellsId, SpellsKind}
+use Rattle.canvas_edit_lines.specs.Words.{SpellsChildBefore, SpellsId, SpellsKind}
 use Rattle.canvas_edit_lines.specs.Edits.{SpellsTarget, SpellsShallow, SpellsProperty, SpellsEditRest, SpellsEdit}
 use Rattle.canvas_edit_lines.proofs.Blanks.{spelled_id_blank, spelled_kind_blank, spelled_name_blank, spelled_verb_blank}
 use Rattle.canvas_edit_lines.proofs.Pairs.{Shape}
 
 module _ (text : List ℕ) where
-  pub target_shape : Shape SpellsId (λ parent. SpellsAfter) (SpellsTarget text) text
+  pub target_shape : Shape SpellsId (λ parent. SpellsChildBefore) (SpellsTarget text) text
   target_shape = record { blank = spelled_id_blank; parts = λ target q. (target.parent, target.after, q) }
 
   pub property_shape : Shape SpellsName (λ name. SpellsShallow) (SpellsProperty text) text

@@ -9,11 +9,11 @@ use Rattle.canvas_model.specs.Local.{Target, EditRequest}
 use Rattle.canvas_lines.specs.declared.words.Verb.{Verb}
 use Rattle.canvas_lines.specs.declared.words.Verb.TheVariants.{Create, Set, Clear, Move, Delete}
 use Rattle.canvas_lines.specs.Spelling.{SpellsName, SpellsValue, SpellsVerb}
-use Rattle.canvas_edit_lines.specs.Words.{Spaced, SpellsId, SpellsKind, SpellsAfter}
+use Rattle.canvas_edit_lines.specs.Words.{Spaced, SpellsId, SpellsKind, SpellsChildBefore}
 
 -- the parent's id, and then what comes before in it
 abbrev pub SpellsTarget : List ℕ → Target → Type 0
-SpellsTarget text target = Spaced text (λ word. SpellsId word target.parent) (λ word. SpellsAfter word target.after)
+SpellsTarget text target = Spaced text (λ word. SpellsId word target.parent) (λ word. SpellsChildBefore word target.after)
 
 -- the JSON of a value that isn't too deep
 abbrev pub SpellsShallow : List ℕ → Value → Type 0

@@ -18,6 +18,6 @@ abbrev pub SpellsKind : List ℕ → Kind → Type 0
 SpellsKind word kind = word ≡ kind_word kind
 
 -- the id of the child that comes before, or `-` to come first
-abbrev pub SpellsAfter : List ℕ → Option ObjId → Type 0
-SpellsAfter word None = word ≡ codes "-"
-SpellsAfter word (Some id) = SpellsId word id
+abbrev pub SpellsChildBefore : List ℕ → Option ObjId → Type 0
+SpellsChildBefore word None = word ≡ codes "-"
+SpellsChildBefore word (Some id) = SpellsId word id

@@ -1,7 +1,7 @@
 // The words of an edit, and what they spell.
 ghost use Rattle.std.specs.Prelude.{IfErr, IfOk};
 ghost use Rattle.canvas_lines.specs.Errors.{IsLineError};
-ghost use Rattle.canvas_edit_lines.specs.Words.{SpellsAfter, SpellsId, SpellsKind};
+ghost use Rattle.canvas_edit_lines.specs.Words.{SpellsChildBefore, SpellsId, SpellsKind};
 
 use canvas_doc::{Kind, ObjId};
 use canvas_lines::LineError;
@@ -30,8 +30,8 @@ pub(crate) fn read_kind(word: &[u8]) -> Result<Kind, LineError>
 
 // The id of the child that comes before, or none for `-`.
 pub(crate) fn read_after(word: &[u8]) -> Result<Option<ObjId>, LineError>
-    ensures ok { IfOk result (SpellsAfter word.now) }
-    ensures err { IfErr result (IsLineError (SpellsAfter word.now)) }
+    ensures ok { IfOk result (SpellsChildBefore word.now) }
+    ensures err { IfErr result (IsLineError (SpellsChildBefore word.now)) }
 {
     if word == b"-".as_slice() {
         return Ok(None);

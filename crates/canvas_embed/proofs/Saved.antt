@@ -41,7 +41,7 @@ use Rattle.canvas_forms.proofs.Texts.{change_nests, change_no_float}
 use Rattle.canvas_wire.specs.Faults.{IsJson, Means, IsOut}
 use Rattle.canvas_wire.proofs.Tested.{neither, tested_case, unread_case}
 use Rattle.canvas_client.specs.Kept.{IsKept}
-use Rattle.canvas_embed.specs.Saves.{Numbers, SavedParts, any_form, numbers_form, waiting_form, saved_members, saved_form, parts_of, client_of, third_in_order, is_orderly, saved_in, saved_after, IsSavedShape, IsSavedJson, IsShallowClient, SpellsClient, IsSoundChange, IsSavedFault, IsLoadError, IsUnfinished, refusal}
+use Rattle.canvas_embed.specs.Saves.{Numbers, SavedParts, any_form, numbers_form, waiting_form, saved_members, saved_form, saved_parts_of, client_of, third_in_order, is_saved_in_order, saved_in, saved_after, IsSavedShape, IsSavedJson, IsShallowClient, SpellsClient, IsSoundChange, IsSavedFault, IsLoadError, MakesNoClient, load_error_of}
 use Rattle.canvas_embed.specs.declared.fault.LoadError.{LoadError}
 use Rattle.canvas_embed.specs.declared.fault.LoadError.TheVariants.{NotJson, NotAClient, OutOfRange, TooDeep, Inconsistent, Memory}
 
@@ -61,28 +61,28 @@ saved_is = array_is _ (headed_is _ (after_is (codes "client") saved_members memb
 
 -- ---- clients and their parts
 
-client_back : (c : Client) → client_of (parts_of c) ≡ c
+client_back : (c : Client) → client_of (saved_parts_of c) ≡ c
 client_back c i = record { id = c.id; counter = c.counter; version = c.version; acknowledged = c.acknowledged; waiting = c.waiting; view = same_doc c.view i }
 
-parts_back : (p : SavedParts) → AreDocument p.1.1.0 → parts_of (client_of p) ≡ p
+parts_back : (p : SavedParts) → AreDocument p.1.1.0 → saved_parts_of (client_of p) ≡ p
 parts_back p h = ap (λ es. (p.0, (p.1.0, (es, tt)))) (map.entries-from_sorted id_cmp p.1.1.0 h.sorted)
 
 one_client : (d : Data) (a b : Client) → IsSavedJson d a → IsSavedJson d b → a ≡ b
-one_client d a b (o, s) (p, t) = sym (client_back a) ∙ ap client_of (first (sym (reads_what_stands saved_form saved_is d (parts_of a) s) ∙ reads_what_stands saved_form saved_is d (parts_of b) t)) ∙ client_back b
+one_client d a b (o, s) (p, t) = sym (client_back a) ∙ ap client_of (first (sym (reads_what_stands saved_form saved_is d (saved_parts_of a) s) ∙ reads_what_stands saved_form saved_is d (saved_parts_of b) t)) ∙ client_back b
 
 saved_shaped : (d : Data) (c : Client) → IsSavedJson d c → IsSavedShape d
-saved_shaped d c (o, s) = (o, (parts_of c, s.0, ap shape s.2))
+saved_shaped d c (o, s) = (o, (saved_parts_of c, s.0, ap shape s.2))
 
 -- ---- what is read only where the rows stand in order
 
 -- what a fault of the shape says of the JSON tree
-pub saved_fault : (d : Data) (f : JsonFault) → RefusesShape (saved_in d) f → IsSavedFault d (refusal f)
-saved_fault d value.NotAValue e = λ s. no_shape saved_form saved_is d (unread_case (is_orderly d) (saved_form.read d) e s.0) s.1
+pub saved_fault : (d : Data) (f : JsonFault) → RefusesShape (saved_in d) f → IsSavedFault d (load_error_of f)
+saved_fault d value.NotAValue e = λ s. no_shape saved_form saved_is d (unread_case (is_saved_in_order d) (saved_form.read d) e s.0) s.1
 saved_fault d value.OutOfRange e = absurd e
 saved_fault d value.Memory e = tt
 
 pub unworded : (d : Data) → worded d ≡ None → saved_in d ≡ None
-unworded d e = ap (λ o. cond (is_orderly d) o None) (no_word (after (codes "client") saved_members).read d e) ∙ neither (is_orderly d)
+unworded d e = ap (λ o. cond (is_saved_in_order d) o None) (no_word (after (codes "client") saved_members).read d e) ∙ neither (is_saved_in_order d)
 
 pub unknown : (d : Data) (w : List ℕ) (ds : Items) → worded d ≡ Some (w, ds) → bytes_eq w (codes "client") ≡ false → saved_in d ≡ None
 unknown d w ds e h = ap saved_in (word_first d w ds e) ∙ rw h (neither (third_in_order ds))
@@ -118,15 +118,15 @@ module _ (a b r : Data) (numbers : Numbers) (numbers_fit : Bool) (h : numbers_fo
 -- ---- what was read
 
 module _ (d : Data) (p : SavedParts) (b : Bool) (e : saved_in d ≡ Some (p, b)) where
-  was : (is_orderly d ≡ true) × (saved_form.read d ≡ Some (p, b))
-  was = tested_case (is_orderly d) (saved_form.read d) (p, b) e
+  was : (is_saved_in_order d ≡ true) × (saved_form.read d ≡ Some (p, b))
+  was = tested_case (is_saved_in_order d) (saved_form.read d) (p, b) e
 
   stands : b ≡ true → StandsFor saved_form d p
   stands t = stands_for saved_form saved_is d p (was.1 ∙ ap (λ (f : Bool). Some (p, f)) t)
 
   -- what was read in range has rows of a document
   pub made : b ≡ true → AreDocument p.1.1.0
-  made t = ordered_document p.1.1.0 (ap is_orderly (stands t).2 ∙ was.0)
+  made t = ordered_document p.1.1.0 (ap is_saved_in_order (stands t).2 ∙ was.0)
 
   json_was : b ≡ true → IsSavedJson d (client_of p)
   json_was t = (was.0, subst (StandsFor saved_form d) (sym (parts_back p (made t))) (stands t))
@@ -134,7 +134,7 @@ module _ (d : Data) (p : SavedParts) (b : Bool) (e : saved_in d ≡ Some (p, b))
   pub saved_means : b ≡ true → IsShallowClient (client_of p) → Means IsSavedJson IsShallowClient d (client_of p)
   saved_means t s = (json_was t, s)
 
-  pub saved_unfinished : b ≡ true → (f : LoadError) → IsUnfinished (client_of p) f → IsSavedFault d f
+  pub saved_unfinished : b ≡ true → (f : LoadError) → MakesNoClient (client_of p) f → IsSavedFault d f
   saved_unfinished t NotJson h = absurd h
   saved_unfinished t NotAClient h = absurd h
   saved_unfinished t OutOfRange h = absurd h
@@ -145,7 +145,7 @@ module _ (d : Data) (p : SavedParts) (b : Bool) (e : saved_in d ≡ Some (p, b))
   pub saved_out : b ≡ false → IsOut IsSavedShape IsSavedJson d
   saved_out t =
       let out = out_of_range saved_form saved_is d p (was.1 ∙ ap (λ (f : Bool). Some (p, f)) t) in
-      ((was.0, out.0), λ c s. out.1 (parts_of c) s.1)
+      ((was.0, out.0), λ c s. out.1 (saved_parts_of c) s.1)
 
 -- ---- bytes
 
@@ -187,8 +187,8 @@ numbers_no_float n = by n.0
     by None = refl
     by (Some id) = refl
 
-pub saved_no_float : (c : Client) → has_float (saved_form.write (parts_of c)) ≡ false
-saved_no_float c = rw (numbers_no_float (parts_of c).0, changes_no_float c.waiting, rows_no_float (map.entries c.view)) refl
+pub saved_no_float : (c : Client) → has_float (saved_form.write (saved_parts_of c)) ≡ false
+saved_no_float c = rw (numbers_no_float (saved_parts_of c).0, changes_no_float c.waiting, rows_no_float (map.entries c.view)) refl
 
 changes_nest : (xs : List Change) → All HoldsShallow xs → D.items_depth (each_written change_form.write xs) ≤ 18
 changes_nest [] h = omega arith
@@ -204,9 +204,9 @@ numbers_nest n = by n.0
     by None = omega arith
     by (Some id) = omega arith
 
-pub saved_nests : (c : Client) → IsShallowClient c → D.depth (saved_form.write (parts_of c)) ≤ 127
+pub saved_nests : (c : Client) → IsShallowClient c → D.depth (saved_form.write (saved_parts_of c)) ≤ 127
 saved_nests c h =
-    let numbers = numbers_nest (parts_of c).0 in
+    let numbers = numbers_nest (saved_parts_of c).0 in
     let waiting = changes_nest c.waiting h.0 in
     let rows = rows_nest c.view h.1 in
     omega arith
@@ -232,13 +232,13 @@ numbers_sound n = by n.0
 pub any_fits : (n : ℕ) → n < 18446744073709551616 → any_form.fits n ≡ true
 any_fits n h = grind (arith, h)
 
-pub numbers_fit : (c : Client) → (maybe client_form).fits c.id ≡ true → client_form.fits c.counter ≡ true → any_form.fits c.version ≡ true → c.acknowledged ≤ 4611686018427387904 → numbers_form.fits (parts_of c).0 ≡ true
+pub numbers_fit : (c : Client) → (maybe client_form).fits c.id ≡ true → client_form.fits c.counter ≡ true → any_form.fits c.version ≡ true → c.acknowledged ≤ 4611686018427387904 → numbers_form.fits (saved_parts_of c).0 ≡ true
 numbers_fit c id counter version acknowledged = rw (id, counter, version, version_fits c.acknowledged acknowledged) refl
 
-pub stands_written : (c : Client) → All IsSoundChange c.waiting → numbers_form.fits (parts_of c).0 ≡ true → rows_form.sound (map.entries c.view) ≡ true → rows_form.fits (map.entries c.view) ≡ true
-    → are_in_order (rows_form.write (map.entries c.view)) ≡ true → IsSavedJson (saved_form.write (parts_of c)) c
+pub stands_written : (c : Client) → All IsSoundChange c.waiting → numbers_form.fits (saved_parts_of c).0 ≡ true → rows_form.sound (map.entries c.view) ≡ true → rows_form.fits (map.entries c.view) ≡ true
+    → are_in_order (rows_form.write (map.entries c.view)) ≡ true → IsSavedJson (saved_form.write (saved_parts_of c)) c
 stands_written c waiting numbers rows_sound rows_fit ordered =
-    (ordered, (rw (numbers_sound (parts_of c).0, each_sound c.waiting waiting, rows_sound) refl, rw (numbers, each_fits c.waiting waiting, rows_fit) refl, refl))
+    (ordered, (rw (numbers_sound (saved_parts_of c).0, each_sound c.waiting waiting, rows_sound) refl, rw (numbers, each_fits c.waiting waiting, rows_fit) refl, refl))
 
 -- ---- the edits that wait, one by one
 

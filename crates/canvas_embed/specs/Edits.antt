@@ -7,12 +7,12 @@ use Rattle.canvas_model.specs.Client.{Client}
 use Rattle.canvas_model.specs.Local.{Create, Set, Clear, Target}
 use Rattle.canvas_value.specs.Names.{IsName}
 use Rattle.canvas_client.specs.Asked.{HasCreated, HasMade}
-use Rattle.canvas_embed.specs.Kinds.{kind_of}
+use Rattle.canvas_embed.specs.Kinds.{kind_of_number}
 use Rattle.canvas_embed.specs.Values.{IsValueText}
 
 -- the number is that of a kind, and the client has created this object of it
 abbrev pub HasCreatedKind : Client → ℕ → Target → ObjId → Client → Type 0
-HasCreatedKind old number target id new = (kind : Kind) × (kind_of number ≡ Some kind) × HasCreated old (Create kind target) id new
+HasCreatedKind old number target id new = (kind : Kind) × (kind_of_number number ≡ Some kind) × HasCreated old (Create kind target) id new
 
 -- the bytes are a name and JSON of a value, and the client has set that property to it
 abbrev pub HasSet : Client → ObjId → List ℕ → List ℕ → Client → Type 0

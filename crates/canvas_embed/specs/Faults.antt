@@ -12,7 +12,7 @@ use Rattle.canvas_value.specs.Names.{IsName}
 use Rattle.canvas_value.specs.NameErrors.{IsNameError}
 use Rattle.canvas_client.specs.Asked.{IsRefusal, refusal}
 use Rattle.canvas_wire.specs.Faults.{IsJson}
-use Rattle.canvas_embed.specs.Kinds.{kind_of}
+use Rattle.canvas_embed.specs.Kinds.{kind_of_number}
 use Rattle.canvas_embed.specs.Values.{IsValueText}
 use Rattle.canvas_embed.specs.declared.fault.ValueError.{ValueError}
 use Rattle.canvas_embed.specs.declared.fault.ValueError.TheVariants as value
@@ -50,8 +50,8 @@ IsUnjudged d value.Memory = Unit {0}
 
 -- why nothing is created: the number is no kind's; or it is, and the client refuses the creation
 abbrev pub IsCreateError : Client → ℕ → Target → CreateError → Type 0
-IsCreateError client number target create.NoKind = kind_of number ≡ None
-IsCreateError client number target (create.Edit e) = (kind : Kind) × (kind_of number ≡ Some kind) × IsRefusal client (Create kind target) (refusal e)
+IsCreateError client number target create.NoKind = kind_of_number number ≡ None
+IsCreateError client number target (create.Edit e) = (kind : Kind) × (kind_of_number number ≡ Some kind) × IsRefusal client (Create kind target) (refusal e)
 
 -- why no property is set: the bytes are no name; they are, and the others are no value; both are, and the client refuses the edit
 abbrev pub IsSetError : Client → ObjId → List ℕ → List ℕ → SetError → Type 0

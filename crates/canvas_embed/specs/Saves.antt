@@ -57,8 +57,8 @@ abbrev pub saved_form : Codec SavedParts
 saved_form = array_of (headed (after (codes "client") saved_members))
 
 -- the parts of a client
-abbrev pub parts_of : Client → SavedParts
-parts_of c = ((c.id, (c.counter, (c.version, (c.acknowledged, tt)))), (c.waiting, (map.entries c.view, tt)))
+abbrev pub saved_parts_of : Client → SavedParts
+saved_parts_of c = ((c.id, (c.counter, (c.version, (c.acknowledged, tt)))), (c.waiting, (map.entries c.view, tt)))
 
 -- the client of these parts
 abbrev pub client_of : SavedParts → Client
@@ -74,22 +74,22 @@ third_in_order (item a (item b no_items)) = true
 third_in_order (item a (item b (item rows ds))) = are_in_order rows
 
 -- the same of the members after the word
-abbrev pub are_orderly : Items → Bool
-are_orderly no_items = true
-are_orderly (item word ds) = third_in_order ds
+abbrev pub are_saved_in_order : Items → Bool
+are_saved_in_order no_items = true
+are_saved_in_order (item word ds) = third_in_order ds
 
 -- if the JSON tree is a saved client, its rows stand in order
-abbrev pub is_orderly : Data → Bool
-is_orderly null = true
-is_orderly (boolean b) = true
-is_orderly (D.number n) = true
-is_orderly (string s) = true
-is_orderly (array ds) = are_orderly ds
-is_orderly (object ms) = true
+abbrev pub is_saved_in_order : Data → Bool
+is_saved_in_order null = true
+is_saved_in_order (boolean b) = true
+is_saved_in_order (D.number n) = true
+is_saved_in_order (string s) = true
+is_saved_in_order (array ds) = are_saved_in_order ds
+is_saved_in_order (object ms) = true
 
 -- the parts that an orderly JSON tree is read as
 abbrev pub saved_in : Data → Option (SavedParts × Bool)
-saved_in d = if is_orderly d then saved_form.read d else None
+saved_in d = if is_saved_in_order d then saved_form.read d else None
 
 -- the same, of an array that begins with this word
 abbrev pub saved_after : List ℕ → Items → Option (SavedParts × Bool)
@@ -99,11 +99,11 @@ saved_after w ds = saved_in (array (item (string w) ds))
 
 -- the JSON tree is that of a saved client, but for its whole numbers: these only tell in which order rows stand
 abbrev pub IsSavedShape : Data → Type 0
-IsSavedShape d = (is_orderly d ≡ true) × HasShape saved_form d
+IsSavedShape d = (is_saved_in_order d ≡ true) × HasShape saved_form d
 
 -- the JSON tree is that of this client, whose numbers are in range
 abbrev pub IsSavedJson : Data → Client → Type 0
-IsSavedJson d client = (is_orderly d ≡ true) × StandsFor saved_form d (parts_of client)
+IsSavedJson d client = (is_saved_in_order d ≡ true) × StandsFor saved_form d (saved_parts_of client)
 
 -- no value of the client is too deep, neither in its view nor in an edit that waits
 abbrev pub IsShallowClient : Client → Type 0
@@ -115,7 +115,7 @@ SpellsClient = IsTextOf IsSavedJson IsShallowClient
 
 -- what is written of a client: its text, which spells it where no value that it shows is too deep
 pub record EncodesClient (bytes : List ℕ) (client : Client) : Type 0 where
-  pub text : bytes ≡ compact_text (saved_form.write (parts_of client))
+  pub text : bytes ≡ compact_text (saved_form.write (saved_parts_of client))
   pub back : IsShallowDoc client.view → SpellsClient bytes client
 
 -- a change that can be written and read: its texts are such, its numbers are in range, and its value isn't too deep
@@ -146,19 +146,19 @@ IsLoadError bytes Inconsistent = (client : Client) × SpellsClient bytes client 
 IsLoadError bytes Memory = Unit {0}
 
 -- what a fault of the shape is answered as
-abbrev pub refusal : JsonFault → LoadError
-refusal fault.NotAValue = NotAClient
-refusal fault.OutOfRange = OutOfRange
-refusal fault.Memory = Memory
+abbrev pub load_error_of : JsonFault → LoadError
+load_error_of fault.NotAValue = NotAClient
+load_error_of fault.OutOfRange = OutOfRange
+load_error_of fault.Memory = Memory
 
 -- what was read makes no client: a value is too deep; none is, and what holds of every client doesn't hold; or memory was refused
-abbrev pub IsUnfinished : Client → LoadError → Type 0
-IsUnfinished client NotJson = ⊥
-IsUnfinished client NotAClient = ⊥
-IsUnfinished client OutOfRange = ⊥
-IsUnfinished client TooDeep = IsShallowClient client → ⊥
-IsUnfinished client Inconsistent = IsShallowClient client × (IsKept client → ⊥)
-IsUnfinished client Memory = Unit {0}
+abbrev pub MakesNoClient : Client → LoadError → Type 0
+MakesNoClient client NotJson = ⊥
+MakesNoClient client NotAClient = ⊥
+MakesNoClient client OutOfRange = ⊥
+MakesNoClient client TooDeep = IsShallowClient client → ⊥
+MakesNoClient client Inconsistent = IsShallowClient client × (IsKept client → ⊥)
+MakesNoClient client Memory = Unit {0}
 
 -- a value isn't shallow, or memory was refused
 abbrev pub IsTooDeepOr : Type 0 → LoadError → Type 0
@@ -176,5 +176,5 @@ abbrev pub seen_numbers : SavedNumbers → Numbers
 seen_numbers n = (n.id, (n.counter, (n.version, (n.acknowledged, tt))))
 
 -- the parts that were read
-abbrev pub seen_draft : SavedDraft → SavedParts
-seen_draft d = (seen_numbers d.numbers, (list_map seen d.waiting.items, (d.objects.items, tt)))
+abbrev pub seen_saved_draft : SavedDraft → SavedParts
+seen_saved_draft d = (seen_numbers d.numbers, (list_map seen d.waiting.items, (d.objects.items, tt)))

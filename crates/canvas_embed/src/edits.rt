@@ -6,7 +6,7 @@ ghost use Rattle.canvas_client.specs.Asked.{HasMade, IsRefusal, StandsStill, ref
 ghost use Rattle.canvas_embed.specs.Changed.{ChangesOnly};
 ghost use Rattle.canvas_embed.specs.Edits.{HasCleared, HasCreatedKind, HasSet};
 ghost use Rattle.canvas_embed.specs.Faults.{IsClearError, IsCreateError, IsSetError};
-ghost use Rattle.canvas_embed.specs.Kinds.{kind_of};
+ghost use Rattle.canvas_embed.specs.Kinds.{kind_of_number};
 
 use crate::values::read_value;
 use crate::{ClearError, CreateError, SetError};
@@ -16,7 +16,7 @@ use std::alloc::Global;
 
 /// The kind of this number: 1 is a page, 2 a frame, 3 a shape and 4 a text.
 pub fn kind_of(number: u32) -> Option<Kind>
-    ensures { result ≡ kind_of number }
+    ensures { result ≡ kind_of_number number }
 {
     match number {
         1 => Some(Kind::Page),

@@ -5,7 +5,7 @@ use Rattle.std.proofs.lemmas.Bool.{cases_Bool, eq-eqb, ne_eqb}
 use Rattle.canvas_etcd.specs.Stores.{Transaction}
 use Rattle.canvas_etcd.specs.declared.turn.OwnerMark.{OwnerMark}
 use Rattle.canvas_etcd.specs.declared.turn.Turn.{Turn}
-use Rattle.canvas_etcd.specs.Turns.{Owned, Step, Commits, Ends, IsFrom, IsBefore, IsDoneOnce, IsRefused, Rises, WritesFrom, WritesAnother, EachRepeatIsDoneOnce, EachLateOneChangesNothing, EachPutBackIsRefused, EachToldOneWasDone, committed, is_told, run, says, stepped}
+use Rattle.canvas_etcd.specs.Turns.{Owned, OwnerStep, Commits, Ends, IsFrom, IsBeforeMark, IsDoneOnce, IsRefused, Rises, WritesFrom, WritesAnother, EachRepeatIsDoneOnce, EachLateOneChangesNothing, EachPutBackIsRefused, EachToldOneWasDone, committed, is_told, run, says, stepped}
 
 -- ---- marks
 
@@ -52,14 +52,14 @@ abbrev StandsFrom : OwnerMark → Option OwnerMark → Type 0
 StandsFrom least None = Unit {0}
 StandsFrom least (Some n) = IsFrom least n
 
-step_from : (least : OwnerMark) (step : Step) (s : Owned) → WritesFrom least step → StandsFrom least s.mark → StandsFrom least (stepped step s).mark
+step_from : (least : OwnerMark) (step : OwnerStep) (s : Owned) → WritesFrom least step → StandsFrom least s.mark → StandsFrom least (stepped step s).mark
 step_from least (Commits turn changes) s writes stands = elim (cases_Bool (says s.mark turn.from)) [
   | inl is ↦ rw is writes
   | inr isnt ↦ rw isnt stands
 ]
 step_from least Ends s writes stands = tt
 
-run_from : (least : OwnerMark) (steps : List Step) (s : Owned) → AllByRecursion (WritesFrom least) steps → StandsFrom least s.mark → StandsFrom least (run steps s).mark
+run_from : (least : OwnerMark) (steps : List OwnerStep) (s : Owned) → AllByRecursion (WritesFrom least) steps → StandsFrom least s.mark → StandsFrom least (run steps s).mark
 run_from least [] s writes stands = stands
 run_from least (step ∷ steps) s writes stands = run_from least steps (stepped step s) writes.1 (step_from least step s writes.0 stands)
 
@@ -81,12 +81,12 @@ late last turn changes later s rises is writes =
 
 -- ---- put back
 
-before_last : (last : OwnerMark) (mark : Option OwnerMark) → IsBefore last mark → says mark (Some last) ≡ false
+before_last : (last : OwnerMark) (mark : Option OwnerMark) → IsBeforeMark last mark → says mark (Some last) ≡ false
 before_last last None before = refl
 before_last last (Some n) (inl other) = apart n last (inl other)
 before_last last (Some n) (inr below) = apart n last (inr (λ same. omega (arith, same, below)))
 
-before_next : (last : OwnerMark) (turn : Turn) (mark : Option OwnerMark) → Rises last turn → IsBefore last mark → says mark (Some turn.to) ≡ false
+before_next : (last : OwnerMark) (turn : Turn) (mark : Option OwnerMark) → Rises last turn → IsBeforeMark last mark → says mark (Some turn.to) ≡ false
 before_next last turn None rises before = refl
 before_next last turn (Some n) rises (inl other) = apart n turn.to (inl (λ same. other (same ∙ rises.owner)))
 before_next last turn (Some n) rises (inr below) = apart n turn.to (inr (λ same. omega (arith, same, below, rises.number)))
@@ -99,14 +99,14 @@ put_back last turn changes s rises before = record {
 
 -- ---- told
 
-step_another : (mark : OwnerMark) (step : Step) (s : Owned) → WritesAnother mark step → says s.mark (Some mark) ≡ false → says (stepped step s).mark (Some mark) ≡ false
+step_another : (mark : OwnerMark) (step : OwnerStep) (s : Owned) → WritesAnother mark step → says s.mark (Some mark) ≡ false → says (stepped step s).mark (Some mark) ≡ false
 step_another mark (Commits turn changes) s writes other = elim (cases_Bool (says s.mark turn.from)) [
   | inl is ↦ rw is writes
   | inr isnt ↦ rw isnt other
 ]
 step_another mark Ends s writes other = refl
 
-run_another : (mark : OwnerMark) (steps : List Step) (s : Owned) → AllByRecursion (WritesAnother mark) steps → says s.mark (Some mark) ≡ false → says (run steps s).mark (Some mark) ≡ false
+run_another : (mark : OwnerMark) (steps : List OwnerStep) (s : Owned) → AllByRecursion (WritesAnother mark) steps → says s.mark (Some mark) ≡ false → says (run steps s).mark (Some mark) ≡ false
 run_another mark [] s writes other = other
 run_another mark (step ∷ steps) s writes other = run_another mark steps (stepped step s) writes.1 (step_another mark step s writes.0 other)
 

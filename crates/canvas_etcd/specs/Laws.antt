@@ -3,7 +3,7 @@ use Rattle.std.specs.Prelude.{◌≡◌, ◌⊎◌, ℕ, true, List, [], ◌∷�
 use Rattle.canvas_shelf.specs.Disk.{Segment, Content, Image, IsSound, top_is_listed}
 use Rattle.canvas_shelf.specs.Moments.{LeftSince}
 use Rattle.canvas_etcd.specs.Safe.{IsSafe}
-use Rattle.canvas_etcd.specs.Stores.{Stored, NumbersFall, IsFresh, MayFind, may_be, changed_by, disks_of}
+use Rattle.canvas_etcd.specs.Stores.{Stored, NumbersFall, IsFresh, MayFind, may_be, changed_by, stored_disks}
 use Rattle.canvas_etcd.specs.declared.change.ShelfChange.{ShelfChange}
 
 -- what a freshly opened shelf is: sound, its highest segment listed, and left as it stands by whatever happens
@@ -27,7 +27,7 @@ FoundSince past now t found = AnyFinds (drop t past) found ⊎ MayFind now found
 
 -- whatever is found at a moment of a shelf is what a crash of its disk since then may have left
 abbrev pub EachTakeoverIsACrash : Type 0
-EachTakeoverIsACrash = (past : List Stored) (now : Stored) (t : ℕ) (found : Content) → IsSafe past now → FoundSince past now t found → LeftSince (disks_of past) now.disk t found
+EachTakeoverIsACrash = (past : List Stored) (now : Stored) (t : ℕ) (found : Content) → IsSafe past now → FoundSince past now t found → LeftSince (stored_disks past) now.disk t found
 
 -- a sound disk stays sound, whatever the shelf becomes that it may
 abbrev pub EachNoteKeepsSound : Type 0

@@ -5,6 +5,6 @@ use Rattle.canvas_etcd.specs.declared.error.EtcdError.{EtcdError}
 use Rattle.canvas_etcd.specs.declared.error.EtcdError.TheVariants.{Device, Memory}
 
 -- the same, of a store
-abbrev pub error_of : ShelfError → EtcdError
-error_of ShelfDevice = Device
-error_of ShelfMemory = Memory
+abbrev pub etcd_error_of : ShelfError → EtcdError
+etcd_error_of ShelfDevice = Device
+etcd_error_of ShelfMemory = Memory

@@ -20,9 +20,9 @@ pub enum EtcdError {
 }
 
 impl From<ShelfError> for EtcdError {
-    ghost use Rattle.canvas_etcd.specs.Opened.{error_of};
+    ghost use Rattle.canvas_etcd.specs.Opened.{etcd_error_of};
 
-    ghost from_gives = { λ e given. given ≡ error_of e };
+    ghost from_gives = { λ e given. given ≡ etcd_error_of e };
 
     fn from(error: ShelfError) -> EtcdError {
         match error {

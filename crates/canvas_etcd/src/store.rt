@@ -1,7 +1,7 @@
 // A document's segments in a store of keys, as the calls of a store see them.
 ghost use Rattle.std.specs.Prelude.{◌≡◌, ◌⊎◌, ◌≤◌, [], List, ℕ, Bool, true, Option, None, length, map, IsTrue, IsErr, IfOk, OnOk, MatchResult, IsErrOf};
 ghost use Rattle.canvas_shelf.specs.Moments.{CountsFailure};
-ghost use Rattle.canvas_etcd.specs.Stores.{Stored, Puts, Removes, Passes, IsFresh, IsSoundStore, bytes_at, size_at, answered, left_open, noted, may_be};
+ghost use Rattle.canvas_etcd.specs.Stores.{Stored, Puts, Removes, PassesStored, IsFresh, IsSoundStore, segment_bytes, size_at, answered, left_open, noted, may_be};
 ghost use Rattle.canvas_etcd.specs.Listed.{listed_in};
 
 use crate::change::ShelfChange;
@@ -91,7 +91,7 @@ pub trait Store {
     fn read<A: Allocator>(&mut self, alloc: A, number: u32) -> Result<Vec<u8, A>, ShelfError>
         requires answered { IsTrue (honest self.old) → (value self.old).unanswered ≡ None }
         requires stands { IsTrue (honest self.old) → size_at number (value self.old).held ≡ None → ⊥ }
-        ensures bytes { IfOk result (λ v. IsTrue (honest self.old) → v.items ≡ bytes_at number (value self.old).held) }
+        ensures bytes { IfOk result (λ v. IsTrue (honest self.old) → v.items ≡ segment_bytes number (value self.old).held) }
         ensures same { IsTrue (honest self.old) → (value self.new ≡ value self.old) × (past self.new ≡ past self.old) }
         ensures honest { honest self.new ≡ honest self.old }
         ensures owner { owner self.new ≡ owner self.old }
@@ -104,12 +104,12 @@ pub trait Store {
     fn put(&mut self, number: u32, at: u64, bytes: &[u8]) -> Result<(), DeviceFailed>
         requires owner { IsTrue (honest self.old) → owner self.old ≡ true }
         requires answered { IsTrue (honest self.old) → (value self.old).unanswered ≡ None }
-        requires behind { IsTrue (honest self.old) → at ≡ length (bytes_at number (value self.old).held) }
+        requires behind { IsTrue (honest self.old) → at ≡ length (segment_bytes number (value self.old).held) }
         requires short { length bytes.now ≤ 524288 }
         ensures value { IsTrue (honest self.old) → MatchResult result
             (λ _. value self.new ≡ answered (Puts number bytes.now) (value self.old))
             (λ _. (value self.new ≡ value self.old) ⊎ (value self.new ≡ left_open (Puts number bytes.now) (value self.old))) }
-        ensures past { IsTrue (honest self.old) → Passes (past self.old) (value self.old) (answered (Puts number bytes.now) (value self.old)) (past self.new) (value self.new) }
+        ensures past { IsTrue (honest self.old) → PassesStored (past self.old) (value self.old) (answered (Puts number bytes.now) (value self.old)) (past self.new) (value self.new) }
         ensures honest { honest self.new ≡ honest self.old }
         ensures owner { owner self.new ≡ owner self.old }
         ensures cause { CountsFailure (failure_count self.old) (failure_count self.new) (IsErr result) };
@@ -123,7 +123,7 @@ pub trait Store {
         ensures value { IsTrue (honest self.old) → MatchResult result
             (λ _. value self.new ≡ answered (Removes number) (value self.old))
             (λ _. (value self.new ≡ value self.old) ⊎ (value self.new ≡ left_open (Removes number) (value self.old))) }
-        ensures past { IsTrue (honest self.old) → Passes (past self.old) (value self.old) (answered (Removes number) (value self.old)) (past self.new) (value self.new) }
+        ensures past { IsTrue (honest self.old) → PassesStored (past self.old) (value self.old) (answered (Removes number) (value self.old)) (past self.new) (value self.new) }
         ensures honest { honest self.new ≡ honest self.old }
         ensures owner { owner self.new ≡ owner self.old }
         ensures cause { CountsFailure (failure_count self.old) (failure_count self.new) (IsErr result) };
@@ -137,7 +137,7 @@ pub trait Store {
         ensures value { IsTrue (honest self.old) → MatchResult result
             (λ _. value self.new ≡ noted change number bytes.now (value self.old))
             (λ _. value self.new ≡ value self.old) }
-        ensures past { IsTrue (honest self.old) → Passes (past self.old) (value self.old) (noted change number bytes.now (value self.old)) (past self.new) (value self.new) }
+        ensures past { IsTrue (honest self.old) → PassesStored (past self.old) (value self.old) (noted change number bytes.now (value self.old)) (past self.new) (value self.new) }
         ensures honest { honest self.new ≡ honest self.old }
         ensures owner { owner self.new ≡ owner self.old }
         ensures cause { CountsFailure (failure_count self.old) (failure_count self.new) (IsErr result) };

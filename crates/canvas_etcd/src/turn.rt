@@ -1,6 +1,6 @@
 // The order of an owner's transactions.
 ghost use Rattle.std.specs.Prelude.{◌≡◌, ◌<◌, ◌≤◌, ◌+◌, ◌^◌, ℕ, None, Some, IfSome, IfNone};
-ghost use Rattle.canvas_etcd.specs.Turns.{EachLateOneChangesNothing, EachPutBackIsRefused, EachRepeatIsDoneOnce, EachToldOneWasDone, IsNext};
+ghost use Rattle.canvas_etcd.specs.Turns.{EachLateOneChangesNothing, EachPutBackIsRefused, EachRepeatIsDoneOnce, EachToldOneWasDone, IsNextTurn};
 
 /// What the key of a document's owner says.
 #[derive(Clone, Copy, Debug, PartialEq, Eq)]
@@ -35,7 +35,7 @@ impl Turn {
     /// The next transaction of an owner, of whom `last` was done last, and `begun` is the highest number that was given to one. `None`
     /// after the last number, and where `begun` is below that of `last`.
     pub fn after(last: OwnerMark, begun: u64) -> Option<Turn>
-        ensures next { IfSome result (λ turn. IsNext last begun turn) }
+        ensures next { IfSome result (λ turn. IsNextTurn last begun turn) }
         ensures none { IfNone result ((last.number ≤ begun) → 2 ^ 64 ≤ begun + 1) }
     {
         if begun < last.number {

@@ -1,7 +1,7 @@
 // The folders above one.
 use crate::fault::OsFault;
-use crate::opened::{open_folder, require_folder, sync};
 use crate::path::FolderPath;
+use crate::system_calls::{open_folder, require_folder, sync};
 use std::fs;
 use std::fs::File;
 use std::io::ErrorKind;

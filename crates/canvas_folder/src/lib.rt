@@ -6,11 +6,11 @@ mod above;
 mod error;
 mod fault;
 mod folder;
+mod last_written;
 mod laws;
 mod names;
-mod opened;
 mod opening;
-mod os;
+mod os_folder;
 mod path;
 mod place;
 mod removed;
@@ -18,7 +18,7 @@ mod segments;
 mod shelf;
 mod space;
 mod state;
-mod written;
+mod system_calls;
 
 pub use error::FolderError;
 pub use folder::Folder;
@@ -26,7 +26,7 @@ pub use laws::{
     every_call_keeps_a_folder_sound, every_crash_of_a_folder, every_fresh_folder_lists_the_top,
 };
 pub use opening::make_ready;
-pub use os::OsFolder;
+pub use os_folder::OsFolder;
 pub use removed::Removed;
 pub use shelf::DirShelf;
 pub use space::{Space, SpaceRefusal};

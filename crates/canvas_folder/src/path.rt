@@ -1,6 +1,6 @@
 // The path of a folder, and what is opened by it.
 use crate::fault::OsFault;
-use crate::opened::{lock, open, open_folder, open_regular, read_all, sync};
+use crate::system_calls::{lock, open, open_folder, open_regular, read_all, sync};
 use std::alloc::{AllocError, Allocator, Global};
 use std::fs::{File, OpenOptions};
 use std::io::Write;

@@ -7,12 +7,12 @@ use Rattle.canvas_model.specs.Words.{Lacks, IsCut}
 use Rattle.canvas_model.proofs.Cut.{cut_is}
 use Rattle.canvas_model.proofs.Written.{id_blank}
 use Rattle.canvas_value.specs.Names.{IsName, is_name_byte}
-use Rattle.canvas_lines.specs.Spelling.{IsPlace}
+use Rattle.canvas_lines.specs.Spelling.{IsSpellablePlace}
 
 pub place_spelled : (place : Place) → place_text place ≡ id_text place.parent ++ 32 ∷ place.pos
 place_spelled place = append_assoc (id_text place.parent) (32 ∷ []) place.pos
 
-pub place_parts : (s before after : List ℕ) (place : Place) → IsCut 32 s before after → IsPlace place → s ≡ place_text place → (before ≡ id_text place.parent) × (after ≡ place.pos)
+pub place_parts : (s before after : List ℕ) (place : Place) → IsCut 32 s before after → IsSpellablePlace place → s ≡ place_text place → (before ≡ id_text place.parent) × (after ≡ place.pos)
 place_parts s before after place cut is_place is = cut_is 32 s before after (id_text place.parent) place.pos cut (id_blank place.parent is_place.0) (is ∙ place_spelled place)
 
 second_holds : (a b : Bool) → a && b ≡ true → b ≡ true

@@ -12,7 +12,7 @@ use Rattle.canvas_model.specs.Text.{id_text, kind_word, place_text}
 use Rattle.canvas_value.specs.Names.{IsName}
 use Rattle.canvas_model.specs.Ids.{IsId}
 use Rattle.canvas_model.specs.Words.{Lacks, IsCut}
-use Rattle.canvas_lines.specs.Spelling.{IsPlace, SpellsIdFirst, SpellsName, SpellsNumber, SpellsPlace, SpellsValue, Requested, RequestedJoin, RequestedEdit, SpellsAfter, SpellsRest, SpellsChange, SpellsRequest, SpellsVerb}
+use Rattle.canvas_lines.specs.Spelling.{IsSpellablePlace, SpellsIdFirst, SpellsName, SpellsNumber, SpellsPlace, SpellsValue, Requested, RequestedJoin, RequestedEdit, SpellsAfter, SpellsRest, SpellsChange, SpellsRequest, SpellsVerb}
 use Rattle.canvas_lines.specs.Verbs.{verb_word, verb_of}
 use Rattle.canvas_lines.specs.declared.words.Verb.{Verb}
 use Rattle.canvas_lines.specs.declared.words.Verb.TheVariants as verb
@@ -61,7 +61,7 @@ pub record IsCreation (rest : List ℕ) : Type 0 where
   pub kind : Kind
   pub place : Place
   pub is_id : IsId id
-  pub is_place : IsPlace place
+  pub is_place : IsSpellablePlace place
   pub text : rest ≡ id_text id ++ codes " " ++ (kind_word kind ++ 32 ∷ place_text place)
 
 pub creation_of : (rest : List ℕ) (change : Change) → SpellsAfter verb.Create rest change → IsCreation rest
@@ -110,7 +110,7 @@ pub record IsMoving (rest : List ℕ) : Type 0 where
   pub id : ObjId
   pub place : Place
   pub is_id : IsId id
-  pub is_place : IsPlace place
+  pub is_place : IsSpellablePlace place
   pub text : rest ≡ id_text id ++ codes " " ++ place_text place
 
 pub moving_of : (rest : List ℕ) (change : Change) → SpellsAfter verb.Move rest change → IsMoving rest
@@ -145,7 +145,7 @@ rest_is rest more after id other small small_other is is_other =
 
 -- ---- what is requested for, and that nothing is
 module _ (rest more : List ℕ) (id : ObjId) (first : IsId id × (rest ≡ id_text id ++ codes " " ++ more)) where
-  pub spells_creation : (word after : List ℕ) (kind : Kind) (place : Place) → IsCut 32 more word after → word ≡ kind_word kind → IsPlace place × (after ≡ place_text place) → SpellsAfter verb.Create rest (Create id kind place)
+  pub spells_creation : (word after : List ℕ) (kind : Kind) (place : Place) → IsCut 32 more word after → word ≡ kind_word kind → IsSpellablePlace place × (after ≡ place_text place) → SpellsAfter verb.Create rest (Create id kind place)
   spells_creation word after kind place cut is place_is = (
     refl,
     (
@@ -173,7 +173,7 @@ module _ (rest more : List ℕ) (id : ObjId) (first : IsId id × (rest ≡ id_te
   pub spells_clearing : (name : Name) → IsName name × (more ≡ name) → SpellsAfter verb.Clear rest (Set id name None)
   spells_clearing name is = (refl, (first.0, is.0, first.1 ∙ ap (λ m. id_text id ++ codes " " ++ m) is.1))
 
-  pub spells_moving : (place : Place) → IsPlace place × (more ≡ place_text place) → SpellsAfter verb.Move rest (Move id place)
+  pub spells_moving : (place : Place) → IsSpellablePlace place × (more ≡ place_text place) → SpellsAfter verb.Move rest (Move id place)
   spells_moving place is = (refl, (first.0, is.0, first.1 ∙ ap (λ m. id_text id ++ codes " " ++ m) is.1))
 
   module _ (change : Change) where

@@ -39,12 +39,12 @@ abbrev pub SpellsPosition : List ℕ → List ℕ → Type 0
 SpellsPosition bytes pos = IsPosition pos × (bytes ≡ pos)
 
 -- the parent's id is of 32 bits, and its position is one
-abbrev pub IsPlace : Place → Type 0
-IsPlace place = IsId place.parent × IsPosition place.pos
+abbrev pub IsSpellablePlace : Place → Type 0
+IsSpellablePlace place = IsId place.parent × IsPosition place.pos
 
 -- the parent's id, a blank and the position
 abbrev pub SpellsPlace : List ℕ → Place → Type 0
-SpellsPlace text place = IsPlace place × (text ≡ place_text place)
+SpellsPlace text place = IsSpellablePlace place × (text ≡ place_text place)
 
 -- these bytes are the name
 abbrev pub SpellsName : List ℕ → Name → Type 0
@@ -60,10 +60,10 @@ SpellsValue text value = IsUtf8 text × Spells text value
 
 -- what follows the verb; a position and the JSON of a value are the rest of the line, blanks included
 abbrev pub SpellsRest : List ℕ → Change → Type 0
-SpellsRest rest (Create id kind place) = IsId id × IsPlace place × (rest ≡ id_text id ++ codes " " ++ kind_word kind ++ codes " " ++ place_text place)
+SpellsRest rest (Create id kind place) = IsId id × IsSpellablePlace place × (rest ≡ id_text id ++ codes " " ++ kind_word kind ++ codes " " ++ place_text place)
 SpellsRest rest (Set id name (Some value)) = IsId id × IsName name × IsShallow value × (text : List ℕ) × SpellsValue text value × (rest ≡ id_text id ++ codes " " ++ name ++ codes " " ++ text)
 SpellsRest rest (Set id name None) = IsId id × IsName name × (rest ≡ id_text id ++ codes " " ++ name)
-SpellsRest rest (Move id place) = IsId id × IsPlace place × (rest ≡ id_text id ++ codes " " ++ place_text place)
+SpellsRest rest (Move id place) = IsId id × IsSpellablePlace place × (rest ≡ id_text id ++ codes " " ++ place_text place)
 SpellsRest rest (Delete id) = IsId id × (rest ≡ id_text id)
 
 -- the verb, and what follows it, spell this change

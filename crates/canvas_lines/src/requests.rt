@@ -3,7 +3,7 @@ ghost use Rattle.std.specs.Prelude.{◌≡◌, ◌-◌, map, take, IfErr, IfNone
 ghost use Rattle.canvas_lines.specs.Errors.{IsLineError, IsUnspelled};
 ghost use Rattle.canvas_lines.specs.Lines.{lines_of};
 ghost use Rattle.canvas_lines.specs.Reading.{IsRead, IsUnread};
-ghost use Rattle.canvas_lines.specs.Seen.{seen};
+ghost use Rattle.canvas_lines.specs.Seen.{seen_log_request};
 ghost use Rattle.canvas_lines.specs.Spelling.{InputSpells, IsBadLine, LinesSpell, SpellsNumber, SpellsRequest};
 
 use crate::changes::read_change;
@@ -30,7 +30,7 @@ pub enum LogRequest {
 
 /// The request that the line spells: `join`, or an author's id, a blank and a change.
 pub fn read_request(alloc: Global, line: &[u8]) -> Result<LogRequest, LineError>
-    ensures ok { IfOk result (λ request. SpellsRequest line.now (seen request)) }
+    ensures ok { IfOk result (λ request. SpellsRequest line.now (seen_log_request request)) }
     ensures err { IfErr result (IsLineError (SpellsRequest line.now)) }
 {
     if line == b"join".as_slice() {
@@ -66,10 +66,10 @@ pub struct Reading {
 /// only if memory runs out.
 pub fn read_requests(alloc: Global, input: &[u8]) -> Result<Reading, AllocError>
     ensures whole { IfOk result (λ r. IfNone r.bad_line
-        (InputSpells input.now (map seen r.requests.items))) }
+        (InputSpells input.now (map seen_log_request r.requests.items))) }
     ensures bad { IfOk result (λ r. IfSome r.bad_line (IsBadLine input.now)) }
     ensures before { IfOk result (λ r. IfSome r.bad_line
-        (λ n. LinesSpell (take (n - 1) (lines_of input.now)) (map seen r.requests.items))) }
+        (λ n. LinesSpell (take (n - 1) (lines_of input.now)) (map seen_log_request r.requests.items))) }
 {
     let mut requests = Vec::new(alloc);
     let mut started = false;
@@ -106,7 +106,7 @@ fn read_line(
     requests: &mut Vec<LogRequest>,
 ) -> Result<(), LineError>
     ensures ok { OnOk result
-        (IsRead started line.now (map seen requests.old.items) (map seen requests.new.items)) }
+        (IsRead started line.now (map seen_log_request requests.old.items) (map seen_log_request requests.new.items)) }
     ensures err { IfErr result (λ e. e ≡ LineError.Unreadable
         → IsUnread started line.now × (requests.new.items ≡ requests.old.items)) }
 {

@@ -36,27 +36,27 @@ IsUnasked bytes Memory = Unit {0}
 IsUnasked bytes _ = ⊥
 
 -- why bytes are refused that `decode` refuses so: for want of memory, or since they can't be read
-abbrev pub reason_of : WireError → NoReason
-reason_of wire.Memory = Memory
-reason_of _ = NotRead
+abbrev pub reason_of_wire_error : WireError → NoReason
+reason_of_wire_error wire.Memory = Memory
+reason_of_wire_error _ = NotRead
 
 -- the message ends an answer
-abbrev pub IsEnd : Message → Type 0
-IsEnd (Welcome client) = Unit {0}
-IsEnd Idle = Unit {0}
-IsEnd (No reason) = Unit {0}
-IsEnd _ = ⊥
+abbrev pub EndsAnswer : Message → Type 0
+EndsAnswer (Welcome client) = Unit {0}
+EndsAnswer Idle = Unit {0}
+EndsAnswer (No reason) = Unit {0}
+EndsAnswer _ = ⊥
 
 -- the messages are an answer: the last of them ends it, and no other
 abbrev pub IsAnswer : List Message → Type 0
 IsAnswer [] = ⊥
-IsAnswer (m ∷ []) = IsEnd m
-IsAnswer (m ∷ n ∷ ms) = (IsEnd m → ⊥) × IsAnswer (n ∷ ms)
+IsAnswer (m ∷ []) = EndsAnswer m
+IsAnswer (m ∷ n ∷ ms) = (EndsAnswer m → ⊥) × IsAnswer (n ∷ ms)
 
 -- the messages are the beginning of an answer: none of them ends it
 abbrev pub IsBegun : List Message → Type 0
 IsBegun [] = Unit {0}
-IsBegun (m ∷ ms) = (IsEnd m → ⊥) × IsBegun ms
+IsBegun (m ∷ ms) = (EndsAnswer m → ⊥) × IsBegun ms
 
 -- the beginning of an answer became an answer, where its last message came, or a longer beginning
 abbrev pub Extends : Bool → List Message → List Message → Type 0
@@ -68,8 +68,8 @@ abbrev pub IsDecodedAnswer : List Message → Type 0
 IsDecodedAnswer answer = IsAnswer answer × AreDecoded answer
 
 -- a No for this reason, alone
-abbrev pub refused : NoReason → List Message
-refused reason = No (number_of reason) ∷ []
+abbrev pub refusal_alone : NoReason → List Message
+refusal_alone reason = No (number_of reason) ∷ []
 
 -- What is answered to bytes: what is given to the message that they spell; NotRead, where they spell none that a client sends, and
 -- nothing has changed; or Memory.
@@ -77,23 +77,23 @@ module _ {S : Type 0} (Gives : S → Message → List Message → S → Type 0) 
   abbrev pub Replies : S → List ℕ → List Message → S → Type 0
   Replies old bytes answer new =
       ((m : Message) × SpellsAsked bytes m × Gives old m answer new)
-      ⊎ (IsUnasked bytes NotRead × (answer ≡ refused NotRead) × (new ≡ old))
-      ⊎ (answer ≡ refused Memory)
+      ⊎ (IsUnasked bytes NotRead × (answer ≡ refusal_alone NotRead) × (new ≡ old))
+      ⊎ (answer ≡ refusal_alone Memory)
 
 -- each text is what is written of the message beside it
-abbrev pub AreTexts : List (List ℕ) → List Message → Type 0
-AreTexts [] [] = Unit {0}
-AreTexts [] (m ∷ ms) = ⊥
-AreTexts (t ∷ ts) [] = ⊥
-AreTexts (t ∷ ts) (m ∷ ms) = EncodesMessage t m × AreTexts ts ms
+abbrev pub AreMessageTexts : List (List ℕ) → List Message → Type 0
+AreMessageTexts [] [] = Unit {0}
+AreMessageTexts [] (m ∷ ms) = ⊥
+AreMessageTexts (t ∷ ts) [] = ⊥
+AreMessageTexts (t ∷ ts) (m ∷ ms) = EncodesMessage t m × AreMessageTexts ts ms
 
 -- THE TEXTS OF AN ANSWER
 
 module _ {S : Type 0} (Gives : S → Message → List Message → S → Type 0) where
   -- the texts of what is given to a message
   abbrev pub GivesTexts : S → Message → List (List ℕ) → S → Type 0
-  GivesTexts old m texts new = (answer : List Message) × Gives old m answer new × IsAnswer answer × AreTexts texts answer
+  GivesTexts old m texts new = (answer : List Message) × Gives old m answer new × IsAnswer answer × AreMessageTexts texts answer
 
   -- the texts of what is answered to bytes
   abbrev pub RepliesTexts : S → List ℕ → List (List ℕ) → S → Type 0
-  RepliesTexts old bytes texts new = (answer : List Message) × Replies Gives old bytes answer new × AreTexts texts answer
+  RepliesTexts old bytes texts new = (answer : List Message) × Replies Gives old bytes answer new × AreMessageTexts texts answer

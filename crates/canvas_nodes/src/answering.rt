@@ -4,7 +4,7 @@ ghost use Rattle.canvas_model.specs.Messages.{No};
 ghost use Rattle.canvas_judge.specs.Reasons.{number_of};
 ghost use Rattle.canvas_judge.specs.Seen.{seen_message};
 ghost use Rattle.canvas_wire.specs.Text.{EncodesMessage};
-ghost use Rattle.canvas_nodes.specs.Answers.{AreTexts, IsAnswer, Replies, RepliesTexts, refused};
+ghost use Rattle.canvas_nodes.specs.Answers.{AreMessageTexts, IsAnswer, Replies, RepliesTexts, refusal_alone};
 
 use crate::asked;
 use canvas_judge::{Message, NoReason};
@@ -52,7 +52,7 @@ pub fn answered<A: Answerer>(
 ) -> Result<Vec<Vec<u8>>, NoReason>
     ensures { MatchResult result
         (λ ts. RepliesTexts A.gives answerer.old bytes.now (map (λ t. t.items) ts.items) answerer.new)
-        (λ reason. Replies A.gives answerer.old bytes.now (refused reason) answerer.new) }
+        (λ reason. Replies A.gives answerer.old bytes.now (refusal_alone reason) answerer.new) }
 {
     match asked(alloc, bytes) {
         Ok(message) => match answerer.texts(alloc, &message) {
@@ -65,7 +65,7 @@ pub fn answered<A: Answerer>(
 
 /// The text of each of these messages. Errors: out of memory.
 pub fn texts_of(alloc: Global, messages: &[Message]) -> Result<Vec<Vec<u8>>, AllocError>
-    ensures { IfOk result (λ texts. AreTexts (map (λ text. text.items) texts.items) (map seen_message messages.now)) }
+    ensures { IfOk result (λ texts. AreMessageTexts (map (λ text. text.items) texts.items) (map seen_message messages.now)) }
 {
     let mut texts = Vec::with_capacity(alloc, messages.len())?;
     for message in messages {

@@ -1,7 +1,7 @@
 // What a client asks.
 ghost use Rattle.std.specs.Prelude.{◌≡◌, ◌↔◌, IfErr, IfOk, IsTrue};
 ghost use Rattle.canvas_judge.specs.Seen.{seen_message};
-ghost use Rattle.canvas_nodes.specs.Answers.{IsAsked, IsUnasked, SpellsAsked, reason_of};
+ghost use Rattle.canvas_nodes.specs.Answers.{IsAsked, IsUnasked, SpellsAsked, reason_of_wire_error};
 
 use canvas_judge::{Message, NoReason};
 use canvas_wire::{WireError, decode};
@@ -26,7 +26,7 @@ pub fn asked(alloc: Global, bytes: &[u8]) -> Result<Message, NoReason>
 
 // Why bytes are refused that `decode` refuses so.
 fn reason_of(error: WireError) -> NoReason
-    ensures { result ≡ reason_of error }
+    ensures { result ≡ reason_of_wire_error error }
 {
     match error {
         WireError::Memory => NoReason::Memory,

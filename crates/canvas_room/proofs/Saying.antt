@@ -6,7 +6,7 @@ use Rattle.canvas_model.specs.Log.{Entry}
 use Rattle.canvas_journal.specs.declared.fault.KeepError.TheVariants.{Device, Failed, Memory, TooLarge}
 use Rattle.canvas_server.specs.Asked.{Asked}
 use Rattle.canvas_server.specs.Served.{Served}
-use Rattle.canvas_board.specs.Marks.{IsLegal, Logged, Mark, Opening, board, start, step}
+use Rattle.canvas_board.specs.Marks.{IsLegalHistory, Logged, Mark, Opening, board, start, step}
 use Rattle.canvas_board.specs.Receipts.{ReceiptValue}
 use Rattle.canvas_board.proofs.Boards.{legal_begin, version_before}
 use base.Growing.{prefix_refl, prefix_trans}
@@ -15,16 +15,16 @@ use Rattle.canvas_desk.specs.declared.faults.SubmitError.TheVariants.{Refused, N
 use Rattle.canvas_desk.specs.Fates.{AreJudged, as_owed, marks, receipts, unjudged}
 use Rattle.canvas_desk.specs.Batches.{IsAnswered, LeavesBatch}
 use Rattle.canvas_desk.specs.Faults.{is_memory}
-use Rattle.canvas_desk.specs.Judging.{IsEntryFor, Refuses}
+use Rattle.canvas_desk.specs.Judging.{IsEntryFor, RefusesRequest}
 use Rattle.canvas_desk.proofs.Boards.{board_next, stands_next}
 use Rattle.canvas_room.specs.Batches.{AreSaid, AreSeen, IsUnanswered, Says}
-use Rattle.canvas_room.specs.Seats.{IsAnswerTo, IsRefused, IsRefusedAt, IsTold, Learns, RefusesEdit, is_failure}
+use Rattle.canvas_room.specs.Seats.{IsAnswerTo, IsRefusedSince, IsRefusedAt, IsTold, Learns, RefusesEdit, is_failure}
 use Rattle.std.proofs.lemmas.Bool.{true≢false}
 use Rattle.canvas_room.proofs.Told.{answers_of, by_test, refuses_of}
 
 -- a beginning of a legal history is legal
-legal_before : (o : Opening) (xs ys : List Mark) → IsPrefix xs ys → IsLegal o ys → IsLegal o xs
-legal_before o xs ys pre legal = legal_begin (start o) xs pre.0 (subst (λ (l : List Mark). IsLegal o l) (sym pre.1) legal)
+legal_before : (o : Opening) (xs ys : List Mark) → IsPrefix xs ys → IsLegalHistory o ys → IsLegalHistory o xs
+legal_before o xs ys pre legal = legal_begin (start o) xs pre.0 (subst (λ (l : List Mark). IsLegalHistory o l) (sym pre.1) legal)
 
 -- ---- seats
 
@@ -49,7 +49,7 @@ said_none o due (q ∷ qs) [] shown v = tt
 said_none o due (q ∷ qs) (seen ∷ seens) shown v = ((tt, inl refl), said_none o due qs seens shown v)
 
 -- the request's entry stands next
-told_next : (o : Opening) (q : Asked) (e : Entry) (seen due due' : List Mark) (v : ℕ) → IsPrefix seen due → v ≡ (board o due).version → IsEntryFor (board o due) q e → IsPrefix (due ++ Logged e ∷ []) due' → IsLegal o due'
+told_next : (o : Opening) (q : Asked) (e : Entry) (seen due due' : List Mark) (v : ℕ) → IsPrefix seen due → v ≡ (board o due).version → IsEntryFor (board o due) q e → IsPrefix (due ++ Logged e ∷ []) due' → IsLegalHistory o due'
     → IsTold o seen q (record { history = due ++ Logged e ∷ []; entry = e; version = v + 1 })
 told_next o q e seen due due' v pre at is more legal =
     let next = due ++ Logged e ∷ [] in
@@ -62,10 +62,10 @@ told_next o q e seen due due' v pre at is more legal =
     }
 
 -- it is refused in the state of what is due then
-refused_next : (o : Opening) (q : Asked) (e : SubmitError) (seen due due' : List Mark) → IsPrefix seen due → IsPrefix due due' → IsLegal o due' → Refuses (board o due) q e → Says o seen due' q (Err e)
+refused_next : (o : Opening) (q : Asked) (e : SubmitError) (seen due due' : List Mark) → IsPrefix seen due → IsPrefix due due' → IsLegalHistory o due' → RefusesRequest (board o due) q e → Says o seen due' q (Err e)
 refused_next o q e seen due due' pre more legal h = (refuses_of (board o due) q e h, inr (record { at = due; from = pre; to = more; legal = legal; refuses = h }))
 
-module _ (o : Opening) (due' : List Mark) (legal : IsLegal o due') where
+module _ (o : Opening) (due' : List Mark) (legal : IsLegalHistory o due') where
   -- each request of a batch, judged in the state after those before it
   said_each : (qs : List Asked) (seens : List (List Mark)) (fates : List (Result Entry SubmitError)) (due : List Mark) (b : Served) (v : ℕ) → b ≡ board o due → v ≡ (board o due).version → AreSeen due seens → AreJudged b qs fates → IsPrefix (due ++ marks fates) due'
       → AreSaid o due' qs seens (receipts due v fates)
@@ -82,7 +82,7 @@ module _ (o : Opening) (due' : List Mark) (legal : IsLegal o due') where
       (told_next o q e s due due' v seen.0 at entry rest legal, said_each qs ss fates next (step b (Logged e)) (v + 1) here version (seen_more due next ss (Logged e ∷ [], refl) seen.1) judged.1 all)
   said_each (q ∷ qs) (s ∷ ss) (Err e ∷ fates) due b v is at seen judged more =
       let rest : IsPrefix due due' = prefix_trans due (due ++ marks fates) due' (marks fates, refl) more in (
-        refused_next o q e s due due' seen.0 rest legal (subst (λ (x : Served). Refuses x q e) is judged.0),
+        refused_next o q e s due due' seen.0 rest legal (subst (λ (x : Served). RefusesRequest x q e) is judged.0),
         by_test (is_memory e) (fates ≡ unjudged qs) (AreJudged b qs fates) (AreSaid o due' qs ss (receipts due v fates))
             (λ _ none. subst (λ l. AreSaid o due' qs ss (receipts due v l)) (sym none) (said_none o due' qs ss due v))
             (λ others. said_each qs ss fates due b v is at seen.1 others more) judged.1,
@@ -98,7 +98,7 @@ said_owed o due (q ∷ qs) (s ∷ ss) (Err e ∷ answers) h = (h.0, said_owed o 
 
 -- what the desk answers a batch says that of each request
 pub answers_said : (o : Opening) (qs : List Asked) (seens : List (List Mark)) (shown front history due history' due' : List Mark) (failed failed' : Bool) (answers : List (Result ReceiptValue SubmitError))
-    → IsAnswered o qs due history' due' failed failed' answers → IsPrefix history due → shown ≡ history → AreSeen shown seens → front ≡ due' → IsLegal o due' → AreSaid o front qs seens answers
+    → IsAnswered o qs due history' due' failed failed' answers → IsPrefix history due → shown ≡ history → AreSeen shown seens → front ≡ due' → IsLegalHistory o due' → AreSaid o front qs seens answers
 answers_said o qs seens shown front history due history' due' failed failed' answers h longer was seen is legal =
     let all : IsPrefix (due ++ marks h.fates) due' = subst (λ (l : List Mark). IsPrefix l due') h.more (prefix_refl due') in
     let before = seen_more history due seens longer (subst (λ (l : List Mark). AreSeen l seens) was seen) in
@@ -160,11 +160,11 @@ refused_as o q e seen due front is (inl h) never = absurd (never h)
 refused_as o q e seen due front is (inr h) never = subst (λ (l : List Mark). IsRefusedAt o seen l q e) (sym is) h
 
 -- no answer of a batch that was judged tells of a failure
-no_failure : (o : Opening) (q : Asked) (e : SubmitError) (seen due : List Mark) {P : Type 0} → (is_memory e ≡ true) ⊎ IsRefusedAt o seen due q e → (is_memory e ≡ true → ⊥) → ((b : Served) → Refuses b q e → ⊥) → P
+no_failure : (o : Opening) (q : Asked) (e : SubmitError) (seen due : List Mark) {P : Type 0} → (is_memory e ≡ true) ⊎ IsRefusedAt o seen due q e → (is_memory e ≡ true → ⊥) → ((b : Served) → RefusesRequest b q e → ⊥) → P
 no_failure o q e seen due (inl h) never none = absurd (never h)
 no_failure o q e seen due (inr h) never none = absurd (none (board o h.at) h.refuses)
 
-refusal_said : (o : Opening) (q : Asked) (e : SubmitError) (seen due front : List Mark) → Learns (Err e) seen due front → (is_memory e ≡ true) ⊎ IsRefusedAt o seen due q e → IsRefused o seen front q e
+refusal_said : (o : Opening) (q : Asked) (e : SubmitError) (seen due front : List Mark) → Learns (Err e) seen due front → (is_memory e ≡ true) ⊎ IsRefusedAt o seen due q e → IsRefusedSince o seen front q e
 refusal_said o q (Refused reason) seen due front k h = refused_as o q (Refused reason) seen due front k h (λ m. true≢false (sym m))
 refusal_said o q (NotKept Device) seen due front k h = no_failure o q (NotKept Device) seen due h (λ m. true≢false (sym m)) (λ b n. n)
 refusal_said o q (NotKept Failed) seen due front k h = no_failure o q (NotKept Failed) seen due h (λ m. true≢false (sym m)) (λ b n. n)
@@ -177,7 +177,7 @@ pub said_answers : (o : Opening) (q : Asked) (a : Result ReceiptValue SubmitErro
 said_answers o q (Ok r) seen due front h k = (h, k)
 said_answers o q (Err e) seen due front h k = (h.0, refusal_said o q e seen due front k h.1)
 
-refusal_unjudged : (o : Opening) (q : Asked) (e : SubmitError) (seen front : List Mark) → is_memory e ≡ true → front ≡ seen → RefusesEdit q e × IsRefused o seen front q e
+refusal_unjudged : (o : Opening) (q : Asked) (e : SubmitError) (seen front : List Mark) → is_memory e ≡ true → front ≡ seen → RefusesEdit q e × IsRefusedSince o seen front q e
 refusal_unjudged o q (Refused reason) seen front m same = absurd (true≢false (sym m))
 refusal_unjudged o q (NotKept Device) seen front m same = absurd (true≢false (sym m))
 refusal_unjudged o q (NotKept Failed) seen front m same = absurd (true≢false (sym m))

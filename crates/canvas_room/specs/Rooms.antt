@@ -4,7 +4,7 @@ use Rattle.canvas_board.specs.Marks.{Opening}
 use Rattle.logbook.specs.Pages.{Book}
 
 -- a room that has no name yet: its keeper, what it opens with, its book, and for how many seats it is
-pub record BlankValue (K : Type 0) : Type 0 where
+pub record BlankRoomValue (K : Type 0) : Type 0 where
   pub keeper : K
   pub opening : Opening
   pub book : Book

@@ -5,17 +5,17 @@ use Rattle.canvas_model.specs.Log.{What, Join, Edit, Entry}
 use Rattle.canvas_model.specs.Verdict.{Joined, Outcome}
 use Rattle.canvas_journal.specs.declared.fault.KeepError.TheVariants.{Device, Failed, Memory, TooLarge}
 use Rattle.canvas_server.specs.Asked.{Asked}
-use Rattle.canvas_board.specs.Marks.{IsLegal, Mark, Opening, Sees, TellsFailure, board}
+use Rattle.canvas_board.specs.Marks.{IsLegalHistory, Mark, Opening, SeesHistory, TellsFailure, board}
 use Rattle.canvas_board.specs.Receipts.{ReceiptValue, EndsWith}
 use Rattle.canvas_desk.specs.declared.faults.Refusal.TheVariants.{Stranger, Repeat, Gap}
 use Rattle.canvas_desk.specs.declared.faults.SubmitError.{SubmitError}
 use Rattle.canvas_desk.specs.declared.faults.SubmitError.TheVariants.{Refused, NotKept, Owed}
-use Rattle.canvas_desk.specs.Judging.{Refuses}
+use Rattle.canvas_desk.specs.Judging.{RefusesRequest}
 
 -- what was asked for is an edit
-abbrev pub IsEdit : What → Type 0
-IsEdit Join = ⊥
-IsEdit (Edit change) = Unit {0}
+abbrev pub AsksForEdit : What → Type 0
+AsksForEdit Join = ⊥
+AsksForEdit (Edit change) = Unit {0}
 
 -- a Join's outcome is that some client joined
 abbrev pub IsOutcomeOf : What → Outcome → Type 0
@@ -33,14 +33,14 @@ pub record Answers (q : Asked) (e : Entry) : Type 0 where
 pub record IsTold (o : Opening) (seen : List Mark) (q : Asked) (r : ReceiptValue) : Type 0 where
   pub answers : Answers q r.entry
   pub ends : EndsWith o r.history r.entry r.version
-  pub sees : Sees o seen r.history
+  pub sees : SeesHistory o seen r.history
   pub above : (board o seen).version < r.version
 
 -- a stranger, a repeat and a gap are edits; a repeat is one by a number that was judged, a gap one by a number above the next
 abbrev pub RefusesEdit : Asked → SubmitError → Type 0
-RefusesEdit q (Refused Stranger) = IsEdit q.what
-RefusesEdit q (Refused (Repeat done)) = IsEdit q.what × (q.seq ≤ done)
-RefusesEdit q (Refused (Gap done)) = IsEdit q.what × (done + 1 < q.seq)
+RefusesEdit q (Refused Stranger) = AsksForEdit q.what
+RefusesEdit q (Refused (Repeat done)) = AsksForEdit q.what × (q.seq ≤ done)
+RefusesEdit q (Refused (Gap done)) = AsksForEdit q.what × (done + 1 < q.seq)
 RefusesEdit q _ = Unit {0}
 
 -- At one beginning of what the seat has seen since, the server's rule refuses the request, or its entry is too large.
@@ -48,21 +48,21 @@ pub record IsRefusedAt (o : Opening) (old new : List Mark) (q : Asked) (e : Subm
   pub at : List Mark
   pub from : IsPrefix old at
   pub to : IsPrefix at new
-  pub legal : IsLegal o new
-  pub refuses : Refuses (board o at) q e
+  pub legal : IsLegalHistory o new
+  pub refuses : RefusesRequest (board o at) q e
 
 -- what the seat has seen since tells that what keeps the entries has failed
 abbrev pub IsFailedSince : Opening → List Mark → List Mark → Type 0
-IsFailedSince o old new = Sees o old new × TellsFailure new
+IsFailedSince o old new = SeesHistory o old new × TellsFailure new
 
 -- A refused request was refused at a beginning of what the seat has seen since, or what it has seen since tells of a failure; a request for
 -- which memory was refused leaves the seat as it was.
-abbrev pub IsRefused : Opening → List Mark → List Mark → Asked → SubmitError → Type 0
-IsRefused o old new q (Refused reason) = IsRefusedAt o old new q (Refused reason)
-IsRefused o old new q (NotKept TooLarge) = IsRefusedAt o old new q (NotKept TooLarge)
-IsRefused o old new q (NotKept Memory) = new ≡ old
-IsRefused o old new q (NotKept _) = IsFailedSince o old new
-IsRefused o old new q (Owed v) = new ≡ old
+abbrev pub IsRefusedSince : Opening → List Mark → List Mark → Asked → SubmitError → Type 0
+IsRefusedSince o old new q (Refused reason) = IsRefusedAt o old new q (Refused reason)
+IsRefusedSince o old new q (NotKept TooLarge) = IsRefusedAt o old new q (NotKept TooLarge)
+IsRefusedSince o old new q (NotKept Memory) = new ≡ old
+IsRefusedSince o old new q (NotKept _) = IsFailedSince o old new
+IsRefusedSince o old new q (Owed v) = new ≡ old
 
 -- the request was judged and refused: the server's rule says so, or its entry is too large
 abbrev pub is_refusal : Result ReceiptValue SubmitError → Bool
@@ -84,4 +84,4 @@ Learns answer seen shown front = front ≡ cond (is_refusal answer) shown seen
 -- an answer to a request whose seat had seen this, and what the seat is to learn with it
 abbrev pub IsAnswerTo : Opening → List Mark → Asked → Result ReceiptValue SubmitError → List Mark → Type 0
 IsAnswerTo o seen q (Ok r) front = IsTold o seen q r × (front ≡ seen)
-IsAnswerTo o seen q (Err e) front = RefusesEdit q e × IsRefused o seen front q e
+IsAnswerTo o seen q (Err e) front = RefusesEdit q e × IsRefusedSince o seen front q e

@@ -2,7 +2,7 @@
 ghost use Rattle.std.specs.Prelude.{◌≡◌, true, false, Err, IfErr, IfNone, IfSome};
 ghost use mathlib.Core.List.{IsPrefix};
 ghost use Rattle.canvas_server.specs.Asked.{Asked, seen_request};
-ghost use Rattle.canvas_board.specs.Marks.{IsLegal, TellsFailure};
+ghost use Rattle.canvas_board.specs.Marks.{IsLegalHistory, TellsFailure};
 ghost use Rattle.canvas_desk.specs.Faults.{is_memory};
 ghost use Rattle.canvas_room.specs.Batches.{IsUnanswered};
 ghost use Rattle.canvas_room.specs.Seats as seats;
@@ -65,7 +65,7 @@ pub fn learned<N: RoomName>(
     shown: &Front<N>,
 ) -> Front<N>
     ensures learns { Learns answer.now seen.now shown.now result }
-    ensures legal { IsLegal N.opening result }
+    ensures legal { IsLegalHistory N.opening result }
 {
     if is_refusal(answer) {
         shown.again()
@@ -88,7 +88,7 @@ fn unjudged<N: RoomName>(error: SubmitError, seen: &Front<N>) -> SeatAnswer<N>
 // What a seat is to learn that has seen this, where a prefix of the history tells of a failure: that beginning, if it is longer.
 fn learned_of<N: RoomName>(seen: &Front<N>, told: Front<N>) -> Front<N>
     requires told { TellsFailure told }
-    requires legal { IsLegal N.opening told }
+    requires legal { IsLegalHistory N.opening told }
     ensures { IsFailedSince N.opening seen.now result }
 {
     if seen.begins(&told) {

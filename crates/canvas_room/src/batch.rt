@@ -1,7 +1,7 @@
 // How the requests of a mailbox are committed as one batch.
 ghost use Rattle.std.specs.Prelude.{◌≡◌, ◌≤◌, IfErr, IfOk, IfSome, length, map};
 ghost use Rattle.canvas_server.specs.Asked.{seen_request};
-ghost use Rattle.canvas_board.specs.Marks.{IsLegal};
+ghost use Rattle.canvas_board.specs.Marks.{IsLegalHistory};
 ghost use Rattle.canvas_room.specs.Batches.{AreSaid, AreSeen, IsUnanswered, Says, seen_of};
 
 use crate::asking::{SeatAnswer, is_refusal, learned};

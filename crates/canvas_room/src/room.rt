@@ -62,9 +62,9 @@ impl<K: Keeper> Model for BlankRoom<K> {
     ghost use Rattle.canvas_model.specs.Codes.{state_code, value_code};
     ghost use Rattle.canvas_model.specs.Log.{last_version};
     ghost use Rattle.canvas_desk.specs.Ready.{IsKeptAt};
-    ghost use Rattle.canvas_room.specs.Rooms.{BlankValue};
+    ghost use Rattle.canvas_room.specs.Rooms.{BlankRoomValue};
 
-    ghost Value = { BlankValue K };
+    ghost Value = { BlankRoomValue K };
 
     ghost coded = { Prim.hlevel (codes, value_code, state_code) };
 

@@ -1,8 +1,8 @@
 //! Desks to ask.
 ghost use Rattle.std.specs.Prelude.{◌≡◌, [], IsTrue, false};
 ghost use Rattle.canvas_desk.specs.Ready.{IsKeptAt};
-ghost use Rattle.canvas_room_tests.specs.Desks.{first};
-ghost use Rattle.canvas_journal.specs.Meaning.{opening};
+ghost use Rattle.canvas_room_tests.specs.Desks.{first_opening};
+ghost use Rattle.canvas_journal.specs.Meaning.{opening_version};
 ghost use Rattle.canvas_shelf.specs.Shelved.{disk_of};
 
 use crate::trials::{Asked, is_answered};
@@ -40,9 +40,9 @@ fn desk_over<'a, K: Keeper + Drop, N: RoomName, W: Wait>(
     keeper: K,
 ) -> Result<Desk<K, N, &'a W>, Fail>
     requires book { blank.seen.book ≡ N.book }
-    requires opening { N.opening ≡ first }
+    requires opening { N.opening ≡ first_opening }
     requires alive { K.failed keeper ≡ false }
-    requires kept { IsTrue (K.honest keeper) → IsKeptAt (K.keeps keeper) K.finds (K.left_since keeper (K.moment keeper)) opening }
+    requires kept { IsTrue (K.honest keeper) → IsKeptAt (K.keeps keeper) K.finds (K.left_since keeper (K.moment keeper)) opening_version }
 {
     let state = State::new(alloc)?;
     let opening = Opening { state, version: 0 };
@@ -60,7 +60,7 @@ fn desk_on<'a, N: RoomName, W: Wait>(
     shelf: MemShelf,
 ) -> Result<MemDesk<'a, N, W>, Fail>
     requires book { blank.seen.book ≡ N.book }
-    requires opening { N.opening ≡ first }
+    requires opening { N.opening ≡ first_opening }
     requires empty { disk_of shelf ≡ [] }
 {
     match open(alloc, shelf) {
@@ -80,7 +80,7 @@ fn answers_under<N: RoomName, W: Wait>(
     asked: &Asked,
 ) -> Result<bool, Fail>
     requires book { blank.seen.book ≡ N.book }
-    requires opening { N.opening ≡ first }
+    requires opening { N.opening ≡ first_opening }
     requires empty { disk_of shelf ≡ [] }
 {
     let shared = Mutex::new(desk_on::<N, W>(rt, alloc, blank, shelf)?);

@@ -7,7 +7,7 @@ use Rattle.canvas_model.specs.declared.Kind.{Kind}
 use Rattle.canvas_model.specs.Document.{Object, Place}
 use Rattle.canvas_model.specs.Text.{id_text, kind_word, place_text}
 use Rattle.canvas_tree.proofs.Lines.{bare_parts, placed_parts}
-use Rattle.canvas_scene.specs.Report.{stands_text, object_line}
+use Rattle.canvas_scene.specs.Report.{refused_place_text, object_line}
 
 pub place_parts : (p q : List ℕ) → p ++ 32 ∷ q ≡ p ++ codes " " ++ q
 place_parts p q = sym (append_assoc p (32 ∷ []) q)
@@ -18,7 +18,7 @@ pub placed_line : (e : ObjId × Object) (kind : Kind) (stands : Option Place) (p
 placed_line e kind stands place text k s is t =
     placed_parts (id_text e.0) (kind_word kind) text
     ∙ ap (λ w. id_text e.0 ++ codes " " ++ w ++ (codes " " ++ text) ++ 10 ∷ []) (ap kind_word k)
-    ∙ ap (λ w. id_text e.0 ++ codes " " ++ kind_word e.1.kind ++ w ++ 10 ∷ []) (ap (λ w. codes " " ++ w) t ∙ ap stands_text (sym is ∙ s))
+    ∙ ap (λ w. id_text e.0 ++ codes " " ++ kind_word e.1.kind ++ w ++ 10 ∷ []) (ap (λ w. codes " " ++ w) t ∙ ap refused_place_text (sym is ∙ s))
 
 -- the line of an object without one
 pub bare_line : (e : ObjId × Object) (kind : Kind) (stands : Option Place) → kind ≡ e.1.kind → stands ≡ e.1.place → stands ≡ None
@@ -26,7 +26,7 @@ pub bare_line : (e : ObjId × Object) (kind : Kind) (stands : Option Place) → 
 bare_line e kind stands k s is =
     bare_parts (id_text e.0) (kind_word kind)
     ∙ ap (λ w. id_text e.0 ++ codes " " ++ w ++ [] ++ 10 ∷ []) (ap kind_word k)
-    ∙ ap (λ w. id_text e.0 ++ codes " " ++ kind_word e.1.kind ++ w ++ 10 ∷ []) (ap stands_text (sym is ∙ s))
+    ∙ ap (λ w. id_text e.0 ++ codes " " ++ kind_word e.1.kind ++ w ++ 10 ∷ []) (ap refused_place_text (sym is ∙ s))
 
 -- a version, a blank, a text and a line feed
 pub version_line : (v t u : List ℕ) → t ≡ u → v ++ (32 ∷ (t ++ (10 ∷ []))) ≡ v ++ codes " " ++ u ++ 10 ∷ []

@@ -9,11 +9,11 @@ use Rattle.canvas_script.specs.declared.run.ScriptError.{ScriptError}
 use Rattle.canvas_script.specs.declared.run.ScriptError.TheVariants.{BadLine, Memory}
 use Rattle.canvas_script.specs.Reading.{IsWorld}
 use Rattle.canvas_scene.specs.Report.{version_line, object_lines}
-use Rattle.canvas_scene.specs.Results.{IsErrorOf, IsLeft, IsLogOf, IsReport, IsTextLeft, IsTextPlayed}
+use Rattle.canvas_scene.specs.Results.{IsErrorInLog, LeavesAnswered, IsLogOf, IsReportOfLog, IsTextLeft, IsTextPlayed}
 use Rattle.canvas_scene.specs.Runs.{IsFold}
 
 -- a log was played
-pub log_played : (text before after : List ℕ) (log : List Entry) (s : State) → IsLogOf text log → IsFold log s → ((n : ℕ) → IsBadLine text n → ⊥) → IsReport text log s before after → IsTextPlayed text before after
+pub log_played : (text before after : List ℕ) (log : List Entry) (s : State) → IsLogOf text log → IsFold log s → ((n : ℕ) → IsBadLine text n → ⊥) → IsReportOfLog text log s before after → IsTextPlayed text before after
 log_played text before after log s of folds none report = (
   report.answers ++ version_line (length log) ++ object_lines s.doc,
   inl (record {
@@ -30,7 +30,7 @@ log_played text before after log s of folds none report = (
 )
 
 -- a log was left
-pub log_left : (text before after : List ℕ) (e : ScriptError) → (IsWorld text → ⊥) → IsErrorOf text e → IsLeft text before after e → IsTextLeft text before after e
+pub log_left : (text before after : List ℕ) (e : ScriptError) → (IsWorld text → ⊥) → IsErrorInLog text e → LeavesAnswered text before after e → IsTextLeft text before after e
 log_left text before after (BadLine n) not bad (printed, prints, added) = (printed, inl (not, bad, prints), added)
 log_left text before after Memory not bad same = same
 

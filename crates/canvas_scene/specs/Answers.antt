@@ -21,5 +21,5 @@ outcome_text (Removed ids) = codes "removed" ++ flat_map (λ id. codes " " ++ id
 outcome_text (Refused reason stands) = codes "refused " ++ decimal (number_of reason) ++ codes " " ++ reason_word reason ++ carried_text stands
 
 -- the version after the request, and what became of it
-abbrev pub answer_line : ℕ → Outcome → List ℕ
-answer_line version outcome = decimal version ++ codes " " ++ outcome_text outcome ++ 10 ∷ []
+abbrev pub outcome_line : ℕ → Outcome → List ℕ
+outcome_line version outcome = decimal version ++ codes " " ++ outcome_text outcome ++ 10 ∷ []

@@ -9,13 +9,13 @@ use Rattle.canvas_tree.specs.Texts.{prop_line}
 use Rattle.canvas_model.specs.Text.{id_text, kind_word, place_text}
 
 -- a blank and the place, or nothing
-abbrev pub stands_text : Option Place → List ℕ
-stands_text None = []
-stands_text (Some place) = codes " " ++ place_text place
+abbrev pub refused_place_text : Option Place → List ℕ
+refused_place_text None = []
+refused_place_text (Some place) = codes " " ++ place_text place
 
 -- an object's id, its kind and its place
 abbrev pub object_line : ObjId × Object → List ℕ
-object_line e = id_text e.0 ++ codes " " ++ kind_word e.1.kind ++ stands_text e.1.place ++ 10 ∷ []
+object_line e = id_text e.0 ++ codes " " ++ kind_word e.1.kind ++ refused_place_text e.1.place ++ 10 ∷ []
 
 -- an object's line, and one level deeper those of its properties, in the order of their names
 abbrev pub lines_of_object : ObjId × Object → List ℕ

@@ -13,42 +13,42 @@ use Rattle.canvas_lines.specs.declared.fault.Fault.TheVariants as fault
 use Rattle.canvas_lines.specs.Lines.{lines_of}
 use Rattle.canvas_lines.specs.Spelling.{Requested, InputSpells, LinesSpell, IsBadLine}
 use Rattle.canvas_lines.specs.Faults.{IsFaultStatus, fault_line}
-use Rattle.canvas_scene.specs.Runs.{Answers, IsFold, Makes}
+use Rattle.canvas_scene.specs.Runs.{AnswersEachRequest, IsFold, MakesEntries}
 use Rattle.canvas_scene.specs.Report.{version_line, object_lines}
 
 -- the input stands for requests that make these entries
 abbrev pub IsLogOf : List ℕ → List Entry → Type 0
 IsLogOf input log =
-    (requested : List Requested) × InputSpells input requested × Makes opening 0 requested log
+    (requested : List Requested) × InputSpells input requested × MakesEntries opening 0 requested log
 
 -- the answers to the input's requests, of which these entries are made
 abbrev pub AreAnswers : List ℕ → List Entry → List ℕ → Type 0
 AreAnswers input log answers =
-    (requested : List Requested) × InputSpells input requested × Answers opening 0 requested log answers
+    (requested : List Requested) × InputSpells input requested × AnswersEachRequest opening 0 requested log answers
 
 -- the answers to the requests of the lines before the n-th, of which a legal log is made
 abbrev pub AreAnswersBefore : List ℕ → ℕ → List ℕ → Type 0
 AreAnswersBefore input n answers =
     (requested : List Requested) × (log : List Entry) × LinesSpell (take (n - 1) (lines_of input)) requested
-    × IsLegal opening log × Answers opening 0 requested log answers
+    × IsLegal opening log × AnswersEachRequest opening 0 requested log answers
 
 -- the text got one answer for each request, then the version and the objects of the document
-pub record IsReport (input : List ℕ) (log : List Entry) (s : State) (before after : List ℕ) : Type 0 where
+pub record IsReportOfLog (input : List ℕ) (log : List Entry) (s : State) (before after : List ℕ) : Type 0 where
   pub answers : List ℕ
   pub are_answers : AreAnswers input log answers
   pub added : after ≡ before ++ answers ++ version_line (length log) ++ object_lines s.doc
 
 -- a bad line is the first that can't be read
-abbrev pub IsErrorOf : List ℕ → ScriptError → Type 0
-IsErrorOf input (BadLine n) = IsBadLine input n
-IsErrorOf input Memory = Unit {0}
+abbrev pub IsErrorInLog : List ℕ → ScriptError → Type 0
+IsErrorInLog input (BadLine n) = IsBadLine input n
+IsErrorInLog input Memory = Unit {0}
 
 -- with a bad line, the text got the answers to the requests of the lines before it; for want of
 -- memory, it is what it was
-abbrev pub IsLeft : List ℕ → List ℕ → List ℕ → ScriptError → Type 0
-IsLeft input before after (BadLine n) =
+abbrev pub LeavesAnswered : List ℕ → List ℕ → List ℕ → ScriptError → Type 0
+LeavesAnswered input before after (BadLine n) =
     (answers : List ℕ) × AreAnswersBefore input n answers × (after ≡ before ++ answers)
-IsLeft input before after Memory = after ≡ before
+LeavesAnswered input before after Memory = after ≡ before
 
 -- the text is a log with no bad line, and this is the answers to its requests and the report of the document that its log
 -- leads to
@@ -123,8 +123,8 @@ abbrev pub IsStatus : ℕ → Type 0
 IsStatus n = (n ≡ 0) ⊎ (n ≡ 2) ⊎ (n ≡ 3) ⊎ (n ≡ 4)
 
 -- the fault's status where it was told, or 4
-abbrev pub IsEnd : Fault → ℕ → Option (List ℕ) → Option (List ℕ) → Type 0
-IsEnd f status faults told =
+abbrev pub IsFaultEnd : Fault → ℕ → Option (List ℕ) → Option (List ℕ) → Type 0
+IsFaultEnd f status faults told =
     (IsFaultStatus f status × Appends faults told (fault_line f)) ⊎ (status ≡ 4)
 
 -- what a run did, by its status
@@ -136,6 +136,6 @@ pub record IsRun (status : ℕ) (read left written after faults told : Option (L
   pub memory : status ≡ 3 → Appends faults told (fault_line fault.Memory)
 
 -- 2 where it was told how the program is called, or 4
-abbrev pub IsRefused : ℕ → Option (List ℕ) → Option (List ℕ) → Type 0
-IsRefused status faults told =
+abbrev pub TellsUsage : ℕ → Option (List ℕ) → Option (List ℕ) → Type 0
+TellsUsage status faults told =
     ((status ≡ 2) × Appends faults told (codes "usage: scene < FILE\n")) ⊎ (status ≡ 4)

@@ -4,7 +4,7 @@ use Rattle.canvas_model.specs.State.{State, opening, joined, done, next}
 use Rattle.canvas_model.specs.Log.{Entry, Join, Edit, Fits, effect, fold, IsLegal, last_version}
 use Rattle.canvas_server.specs.Asked.{Asked}
 use Rattle.canvas_server.specs.Served.{Served}
-use Rattle.canvas_scene.specs.Answers.{answer_line}
+use Rattle.canvas_scene.specs.Answers.{outcome_line}
 use Rattle.canvas_lines.specs.Spelling.{Requested, RequestedJoin, RequestedEdit}
 
 -- the request makes no entry in this state at this version: its author hasn't joined, or the server
@@ -27,26 +27,26 @@ IsEntryOf (RequestedEdit author change) e = (e.author ≡ author) × (e.what ≡
 -- the entries are those of the requests in order, from this state and version on, leaving out the
 -- requests that make none; the lines answer each request, one that makes an entry by the version
 -- after it and what became of it
-pub data Answers : State → ℕ → List Requested → List Entry → List ℕ → Type 0 where
-  no_more : {s : State} {version : ℕ} → Answers s version [] [] []
+pub data AnswersEachRequest : State → ℕ → List Requested → List Entry → List ℕ → Type 0 where
+  no_more : {s : State} {version : ℕ} → AnswersEachRequest s version [] [] []
   left_out : {s : State} {version : ℕ} {requested : Requested} {more : List Requested} {log : List Entry} {lines : List ℕ}
       → IsLeftOut s version requested
-      → Answers s version more log lines
-      → Answers s version (requested ∷ more) log (left_out_line s requested ++ lines)
+      → AnswersEachRequest s version more log lines
+      → AnswersEachRequest s version (requested ∷ more) log (left_out_line s requested ++ lines)
   answered : {s : State} {version : ℕ} {requested : Requested} {more : List Requested} {e : Entry} {log : List Entry} {lines : List ℕ}
       → (IsLeftOut s version requested → ⊥)
       → IsEntryOf requested e
-      → Answers (effect s e) (version + 1) more log lines
-      → Answers s version (requested ∷ more) (e ∷ log) (answer_line (version + 1) e.outcome ++ lines)
+      → AnswersEachRequest (effect s e) (version + 1) more log lines
+      → AnswersEachRequest s version (requested ∷ more) (e ∷ log) (outcome_line (version + 1) e.outcome ++ lines)
 
 -- the requests make these entries, whatever they are answered
-abbrev pub Makes : State → ℕ → List Requested → List Entry → Type 0
-Makes s version requested log = (lines : List ℕ) × Answers s version requested log lines
+abbrev pub MakesEntries : State → ℕ → List Requested → List Entry → Type 0
+MakesEntries s version requested log = (lines : List ℕ) × AnswersEachRequest s version requested log lines
 
 -- the answers to these requests, which make these entries, were added to the text
 pub record AddsAnswers (requested : List Requested) (log : List Entry) (before after : List ℕ) : Type 0 where
   pub lines : List ℕ
-  pub answers : Answers opening 0 requested log lines
+  pub answers : AnswersEachRequest opening 0 requested log lines
   pub added : after ≡ before ++ lines
 
 -- the entries are a legal log, and the state is what they lead to
@@ -55,9 +55,9 @@ pub record IsFold (log : List Entry) (s : State) : Type 0 where
   pub state : s ≡ fold opening log
 
 -- what a request asks of the server: an edit, to which its line gives no number, is its author's next
-abbrev pub asked_of : State → Requested → Asked
-asked_of s RequestedJoin = record { author = 0; seq = 0; what = Join }
-asked_of s (RequestedEdit author change) = record { author = author; seq = done s author + 1; what = Edit change }
+abbrev pub asked_of_server : State → Requested → Asked
+asked_of_server s RequestedJoin = record { author = 0; seq = 0; what = Join }
+asked_of_server s (RequestedEdit author change) = record { author = author; seq = done s author + 1; what = Edit change }
 
 -- the server keeps every entry, since no checkpoint passed any, and its version is their number
 pub record IsWhole (s : Served) : Type 0 where
@@ -66,8 +66,8 @@ pub record IsWhole (s : Served) : Type 0 where
 
 -- the request was answered: it makes no entry and nothing has changed, or it makes one more, which
 -- fits; its answer was added to the text
-abbrev pub IsAnswered : Requested → List Entry → State → List ℕ → List Entry → State → List ℕ → Type 0
-IsAnswered requested log s text new_log new_s new_text =
+abbrev pub IsRequestAnswered : Requested → List Entry → State → List ℕ → List Entry → State → List ℕ → Type 0
+IsRequestAnswered requested log s text new_log new_s new_text =
     (IsLeftOut s (length log) requested × (new_log ≡ log) × (new_s ≡ s) × (new_text ≡ text ++ left_out_line s requested))
     ⊎ ((e : Entry) × (IsLeftOut s (length log) requested → ⊥) × IsEntryOf requested e × Fits s e × (new_log ≡ log ++ e ∷ []) × (new_s ≡ effect s e)
-    × (new_text ≡ text ++ answer_line (length log + 1) e.outcome))
+    × (new_text ≡ text ++ outcome_line (length log + 1) e.outcome))

@@ -2,7 +2,7 @@
 ghost use Rattle.std.specs.Prelude.{◌≡◌, IfOk, string_bytes};
 ghost use Rattle.canvas_judge.specs.Seen.{seen_outcome};
 ghost use Rattle.canvas_model.specs.Text as text;
-ghost use Rattle.canvas_scene.specs.Answers.{answer_line, carried_text, outcome_text};
+ghost use Rattle.canvas_scene.specs.Answers.{outcome_line, carried_text, outcome_text};
 
 use canvas_doc::Place;
 use canvas_judge::Outcome;
@@ -11,7 +11,7 @@ use std::alloc::{AllocError, Global};
 /// The line that answers a request which became the log's entry of this version.
 pub fn answer_line(alloc: Global, version: u64, outcome: &Outcome) -> Result<String, AllocError>
     ensures { IfOk result (λ line.
-        string_bytes line ≡ answer_line version (seen_outcome outcome.now)) }
+        string_bytes line ≡ outcome_line version (seen_outcome outcome.now)) }
 {
     let outcome = outcome_text(alloc, outcome)?;
     format!(in alloc; "{version} {outcome}\n")

@@ -7,8 +7,8 @@ ghost use Rattle.std.specs.Prelude.{◌≡◌, ◌<◌, [], ℕ, length, IfOk, I
 ghost use Rattle.std.specs.Io.KnownBytes.{Appends};
 ghost use Rattle.canvas_lines.specs.Faults.{fault_line};
 ghost use Rattle.canvas_lines.specs.Spelling.{IsBadLine};
-ghost use Rattle.canvas_scene.specs.Results.{IsErrorOf, IsLeft, IsLogOf, IsReport};
-ghost use Rattle.canvas_scene.specs.Results.{IsCutBy, IsEnd, IsPlayed, IsRefused, IsRun, IsStatus, IsStopped, IsTextLeft, IsTextPlayed};
+ghost use Rattle.canvas_scene.specs.Results.{IsErrorInLog, LeavesAnswered, IsLogOf, IsReportOfLog};
+ghost use Rattle.canvas_scene.specs.Results.{IsCutBy, IsFaultEnd, IsPlayed, TellsUsage, IsRun, IsStatus, IsStopped, IsTextLeft, IsTextPlayed};
 ghost use Rattle.canvas_scene.specs.Runs.{IsFold, IsWhole};
 
 use canvas_lines::{Fault, Reading, one_bad_line, read_input, read_requests, tell, write_out};
@@ -40,9 +40,9 @@ pub fn log_run(alloc: Global, input: &[u8], out: &mut Vec<u8>) -> Result<Server,
     ensures fold { IfOk result (λ run. IsFold run.kept run.state) }
     ensures whole { IfOk result IsWhole }
     ensures report { IfOk result
-        (λ run. IsReport input.now run.kept run.state out.old.items out.new.items) }
-    ensures error { IfErr result (IsErrorOf input.now) }
-    ensures left { IfErr result (IsLeft input.now out.old.items out.new.items) }
+        (λ run. IsReportOfLog input.now run.kept run.state out.old.items out.new.items) }
+    ensures error { IfErr result (IsErrorInLog input.now) }
+    ensures left { IfErr result (LeavesAnswered input.now out.old.items out.new.items) }
     ensures readable { IfOk result (λ _. (n : ℕ) → IsBadLine input.now n → ⊥) }
 {
     // An input that stands for requests has no bad line.
@@ -89,7 +89,7 @@ pub fn run<R: Read, W: Write, F: Write>(
 
 /// Tells of a fault on `faults`. The program's status: the fault's, or 4 where it can't be told.
 pub fn end<F: Write>(fault: &Fault, faults: &mut F) -> u8
-    ensures { IsEnd fault.now result (F.contents faults.old) (F.contents faults.new) }
+    ensures { IsFaultEnd fault.now result (F.contents faults.old) (F.contents faults.new) }
 {
     match tell(fault, faults) {
         Ok(()) => fault.status(),
@@ -143,7 +143,7 @@ pub fn start<R: Read, W: Write, F: Write>(
         (F.contents faults.old) (F.contents faults.new) }
     ensures unread { 0 < length words.now → R.remaining input.new ≡ R.remaining input.old }
     ensures unwritten { 0 < length words.now → W.contents output.new ≡ W.contents output.old }
-    ensures refused { 0 < length words.now → IsRefused result
+    ensures refused { 0 < length words.now → TellsUsage result
         (F.contents faults.old) (F.contents faults.new) }
 {
     if words.is_empty() {
@@ -155,7 +155,7 @@ pub fn start<R: Read, W: Write, F: Write>(
 
 /// Tells on `faults` how the program is called. The program's status: 2, or 4 where it can't be told.
 pub fn refuse<F: Write>(faults: &mut F) -> u8
-    ensures { IsRefused result (F.contents faults.old) (F.contents faults.new) }
+    ensures { TellsUsage result (F.contents faults.old) (F.contents faults.new) }
 {
     match write_out(faults, b"usage: scene < FILE\n") {
         Ok(()) => 2,

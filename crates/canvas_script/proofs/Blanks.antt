@@ -11,7 +11,7 @@ use Rattle.canvas_script.specs.declared.said.Head.{Head}
 use Rattle.canvas_script.specs.declared.said.Head.TheVariants.{Counted, Named, Edit, Send, Tell}
 use Rattle.canvas_script.specs.Names.{is_node_byte}
 use Rattle.canvas_script.specs.Words.{SpellsCount, SpellsNode}
-use Rattle.canvas_script.specs.Lines.{SpellsHead, head_word}
+use Rattle.canvas_script.specs.Lines.{SpellsFirstWord, first_word}
 use Rattle.canvas_script.proofs.Counts.{count_lacks}
 
 pub spelled_count_blank : (word : List ℕ) (n : ℕ) → SpellsCount word n → Lacks 32 word
@@ -25,7 +25,7 @@ node_lacks (b ∷ s) e (suc k) lt = node_lacks s (and_parts (is_node_byte b) (li
 pub spelled_node_blank : (word name : List ℕ) → SpellsNode word name → Lacks 32 word
 spelled_node_blank word name spelled = subst (Lacks 32) (sym spelled.1) (node_lacks name spelled.0.2)
 
-head_blank : (first : Head) → Lacks 32 (head_word first)
+head_blank : (first : Head) → Lacks 32 (first_word first)
 head_blank (Counted Take) = lacks_written 32 (codes "take") refl
 head_blank (Counted Welcome) = lacks_written 32 (codes "welcome") refl
 head_blank (Counted Deliver) = lacks_written 32 (codes "deliver") refl
@@ -37,7 +37,7 @@ head_blank Edit = lacks_written 32 (codes "edit") refl
 head_blank Send = lacks_written 32 (codes "send") refl
 head_blank Tell = lacks_written 32 (codes "tell") refl
 
-pub spelled_head_blank : (word : List ℕ) (first : Head) → SpellsHead word first → Lacks 32 word
+pub spelled_head_blank : (word : List ℕ) (first : Head) → SpellsFirstWord word first → Lacks 32 word
 spelled_head_blank word first spelled = subst (Lacks 32) (sym spelled) (head_blank first)
 
 -- the first word that is written so, so that no two of them are one
@@ -46,7 +46,7 @@ head_back word = if bytes_eq word (codes "take") then Counted Take else if bytes
     else if bytes_eq word (codes "restart") then Counted Restart else if bytes_eq word (codes "join") then Named Join else if bytes_eq word (codes "copy") then Named Copy
     else if bytes_eq word (codes "show") then Named Show else if bytes_eq word (codes "edit") then Edit else if bytes_eq word (codes "send") then Send else Tell
 
-back_is : (first : Head) → head_back (head_word first) ≡ first
+back_is : (first : Head) → head_back (first_word first) ≡ first
 unfolding head_back
 back_is (Counted Take) = refl
 back_is (Counted Welcome) = refl
@@ -59,5 +59,5 @@ back_is Edit = refl
 back_is Send = refl
 back_is Tell = refl
 
-pub one_head : (v w : Head) → head_word v ≡ head_word w → v ≡ w
+pub one_head : (v w : Head) → first_word v ≡ first_word w → v ≡ w
 one_head v w e = sym (back_is v) ∙ ap head_back e ∙ back_is w

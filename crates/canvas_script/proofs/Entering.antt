@@ -12,7 +12,7 @@ use Rattle.canvas_script.specs.declared.said.Counted.{Counted}
 use Rattle.canvas_script.specs.declared.said.Counted.TheVariants.{Take, Welcome, Deliver, Restart}
 use Rattle.canvas_script.specs.declared.said.Named.{Named}
 use Rattle.canvas_script.specs.declared.said.Named.TheVariants.{Join, Copy, Show}
-use Rattle.canvas_script.specs.Names.{is_used, used}
+use Rattle.canvas_script.specs.Names.{is_used, names_after_use}
 use Rattle.canvas_script.specs.Lines.{Said, SaysWhole, SaysCounted, SaysNamed, SaysEdit, SaysSend, SaysTell}
 use Rattle.canvas_script.specs.Script.{Item, Enters, Happens, ShowsServer, ShowsNode}
 use Rattle.canvas_script.specs.Asked.{asked_whole, asked_counted, asked_named, entering, AsksOf, Asks}
@@ -62,9 +62,9 @@ use_enters names name false = length-append names (name ∷ [])
 
 of_enters : (names : List (List ℕ)) (name : List ℕ) (asked : ℕ → Item) (items : List Item) (after : List (List ℕ)) → ((k : ℕ) → entered (asked k ∷ []) ≡ 0) → AsksOf names name asked items after → length after ≡ length names + entered items
 of_enters names name asked items after none (k, number, same, is) =
-    let a : length after ≡ length (used names name) = ap length same in
+    let a : length after ≡ length (names_after_use names name) = ap length same in
     let b : entered items ≡ entered (entering names name) + entered (asked k ∷ []) = ap entered is ∙ entered_append (entering names name) (asked k ∷ []) in
-    let c : length (used names name) ≡ length names + entered (entering names name) = use_enters names name (is_used names name) in
+    let c : length (names_after_use names name) ≡ length names + entered (entering names name) = use_enters names name (is_used names name) in
     let d = none k in
     omega (arith, a, b, c, d)
 

@@ -10,7 +10,7 @@ use Rattle.std.proofs.lemmas.Option.{slice_get-map, slice_get-get_or, slice_get_
 use Rattle.std.proofs.lemmas.Slice.Eq.{bytes_eq-Decides}
 use Rattle.canvas_model.specs.Numbered.{nth}
 use Rattle.canvas_model.proofs.Lists.{get-append_inv}
-use Rattle.canvas_script.specs.Names.{IsNodeName, IsNumber, AreNames, is_used, used}
+use Rattle.canvas_script.specs.Names.{IsNodeName, IsNumber, AreNames, is_used, names_after_use}
 
 -- the name that is stored so
 abbrev pub name_of : Vec ℕ Global → List ℕ
@@ -39,7 +39,7 @@ module _ {K : Type 0} (f : K → List ℕ) where
   inserted false false ks k e = map-append f ks (k ∷ [])
 
   -- a key that was inserted is a name that was used
-  pub used_seen : (ks : List K) (k : K) → map f (cond (list_any (λ other. bytes_eq (f k) (f other)) ks) ks (ks ++ k ∷ [])) ≡ used (map f ks) (f k)
+  pub used_seen : (ks : List K) (k : K) → map f (cond (list_any (λ other. bytes_eq (f k) (f other)) ks) ks (ks ++ k ∷ [])) ≡ names_after_use (map f ks) (f k)
   used_seen ks k = inserted _ _ ks k (any_seen (f k) ks)
 
 used_at : (names : List (List ℕ)) (name : List ℕ) (i : ℕ) → slice_get names i ≡ Some name → is_used names name ≡ true
@@ -47,10 +47,10 @@ used_at names name i e =
     list_any_at (bytes_eq name) names i name (slice_get_within names i name e) ((bytes_eq-Decides name (get_or names i name)).1 (sym (get_or_from_slice_get names i name name e)))
 
 -- the names after a use are those before it, where the name was used
-pub used_again : (names : List (List ℕ)) (name : List ℕ) → is_used names name ≡ true → names ≡ used names name
+pub used_again : (names : List (List ℕ)) (name : List ℕ) → is_used names name ≡ true → names ≡ names_after_use names name
 used_again names name e = sym (ap (λ b. cond b names (names ++ name ∷ [])) e)
 
-pub used_first : (names : List (List ℕ)) (name : List ℕ) → is_used names name ≡ false → used names name ≡ names ++ name ∷ []
+pub used_first : (names : List (List ℕ)) (name : List ℕ) → is_used names name ≡ false → names_after_use names name ≡ names ++ name ∷ []
 used_first names name e = ap (λ b. cond b names (names ++ name ∷ [])) e
 
 last_there : (names : List (List ℕ)) (name : List ℕ) → slice_get (names ++ name ∷ []) (length names) ≡ Some name
@@ -58,7 +58,7 @@ last_there [] name = refl
 last_there (n ∷ names) name = last_there names name
 
 -- the number of a new name is one more than there were
-pub number_new : (names : List (List ℕ)) (name : List ℕ) → is_used names name ≡ false → IsNumber (used names name) name (length names + 1)
+pub number_new : (names : List (List ℕ)) (name : List ℕ) → is_used names name ≡ false → IsNumber (names_after_use names name) name (length names + 1)
 number_new names name e =
     ap (λ after. nth after (length names + 1)) (used_first names name e)
     ∙ ap (nth (names ++ name ∷ [])) (add-one (length names))
@@ -89,5 +89,5 @@ module _ (names : List (List ℕ)) (name : List ℕ) (are : AreNames names) (is 
   more_names : AreNames (names ++ name ∷ [])
   more_names = record { each = each_more; once = once_more }
 
-  pub are_used : AreNames (used names name)
+  pub are_used : AreNames (names_after_use names name)
   are_used = subst AreNames (sym (used_first names name new)) more_names

@@ -8,7 +8,7 @@ use Rattle.canvas_lines.proofs.Readings.{meaningful_append, meaningful_passed, m
 use Rattle.canvas_script.specs.Script.{Item}
 use Rattle.canvas_script.specs.Lines.{Said, SpellsLine}
 use Rattle.canvas_script.specs.Asked.{LineSays}
-use Rattle.canvas_script.specs.Reading.{EachSays, WorldSays, LinesSay, InputSays, IsBadScriptLine, IsRead, IsUnread, NoneIsBad, OneIsBad}
+use Rattle.canvas_script.specs.Reading.{EachSays, WorldSays, LinesSay, InputSays, IsBadScriptLine, IsScriptLineRead, IsScriptLineUnread, NoScriptLineIsBad, OneScriptLineIsBad}
 
 -- these meaningful lines ask for these items and use these names, and whether there are any
 abbrev pub SoFar : Bool → List (List ℕ) → List (List ℕ) → List Item → Type 0
@@ -26,7 +26,7 @@ said_more before [] items names line first after each says =
 said_more before (l ∷ lines) items names line first after each says =
     (each.0, each.1, each.2 ++ first, each.3, said_more each.1 lines each.2 names line first after each.4 says, ap (λ items. items ++ first) each.5 ∙ append_assoc each.0 each.2 first)
 
-read_more : (started : Bool) (ts names : List (List ℕ)) (before : List Item) (line : List ℕ) (after : List (List ℕ)) (items : List Item) → SoFar started ts names before → IsRead started line names before after items → SoFar true (ts ++ line ∷ []) after items
+read_more : (started : Bool) (ts names : List (List ℕ)) (before : List Item) (line : List ℕ) (after : List (List ℕ)) (items : List Item) → SoFar started ts names before → IsScriptLineRead started line names before after items → SoFar true (ts ++ line ∷ []) after items
 read_more false ts names before line after items h read =
     ([], ap (λ ts. ts ++ line ∷ []) h.0 ∙ ap (λ l. l ∷ []) read.0, (read.2 ∙ h.1, read.1 ∙ h.2))
 read_more true ts names before line after items h read = (
@@ -39,7 +39,7 @@ last_said : (before : List (List ℕ)) (lines : List (List ℕ)) (line : List �
 last_said before [] line items names each = (each.3.0, each.3.1)
 last_said before (l ∷ lines) line items names each = last_said each.1 lines line each.2 names each.4
 
-unread_there : (started : Bool) (ts names : List (List ℕ)) (before : List Item) (line : List ℕ) → SoFar started ts names before → IsUnread started line → (all_names : List (List ℕ)) (items : List Item) → WorldSays (ts ++ line ∷ []) all_names items → ⊥
+unread_there : (started : Bool) (ts names : List (List ℕ)) (before : List Item) (line : List ℕ) → SoFar started ts names before → IsScriptLineUnread started line → (all_names : List (List ℕ)) (items : List Item) → WorldSays (ts ++ line ∷ []) all_names items → ⊥
 unread_there false ts names before line h unread all_names items all =
     let first = subst (λ ts. WorldSays (ts ++ line ∷ []) all_names items) h.0 all in unread first.0
 unread_there true ts names before line h unread all_names items all =
@@ -63,7 +63,7 @@ said_first ls n names items says =
     all_before (meaningful (take n ls)) (meaningful (drop n ls)) names items
     (subst (λ ts. WorldSays ts names items) (meaningful_append (take n ls) (drop n ls)) (subst (λ ls. LinesSay ls names items) (sym (take-append-drop n ls)) says))
 
-pub none_is_bad : NoneIsBad
+pub none_is_bad : NoScriptLineIsBad
 none_is_bad input names items n says bad = let first = said_first (lines_of input) n names items says in bad.bad first.0 first.1 first.2
 
 not_before : (input : List ℕ) (m n : ℕ) → IsBadScriptLine input m → IsBadScriptLine input n → m < n → ⊥
@@ -72,7 +72,7 @@ not_before input m n first second lt =
     let early = said_first (take (n - 1) (lines_of input)) m before.0 before.1 before.2 in
     first.bad early.0 early.1 (subst (λ ls. LinesSay ls early.0 early.1) (fewer m (n - 1) (lines_of input) (omega arith)) early.2)
 
-pub one_is_bad : OneIsBad
+pub one_is_bad : OneScriptLineIsBad
 one_is_bad input m n first second =
     elim (cases_lt m n) [
       | inl lt ↦ absurd (not_before input m n first second lt)
@@ -93,7 +93,7 @@ module _ (started : Bool) (input : List ℕ) (n : ℕ) (names : List (List ℕ))
       meaningful_on : meaningful (take (n + 1) (lines_of input)) ≡ meaningful (take n (lines_of input)) ++ line ∷ []
       meaningful_on = ap meaningful (next_taken n (lines_of input) line more left) ∙ meaningful_more (take n (lines_of input)) line is_meaningful
 
-      pub read_on : (after : List (List ℕ)) (items : List Item) → IsRead started line names before after items → SoFar true (meaningful (take (n + 1) (lines_of input))) after items
+      pub read_on : (after : List (List ℕ)) (items : List Item) → IsScriptLineRead started line names before after items → SoFar true (meaningful (take (n + 1) (lines_of input))) after items
       read_on after items read = subst (λ ts. SoFar true ts after items) (sym meaningful_on) (read_more started _ names before line after items so_far read)
 
       back : n + 1 - 1 ≡ n
@@ -103,7 +103,7 @@ module _ (started : Bool) (input : List ℕ) (n : ℕ) (names : List (List ℕ))
       pub said_before : LinesSay (take (n + 1 - 1) (lines_of input)) names before
       said_before = subst (λ k. LinesSay (take k (lines_of input)) names before) (sym back) (all_said started _ names before so_far)
 
-      pub stopped : IsUnread started line → IsBadScriptLine input (n + 1)
+      pub stopped : IsScriptLineUnread started line → IsBadScriptLine input (n + 1)
       stopped unread = record {
         some = omega arith;
         within = let h = next_within n (lines_of input) line more left in omega arith;

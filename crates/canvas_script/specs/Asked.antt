@@ -7,7 +7,7 @@ use Rattle.canvas_script.specs.declared.said.Counted.{Counted}
 use Rattle.canvas_script.specs.declared.said.Counted.TheVariants.{Take, Welcome, Deliver, Restart}
 use Rattle.canvas_script.specs.declared.said.Named.{Named}
 use Rattle.canvas_script.specs.declared.said.Named.TheVariants.{Join, Copy, Show}
-use Rattle.canvas_script.specs.Names.{is_used, used, IsNodeName, IsNumber}
+use Rattle.canvas_script.specs.Names.{is_used, names_after_use, IsNodeName, IsNumber}
 use Rattle.canvas_script.specs.Lines.{Said, SaysWhole, SaysCounted, SaysNamed, SaysEdit, SaysSend, SaysTell, SpellsLine}
 use Rattle.canvas_script.specs.Script.{Item, Enters, Happens, ShowsServer, ShowsNode}
 
@@ -37,7 +37,7 @@ entering names name = if is_used names name then [] else Enters ∷ []
 
 -- a node's name is used, and this is asked for of its number
 abbrev pub AsksOf : List (List ℕ) → List ℕ → (ℕ → Item) → List Item → List (List ℕ) → Type 0
-AsksOf names name asked items after = (k : ℕ) × IsNumber after name k × (after ≡ used names name) × (items ≡ entering names name ++ asked k ∷ [])
+AsksOf names name asked items after = (k : ℕ) × IsNumber after name k × (after ≡ names_after_use names name) × (items ≡ entering names name ++ asked k ∷ [])
 
 -- no name is used
 abbrev pub AsksOnly : List (List ℕ) → Item → List Item → List (List ℕ) → Type 0

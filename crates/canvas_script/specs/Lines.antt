@@ -36,20 +36,20 @@ named_word Copy = codes "copy"
 named_word Show = codes "show"
 
 -- the first word of a line that has more
-abbrev pub head_word : Head → List ℕ
-head_word (head.Counted word) = counted_word word
-head_word (head.Named word) = named_word word
-head_word head.Edit = codes "edit"
-head_word head.Send = codes "send"
-head_word head.Tell = codes "tell"
+abbrev pub first_word : Head → List ℕ
+first_word (head.Counted word) = counted_word word
+first_word (head.Named word) = named_word word
+first_word head.Edit = codes "edit"
+first_word head.Send = codes "send"
+first_word head.Tell = codes "tell"
 
 -- the line is this one
 abbrev pub SpellsWhole : List ℕ → Whole → Type 0
 SpellsWhole line whole = line ≡ whole_line whole
 
 -- the word is this one
-abbrev pub SpellsHead : List ℕ → Head → Type 0
-SpellsHead word first = word ≡ head_word first
+abbrev pub SpellsFirstWord : List ℕ → Head → Type 0
+SpellsFirstWord word first = word ≡ first_word first
 
 -- what a line says
 pub data Said : Type 0 where
@@ -73,16 +73,16 @@ seen_said (said.Send name i) = SaysSend name.now i
 seen_said (said.Tell v name) = SaysTell v name.now
 
 -- what follows each first word
-abbrev pub SpellsRest : Head → List ℕ → Said → Type 0
-SpellsRest (head.Counted word) rest said = (n : ℕ) × (said ≡ SaysCounted word n) × SpellsCount rest n
-SpellsRest (head.Named word) rest said = (name : List ℕ) × (said ≡ SaysNamed word name) × SpellsNode rest name
-SpellsRest head.Edit rest said = (name : List ℕ) × (request : EditRequest) × (said ≡ SaysEdit name request) × Spaced rest (λ word. SpellsNode word name) (λ text. SpellsEdit text request)
-SpellsRest head.Send rest said = (name : List ℕ) × (i : ℕ) × (said ≡ SaysSend name i) × Spaced rest (λ word. SpellsNode word name) (λ word. SpellsCount word i)
-SpellsRest head.Tell rest said = (v : ℕ) × (name : List ℕ) × (said ≡ SaysTell v name) × Spaced rest (λ word. SpellsCount word v) (λ word. SpellsNode word name)
+abbrev pub SpellsAfterWord : Head → List ℕ → Said → Type 0
+SpellsAfterWord (head.Counted word) rest said = (n : ℕ) × (said ≡ SaysCounted word n) × SpellsCount rest n
+SpellsAfterWord (head.Named word) rest said = (name : List ℕ) × (said ≡ SaysNamed word name) × SpellsNode rest name
+SpellsAfterWord head.Edit rest said = (name : List ℕ) × (request : EditRequest) × (said ≡ SaysEdit name request) × Spaced rest (λ word. SpellsNode word name) (λ text. SpellsEdit text request)
+SpellsAfterWord head.Send rest said = (name : List ℕ) × (i : ℕ) × (said ≡ SaysSend name i) × Spaced rest (λ word. SpellsNode word name) (λ word. SpellsCount word i)
+SpellsAfterWord head.Tell rest said = (v : ℕ) × (name : List ℕ) × (said ≡ SaysTell v name) × Spaced rest (λ word. SpellsCount word v) (λ word. SpellsNode word name)
 
 -- a line of several words: the first, and what follows it
 abbrev pub SpellsLong : List ℕ → Said → Type 0
-SpellsLong line said = (first : Head) × Spaced line (λ word. SpellsHead word first) (λ rest. SpellsRest first rest said)
+SpellsLong line said = (first : Head) × Spaced line (λ word. SpellsFirstWord word first) (λ rest. SpellsAfterWord first rest said)
 
 -- the line says this: it is one of the lines that name nothing, or a first word and what follows it
 abbrev pub SpellsLine : List ℕ → Said → Type 0

@@ -16,8 +16,8 @@ abbrev pub is_used : List (List ℕ) → List ℕ → Bool
 is_used names name = list_any (bytes_eq name) names
 
 -- the names after the use of this one: where it is new, it comes last
-abbrev pub used : List (List ℕ) → List ℕ → List (List ℕ)
-used names name = if is_used names name then names else names ++ name ∷ []
+abbrev pub names_after_use : List (List ℕ) → List ℕ → List (List ℕ)
+names_after_use names name = if is_used names name then names else names ++ name ∷ []
 
 -- the number is the name's rank among the names, from 1
 abbrev pub IsNumber : List (List ℕ) → List ℕ → ℕ → Type 0

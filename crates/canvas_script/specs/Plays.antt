@@ -6,8 +6,8 @@ use Rattle.canvas_script.specs.Answers.{answer_line}
 use Rattle.canvas_script.specs.Report.{IsServerBlock, IsNodeBlock}
 
 -- the event happens, and its answer's line is printed
-abbrev pub Tells : World → Event → List ℕ → World → Type 0
-Tells w event text u = (answer : Answer) × Step w event answer u × (text ≡ answer_line answer)
+abbrev pub PrintsAnswer : World → Event → List ℕ → World → Type 0
+PrintsAnswer w event text u = (answer : Answer) × Step w event answer u × (text ≡ answer_line answer)
 
 -- a node is added, and nothing is printed
 abbrev pub AddsNode : World → List ℕ → World → Type 0
@@ -16,7 +16,7 @@ AddsNode w text u = (answer : Answer) × Step w AddNode answer u × (text ≡ []
 -- what one item prints, and the world after it: to show a block changes nothing
 abbrev pub Plays : List (List ℕ) → World → Item → List ℕ → World → Type 0
 Plays names w Enters text u = AddsNode w text u
-Plays names w (Happens event) text u = Tells w event text u
+Plays names w (Happens event) text u = PrintsAnswer w event text u
 Plays names w ShowsServer text u = IsServerBlock w text × (u ≡ w)
 Plays names w (ShowsNode k) text u = IsNodeBlock names w k text × (u ≡ w)
 
@@ -38,7 +38,7 @@ events_of (ShowsNode k ∷ items) = events_of items
 
 -- the event happens, and the text got its answer's line
 abbrev pub AddsAnswer : World → Event → List ℕ → World → List ℕ → Type 0
-AddsAnswer w event before u after = (text : List ℕ) × Tells w event text u × (after ≡ before ++ text)
+AddsAnswer w event before u after = (text : List ℕ) × PrintsAnswer w event text u × (after ≡ before ++ text)
 
 -- the text got what one item prints
 abbrev pub AddsItem : List (List ℕ) → World → Item → List ℕ → World → List ℕ → Type 0

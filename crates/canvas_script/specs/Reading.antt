@@ -35,19 +35,19 @@ abbrev pub IsWorld : List ℕ → Type 0
 IsWorld input = (lines : List (List ℕ)) × (meaningful (lines_of input) ≡ codes "world" ∷ lines)
 
 -- the first line that isn't passed over is read as the word `world`, and each later one by what it says
-abbrev pub IsRead : Bool → List ℕ → List (List ℕ) → List Item → List (List ℕ) → List Item → Type 0
-IsRead false line names before after items = (line ≡ codes "world") × (after ≡ names) × (items ≡ before)
-IsRead true line names before after items = (first : List Item) × LineSays names line first after × (items ≡ before ++ first)
+abbrev pub IsScriptLineRead : Bool → List ℕ → List (List ℕ) → List Item → List (List ℕ) → List Item → Type 0
+IsScriptLineRead false line names before after items = (line ≡ codes "world") × (after ≡ names) × (items ≡ before)
+IsScriptLineRead true line names before after items = (first : List Item) × LineSays names line first after × (items ≡ before ++ first)
 
 -- it can't be read there
-abbrev pub IsUnread : Bool → List ℕ → Type 0
-IsUnread false line = line ≡ codes "world" → ⊥
-IsUnread true line = (said : Said) → SpellsLine line said → ⊥
+abbrev pub IsScriptLineUnread : Bool → List ℕ → Type 0
+IsScriptLineUnread false line = line ≡ codes "world" → ⊥
+IsScriptLineUnread true line = (said : Said) → SpellsLine line said → ⊥
 
 -- an input that says something has no bad line
-abbrev pub NoneIsBad : Type 0
-NoneIsBad = (input : List ℕ) (names : List (List ℕ)) (items : List Item) (n : ℕ) → InputSays input names items → IsBadScriptLine input n → ⊥
+abbrev pub NoScriptLineIsBad : Type 0
+NoScriptLineIsBad = (input : List ℕ) (names : List (List ℕ)) (items : List Item) (n : ℕ) → InputSays input names items → IsBadScriptLine input n → ⊥
 
 -- an input has no two bad lines
-abbrev pub OneIsBad : Type 0
-OneIsBad = (input : List ℕ) (m n : ℕ) → IsBadScriptLine input m → IsBadScriptLine input n → m ≡ n
+abbrev pub OneScriptLineIsBad : Type 0
+OneScriptLineIsBad = (input : List ℕ) (m n : ℕ) → IsBadScriptLine input m → IsBadScriptLine input n → m ≡ n

@@ -31,8 +31,8 @@ AreBlocks names w zero text = text ≡ []
 AreBlocks names w (suc k) text = (before block : List ℕ) × AreBlocks names w k before × IsNodeBlock names w (suc k) block × (text ≡ before ++ block)
 
 -- the server's block, and then one for each node
-abbrev pub IsReportText : List (List ℕ) → World → List ℕ → Type 0
-IsReportText names w text = (server nodes : List ℕ) × IsServerBlock w server × AreBlocks names w (length names) nodes × (text ≡ server ++ nodes)
+abbrev pub IsWorldReportText : List (List ℕ) → World → List ℕ → Type 0
+IsWorldReportText names w text = (server nodes : List ℕ) × IsServerBlock w server × AreBlocks names w (length names) nodes × (text ≡ server ++ nodes)
 
 -- the text got the server's block
 abbrev pub AddsServerBlock : World → List ℕ → List ℕ → Type 0
@@ -48,4 +48,4 @@ AddsBlocks names w k before after = (text : List ℕ) × AreBlocks names w k tex
 
 -- the text got the report
 abbrev pub AddsReport : List (List ℕ) → World → List ℕ → List ℕ → Type 0
-AddsReport names w before after = (text : List ℕ) × IsReportText names w text × (after ≡ before ++ text)
+AddsReport names w before after = (text : List ℕ) × IsWorldReportText names w text × (after ≡ before ++ text)

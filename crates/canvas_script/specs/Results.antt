@@ -9,7 +9,7 @@ use Rattle.canvas_lines.specs.declared.fault.Fault.TheVariants as fault
 use Rattle.canvas_script.specs.Script.{Item}
 use Rattle.canvas_script.specs.Reading.{InputSays, LinesSay, IsBadScriptLine}
 use Rattle.canvas_script.specs.Plays.{Prints, events_of}
-use Rattle.canvas_script.specs.Report.{IsReportText}
+use Rattle.canvas_script.specs.Report.{IsWorldReportText}
 
 -- the events that the input asks for lead to this world
 abbrev pub IsWorldOf : List ℕ → World → Type 0
@@ -23,7 +23,7 @@ pub record IsPrintedBy (input : List ℕ) (w : World) (printed : List ℕ) : Typ
   pub report : List ℕ
   pub says : InputSays input names items
   pub prints : Prints names empty items answers w
-  pub reports : IsReportText names w report
+  pub reports : IsWorldReportText names w report
   pub named : length names ≡ length w.nodes
   pub is : printed ≡ answers ++ report
 
@@ -42,9 +42,9 @@ ArePrintedBefore input n answers =
     (names : List (List ℕ)) × (items : List Item) × (w : World) × LinesSay (take (n - 1) (lines_of input)) names items × Prints names empty items answers w
 
 -- with a bad line, the text got what the lines before it print; for want of memory, it is what it was
-abbrev pub IsLeft : List ℕ → List ℕ → List ℕ → ScriptError → Type 0
-IsLeft input before after (BadLine n) = (answers : List ℕ) × ArePrintedBefore input n answers × (after ≡ before ++ answers)
-IsLeft input before after Memory = after ≡ before
+abbrev pub LeavesPrinted : List ℕ → List ℕ → List ℕ → ScriptError → Type 0
+LeavesPrinted input before after (BadLine n) = (answers : List ℕ) × ArePrintedBefore input n answers × (after ≡ before ++ answers)
+LeavesPrinted input before after Memory = after ≡ before
 
 -- want of memory
 abbrev pub IsNoMemory : ScriptError → Type 0

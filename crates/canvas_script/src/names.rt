@@ -3,7 +3,7 @@ ghost use Rattle.std.specs.Prelude.{◌≡◌, ◌↔◌, IfOk, IsTrue, OnErr, O
 ghost use Rattle.std.specs.List.{list_all};
 ghost use Rattle.std.specs.Option.{option_copied};
 ghost use Rattle.canvas_model.specs.Numbered.{nth};
-ghost use Rattle.canvas_script.specs.Names.{IsNodeName, IsNumber, is_node_byte, is_used, used};
+ghost use Rattle.canvas_script.specs.Names.{IsNodeName, IsNumber, is_node_byte, is_used, names_after_use};
 
 use indexmap::IndexSet;
 use std::alloc::{AllocError, Global};
@@ -81,7 +81,7 @@ impl Names {
     pub fn number(&mut self, name: &[u8]) -> Result<u64, AllocError>
         requires { IsNodeName name.now }
         ensures number { IfOk result (IsNumber self.new name.now) }
-        ensures used { OnOk result (self.new ≡ used self.old name.now) }
+        ensures used { OnOk result (self.new ≡ names_after_use self.old name.now) }
         ensures err { OnErr result (self.new ≡ self.old) }
     {
         let next = self.names.len() as u64 + 1;

@@ -3,7 +3,7 @@ ghost use Rattle.std.specs.Prelude.{ℕ, IfErr, IfOk};
 ghost use Rattle.canvas_model.specs.Good.{HasClaims, IsGood, ShowsOverlays};
 ghost use Rattle.canvas_model.specs.Laws.{HasNoCycle, KeepsAcknowledged, NodesAgree};
 ghost use Rattle.canvas_script.specs.Reading.{IsBadScriptLine};
-ghost use Rattle.canvas_script.specs.Results.{IsErrorOf, IsLeft, IsWorldOf, IsWorldReport};
+ghost use Rattle.canvas_script.specs.Results.{IsErrorOf, LeavesPrinted, IsWorldOf, IsWorldReport};
 ghost use Rattle.canvas_world.specs.Synced.{KeepsAllSynced};
 ghost use Rattle.canvas_world.specs.Trees.{NodesShowOneTree};
 
@@ -74,7 +74,7 @@ pub fn world_run(alloc: Global, input: &[u8], out: &mut Vec<u8>) -> Result<World
     ensures kept { IfOk result KeepsAcknowledged }
     ensures synced { IfOk result KeepsAllSynced }
     ensures error { IfErr result (IsErrorOf input.now) }
-    ensures left { IfErr result (IsLeft input.now out.old.items out.new.items) }
+    ensures left { IfErr result (LeavesPrinted input.now out.old.items out.new.items) }
     ensures readable { IfOk result (λ _. (n : ℕ) → IsBadScriptLine input.now n → ⊥) }
 {
     every_run();

@@ -1,7 +1,7 @@
 // What the lines of a script say, with nodes by their names.
 ghost use Rattle.std.specs.Prelude.{◌≡◌, IfErr, IfNone, IfOk, IfSome};
 ghost use Rattle.canvas_lines.specs.Errors.{IsLineError};
-ghost use Rattle.canvas_script.specs.Lines.{SpellsHead, SpellsLine, SpellsLong, SpellsRest, SpellsWhole, seen_said};
+ghost use Rattle.canvas_script.specs.Lines.{SpellsFirstWord, SpellsLine, SpellsLong, SpellsAfterWord, SpellsWhole, seen_said};
 
 use crate::words::{read_count, read_node};
 use canvas_client::EditRequest;
@@ -97,8 +97,8 @@ fn read_long(alloc: Global, line: &[u8]) -> Result<Said<'_>, LineError>
 
 // The first word that is spelled so.
 fn read_head(word: &[u8]) -> Result<Head, LineError>
-    ensures ok { IfOk result (SpellsHead word.now) }
-    ensures err { IfErr result (IsLineError (SpellsHead word.now)) }
+    ensures ok { IfOk result (SpellsFirstWord word.now) }
+    ensures err { IfErr result (IsLineError (SpellsFirstWord word.now)) }
 {
     match word {
         b"take" => Ok(Head::Counted(Counted::Take)),
@@ -117,8 +117,8 @@ fn read_head(word: &[u8]) -> Result<Head, LineError>
 
 // What follows the first word.
 fn read_rest(alloc: Global, head: Head, rest: &[u8]) -> Result<Said<'_>, LineError>
-    ensures ok { IfOk result (λ said. SpellsRest head rest.now (seen_said said)) }
-    ensures err { IfErr result (IsLineError (SpellsRest head rest.now)) }
+    ensures ok { IfOk result (λ said. SpellsAfterWord head rest.now (seen_said said)) }
+    ensures err { IfErr result (IsLineError (SpellsAfterWord head rest.now)) }
 {
     match head {
         Head::Counted(word) => read_counted(word, rest),
@@ -131,8 +131,8 @@ fn read_rest(alloc: Global, head: Head, rest: &[u8]) -> Result<Said<'_>, LineErr
 
 // A number.
 fn read_counted(word: Counted, rest: &[u8]) -> Result<Said<'_>, LineError>
-    ensures ok { IfOk result (λ said. SpellsRest (Head.Counted word) rest.now (seen_said said)) }
-    ensures err { IfErr result (IsLineError (SpellsRest (Head.Counted word) rest.now)) }
+    ensures ok { IfOk result (λ said. SpellsAfterWord (Head.Counted word) rest.now (seen_said said)) }
+    ensures err { IfErr result (IsLineError (SpellsAfterWord (Head.Counted word) rest.now)) }
 {
     let count = read_count(rest)?;
     Ok(Said::Counted(word, count))
@@ -140,8 +140,8 @@ fn read_counted(word: Counted, rest: &[u8]) -> Result<Said<'_>, LineError>
 
 // A node's name.
 fn read_named(word: Named, rest: &[u8]) -> Result<Said<'_>, LineError>
-    ensures ok { IfOk result (λ said. SpellsRest (Head.Named word) rest.now (seen_said said)) }
-    ensures err { IfErr result (IsLineError (SpellsRest (Head.Named word) rest.now)) }
+    ensures ok { IfOk result (λ said. SpellsAfterWord (Head.Named word) rest.now (seen_said said)) }
+    ensures err { IfErr result (IsLineError (SpellsAfterWord (Head.Named word) rest.now)) }
 {
     let name = read_node(rest)?;
     Ok(Said::Named(word, name))
@@ -149,8 +149,8 @@ fn read_named(word: Named, rest: &[u8]) -> Result<Said<'_>, LineError>
 
 // A node's name and an edit.
 fn read_edit_of(alloc: Global, rest: &[u8]) -> Result<Said<'_>, LineError>
-    ensures ok { IfOk result (λ said. SpellsRest Head.Edit rest.now (seen_said said)) }
-    ensures err { IfErr result (IsLineError (SpellsRest Head.Edit rest.now)) }
+    ensures ok { IfOk result (λ said. SpellsAfterWord Head.Edit rest.now (seen_said said)) }
+    ensures err { IfErr result (IsLineError (SpellsAfterWord Head.Edit rest.now)) }
 {
     let (name, edit) = cut_word(rest)?;
     let name = read_node(name)?;
@@ -160,8 +160,8 @@ fn read_edit_of(alloc: Global, rest: &[u8]) -> Result<Said<'_>, LineError>
 
 // A node's name, and which of its edits.
 fn read_send(rest: &[u8]) -> Result<Said<'_>, LineError>
-    ensures ok { IfOk result (λ said. SpellsRest Head.Send rest.now (seen_said said)) }
-    ensures err { IfErr result (IsLineError (SpellsRest Head.Send rest.now)) }
+    ensures ok { IfOk result (λ said. SpellsAfterWord Head.Send rest.now (seen_said said)) }
+    ensures err { IfErr result (IsLineError (SpellsAfterWord Head.Send rest.now)) }
 {
     let (name, place) = cut_word(rest)?;
     let name = read_node(name)?;
@@ -171,8 +171,8 @@ fn read_send(rest: &[u8]) -> Result<Said<'_>, LineError>
 
 // The number of an entry, and a node's name.
 fn read_tell(rest: &[u8]) -> Result<Said<'_>, LineError>
-    ensures ok { IfOk result (λ said. SpellsRest Head.Tell rest.now (seen_said said)) }
-    ensures err { IfErr result (IsLineError (SpellsRest Head.Tell rest.now)) }
+    ensures ok { IfOk result (λ said. SpellsAfterWord Head.Tell rest.now (seen_said said)) }
+    ensures err { IfErr result (IsLineError (SpellsAfterWord Head.Tell rest.now)) }
 {
     let (version, name) = cut_word(rest)?;
     let version = read_count(version)?;

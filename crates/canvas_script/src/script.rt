@@ -5,8 +5,8 @@ ghost use Rattle.canvas_lines.specs.Lines.{lines_of};
 ghost use Rattle.canvas_script.specs.Asked.{AddsAsked, NamesNode, entering};
 ghost use Rattle.canvas_script.specs.Asked as asked;
 ghost use Rattle.canvas_script.specs.Lines.{seen_said};
-ghost use Rattle.canvas_script.specs.Names.{IsNodeName, IsNumber, used};
-ghost use Rattle.canvas_script.specs.Reading.{InputSays, IsBadScriptLine, IsRead, IsUnread, IsWorld, LinesSay, NoneIsBad, OneIsBad};
+ghost use Rattle.canvas_script.specs.Names.{IsNodeName, IsNumber, names_after_use};
+ghost use Rattle.canvas_script.specs.Reading.{InputSays, IsBadScriptLine, IsScriptLineRead, IsScriptLineUnread, IsWorld, LinesSay, NoScriptLineIsBad, OneScriptLineIsBad};
 ghost use Rattle.canvas_script.specs.Script.{Happens, seen_item};
 
 use crate::names::Names;
@@ -103,9 +103,9 @@ fn read_line(
     items: &mut Vec<Item>,
 ) -> Result<(), LineError>
     ensures ok { OnOk result
-        (IsRead started line.now names.old (map seen_item items.old.items) names.new (map seen_item items.new.items)) }
+        (IsScriptLineRead started line.now names.old (map seen_item items.old.items) names.new (map seen_item items.new.items)) }
     ensures err { IfErr result (λ e. e ≡ LineError.Unreadable
-        → IsUnread started line.now × (names.new ≡ names.old) × (items.new.items ≡ items.old.items)) }
+        → IsScriptLineUnread started line.now × (names.new ≡ names.old) × (items.new.items ≡ items.old.items)) }
 {
     if started {
         let said = read_said(alloc, line)?;
@@ -168,7 +168,7 @@ fn add_event(variant: EventVariant, items: &mut Vec<Item>) -> Result<(), AllocEr
 fn enter(name: &[u8], names: &mut Names, items: &mut Vec<Item>) -> Result<u64, AllocError>
     requires { IsNodeName name.now }
     ensures number { IfOk result (IsNumber names.new name.now) }
-    ensures used { OnOk result (names.new ≡ used names.old name.now) }
+    ensures used { OnOk result (names.new ≡ names_after_use names.old name.now) }
     ensures items { OnOk result (map seen_item items.new.items
         ≡ map seen_item items.old.items ++ entering names.old name.now) }
 {
@@ -217,6 +217,6 @@ fn asked_named(word: Named, k: u64) -> Item
 /// An input that says something has no bad line, and none has two. It does nothing when it runs:
 /// call it where a proof needs the laws.
 pub fn one_bad_script_line()
-    ensures none { NoneIsBad }
-    ensures one { OneIsBad }
+    ensures none { NoScriptLineIsBad }
+    ensures one { OneScriptLineIsBad }
 {}

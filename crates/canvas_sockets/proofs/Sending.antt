@@ -10,7 +10,7 @@ use Rattle.tungstenite.specs.declared.error.Error.{Error}
 use Rattle.tungstenite.specs.declared.error.Error.TheVariants.{OutOfMemory, WriteBufferFull}
 use Rattle.canvas_model.specs.Messages.{Message}
 use Rattle.canvas_sockets.specs.Served.{WritesEach, SendsAnswer, Handles, Turns, GoesThrough, RefusesText, StopsAnswer, StopsHandling, StopsWriting}
-use Rattle.canvas_nodes.specs.Answers.{AreTexts, Replies}
+use Rattle.canvas_nodes.specs.Answers.{AreMessageTexts, Replies}
 
 module _ {S : Type 0} (contents : S → Option (List ℕ)) where
   pub wrote_one : (old mid new : Socket S) (ts : List (List ℕ)) (t : List ℕ) (content : Content) → WritesEach contents old ts mid → content ≡ binary t → Writes contents mid new (write_step mid.conn content) → WritesEach contents old (ts ++ t ∷ []) new
@@ -29,7 +29,7 @@ module _ {S : Type 0} (contents : S → Option (List ℕ)) where
       more = take_more whole i v within ∙ ap (λ (x : V). take i whole ++ x ∷ []) (sym at)
 
   -- one text alone that was sent
-  pub sends_one : (old mid new : Socket S) (t : List ℕ) (answer : List Message) → AreTexts (t ∷ []) answer → Writes contents old mid (write_step old.conn (binary t))
+  pub sends_one : (old mid new : Socket S) (t : List ℕ) (answer : List Message) → AreMessageTexts (t ∷ []) answer → Writes contents old mid (write_step old.conn (binary t))
       → Flushed contents mid new → new.output ≡ [] → SendsAnswer contents old answer new
   sends_one old mid new t answer are wrote flushed empty = (t ∷ [], are, (mid, (mid, wrote, refl), (flushed, empty)))
 
@@ -56,11 +56,11 @@ module _ {S : Type 0} (contents : S → Option (List ℕ)) where
       parts = sym (append_assoc (take i whole) (v ∷ []) (drop (i + 1) whole)) ∙ ap (λ (l : List V). l ++ drop (i + 1) whole) (sym more) ∙ take-append-drop (i + 1) whole
 
   -- one text alone that didn't join the output
-  pub refuses_one : (old new : Socket S) (t : List ℕ) (answer : List Message) (e : Error) → AreTexts (t ∷ []) answer → RefusesText contents old t e new → StopsAnswer contents old answer e new
+  pub refuses_one : (old new : Socket S) (t : List ℕ) (answer : List Message) (e : Error) → AreMessageTexts (t ∷ []) answer → RefusesText contents old t e new → StopsAnswer contents old answer e new
   refuses_one old new t answer e are refuses = (t ∷ [], are, inl (record { done = []; next = t; rest = []; mid = old; are = refl; wrote = refl; refuses = refuses }))
 
   -- one text alone that didn't leave
-  pub stops_one : (old mid new : Socket S) (t : List ℕ) (answer : List Message) (e : Error) → AreTexts (t ∷ []) answer → Writes contents old mid (write_step old.conn (binary t))
+  pub stops_one : (old mid new : Socket S) (t : List ℕ) (answer : List Message) (e : Error) → AreMessageTexts (t ∷ []) answer → Writes contents old mid (write_step old.conn (binary t))
       → Flushed contents mid new → IsIo e → StopsAnswer contents old answer e new
   stops_one old mid new t answer e are wrote flushed io = (t ∷ [], are, inr (mid, (mid, wrote, refl), flushed, io))
 

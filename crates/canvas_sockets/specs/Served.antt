@@ -9,7 +9,7 @@ use Rattle.tungstenite.specs.declared.error.Error.TheVariants.{OutOfMemory, Writ
 use Rattle.tungstenite.specs.declared.message.Message.{Message as Frame}
 use Rattle.canvas_model.specs.Messages.{Message}
 use Rattle.canvas_judge.specs.declared.message.NoReason.TheVariants.{NotRead}
-use Rattle.canvas_nodes.specs.Answers.{AreTexts, Replies, refused}
+use Rattle.canvas_nodes.specs.Answers.{AreMessageTexts, Replies, refusal_alone}
 
 module _ {S : Type 0} (contents : S → Option (List ℕ)) where
   -- each of these texts joined the output as a binary message, one after the other; some of the output may have left
@@ -22,12 +22,12 @@ module _ {S : Type 0} (contents : S → Option (List ℕ)) where
   Empties old new = Flushed contents old new × (new.output ≡ [])
 
   -- each of these texts joined the output as a binary message, one after the other, and all of it has left
-  abbrev pub SendsEach : Socket S → List (List ℕ) → Socket S → Type 0
-  SendsEach old ts new = (mid : Socket S) × WritesEach old ts mid × Empties mid new
+  abbrev pub SendsEachText : Socket S → List (List ℕ) → Socket S → Type 0
+  SendsEachText old ts new = (mid : Socket S) × WritesEach old ts mid × Empties mid new
 
   -- the texts of these messages have left
   abbrev pub SendsAnswer : Socket S → List Message → Socket S → Type 0
-  SendsAnswer old answer new = (ts : List (List ℕ)) × AreTexts ts answer × SendsEach old ts new
+  SendsAnswer old answer new = (ts : List (List ℕ)) × AreMessageTexts ts answer × SendsEachText old ts new
 
   -- a text didn't leave as a binary message: nothing has changed where the output was full or memory was refused; where the stream failed, the
   -- message joined the output, and some of that may have left
@@ -52,14 +52,14 @@ module _ {S : Type 0} (contents : S → Option (List ℕ)) where
 
   -- the texts of these messages didn't all leave
   abbrev pub StopsAnswer : Socket S → List Message → Error → Socket S → Type 0
-  StopsAnswer old answer e new = (ts : List (List ℕ)) × AreTexts ts answer × StopsSending old ts e new
+  StopsAnswer old answer e new = (ts : List (List ℕ)) × AreMessageTexts ts answer × StopsSending old ts e new
 
 module _ {A S : Type 0} (Gives : A → Message → List Message → A → Type 0) (remaining contents : S → Option (List ℕ)) where
   -- what a frame makes of the answerer and the socket, and whether the connection goes on: a binary message has its reply, a text is refused as
   -- NotRead, a ping and a pong are passed over, and a closing frame ends it
   abbrev pub Handles : Content → Bool → A → Socket S → A → Socket S → Type 0
   Handles (binary bytes) on old before new after = (on ≡ true) × ((answer : List Message) × Replies Gives old bytes answer new × SendsAnswer contents before answer after)
-  Handles (text bytes) on old before new after = (on ≡ true) × (new ≡ old) × SendsAnswer contents before (refused NotRead) after
+  Handles (text bytes) on old before new after = (on ≡ true) × (new ≡ old) × SendsAnswer contents before (refusal_alone NotRead) after
   Handles (ping bytes) on old before new after = (on ≡ true) × (new ≡ old) × (after ≡ before)
   Handles (pong bytes) on old before new after = (on ≡ true) × (new ≡ old) × (after ≡ before)
   Handles (close frame) on old before new after = (on ≡ false) × (new ≡ old) × Empties contents before after
@@ -82,7 +82,7 @@ module _ {A S : Type 0} (Gives : A → Message → List Message → A → Type 0
   -- a frame wasn't handled to its end: the answer to a message didn't leave whole, or what waited didn't leave before a closing frame
   abbrev pub StopsHandling : Content → Error → A → Socket S → A → Socket S → Type 0
   StopsHandling (binary bytes) e old before new after = (answer : List Message) × Replies Gives old bytes answer new × StopsAnswer contents before answer e after
-  StopsHandling (text bytes) e old before new after = (new ≡ old) × StopsAnswer contents before (refused NotRead) e after
+  StopsHandling (text bytes) e old before new after = (new ≡ old) × StopsAnswer contents before (refusal_alone NotRead) e after
   StopsHandling (ping bytes) e old before new after = ⊥
   StopsHandling (pong bytes) e old before new after = ⊥
   StopsHandling (close frame) e old before new after = (new ≡ old) × Flushed contents before after × IsIo e

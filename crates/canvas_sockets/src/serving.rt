@@ -4,8 +4,8 @@ ghost use Rattle.tungstenite.specs.Connection.{write_step};
 ghost use Rattle.tungstenite.specs.Content.{binary};
 ghost use Rattle.tungstenite.specs.Socket.{Writes, content_of};
 ghost use Rattle.canvas_model.specs.Messages as messages;
-ghost use Rattle.canvas_nodes.specs.Answers.{Replies, refused};
-ghost use Rattle.canvas_sockets.specs.Served.{Handles, RefusesText, SendsAnswer, SendsEach, Serves, StopsAnswer, StopsHandling, StopsSending, StopsServing, StopsTurn, StopsWriting, Turns, WritesEach};
+ghost use Rattle.canvas_nodes.specs.Answers.{Replies, refusal_alone};
+ghost use Rattle.canvas_sockets.specs.Served.{Handles, RefusesText, SendsAnswer, SendsEachText, Serves, StopsAnswer, StopsHandling, StopsSending, StopsServing, StopsTurn, StopsWriting, Turns, WritesEach};
 
 use canvas_judge::NoReason;
 use canvas_nodes::{Answerer, answered, no_text};
@@ -104,8 +104,8 @@ fn refuse<S: Read + Write + Drop>(
     socket: &mut WebSocket<S, NoMask>,
     reason: NoReason,
 ) -> Result<(), Error>
-    ensures sends { OnOk result (SendsAnswer S.contents socket.old (refused reason) socket.new) }
-    ensures stops { IfErr result (λ e. StopsAnswer S.contents socket.old (refused reason) e socket.new) }
+    ensures sends { OnOk result (SendsAnswer S.contents socket.old (refusal_alone reason) socket.new) }
+    ensures stops { IfErr result (λ e. StopsAnswer S.contents socket.old (refusal_alone reason) e socket.new) }
 {
     write_text(alloc, socket, no_text(reason))?;
     socket.flush()
@@ -117,7 +117,7 @@ fn send_each<S: Read + Write + Drop>(
     socket: &mut WebSocket<S, NoMask>,
     texts: Vec<Vec<u8>>,
 ) -> Result<(), Error>
-    ensures sends { OnOk result (SendsEach S.contents socket.old (map (λ text. text.items) texts.items) socket.new) }
+    ensures sends { OnOk result (SendsEachText S.contents socket.old (map (λ text. text.items) texts.items) socket.new) }
     ensures stops { IfErr result (λ e. StopsSending S.contents socket.old (map (λ text. text.items) texts.items) e socket.new) }
 {
     write_each(alloc, socket, &texts)?;

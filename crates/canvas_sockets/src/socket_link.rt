@@ -1,7 +1,7 @@
 // A client's side of a connection.
 ghost use Rattle.std.specs.Prelude.{◌↔◌, IfOk, IsTrue, map};
 ghost use Rattle.canvas_judge.specs.Seen.{seen_message};
-ghost use Rattle.canvas_nodes.specs.Answers.{AreDecoded, Extends, IsDecoded, IsDecodedAnswer, IsEnd};
+ghost use Rattle.canvas_nodes.specs.Answers.{AreDecoded, Extends, IsDecoded, IsDecodedAnswer, EndsAnswer};
 
 use canvas_judge::Message;
 use canvas_nodes::{Link, LinkError};
@@ -123,7 +123,7 @@ impl<S: Read + Write + Drop, K: MaskKeys + Drop> Link for SocketLink<S, K> {
 
 // Checks whether the message ends an answer.
 fn is_end(message: &Message) -> bool
-    ensures { IsTrue result ↔ IsEnd (seen_message message.now) }
+    ensures { IsTrue result ↔ EndsAnswer (seen_message message.now) }
 {
     match message {
         Message::Welcome(_) | Message::Idle | Message::No(_) => true,

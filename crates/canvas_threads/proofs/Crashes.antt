@@ -14,15 +14,15 @@ use Rattle.canvas_shelf.specs.Disk.{Content}
 use Rattle.canvas_journal.specs.Meaning.{Versioned}
 use Rattle.canvas_board.specs.Marks.{Opening}
 use Rattle.canvas_desk.specs.Crashes.{EachRunKeepsSeen}
-use Rattle.canvas_threads.specs.Follows.{Follows}
+use Rattle.canvas_threads.specs.Follows.{FollowsLog}
 use Rattle.canvas_threads.specs.Histories.{log_of}
-use Rattle.canvas_threads.specs.Exchanges.{HasHeadline, StandsOnce}
+use Rattle.canvas_threads.specs.Exchanges.{HasHeadline, IsOnceInLog}
 use Rattle.canvas_threads.specs.Laws.{EachAcknowledgedIsFound, NewRoomOpens}
 use Rattle.canvas_threads.proofs.Histories.{Longer, follows_longer, records, same_at, seen_longer}
 use Rattle.canvas_threads.proofs.Headlines.{headline, one_version}
 
-module _ (log new : List Entry) (longer : Longer log new) (legal : IsLegal opening new) (c : ℕ) (edits : List Change) (client : Client) (f : Follows log c edits client) where
-  once_longer : (i : ℕ) → StandsOnce log c i client.version edits → StandsOnce new c i client.version edits
+module _ (log new : List Entry) (longer : Longer log new) (legal : IsLegal opening new) (c : ℕ) (edits : List Change) (client : Client) (f : FollowsLog log c edits client) where
+  once_longer : (i : ℕ) → IsOnceInLog log c i client.version edits → IsOnceInLog new c i client.version edits
   once_longer i s =
       let here : nth new s.version ≡ Some s.entry = ap (λ (l : List Entry). nth l s.version) longer.is ∙ nth-append log longer.more s.version s.entry s.stands in
       record {
@@ -62,6 +62,6 @@ each_acknowledged_found o honest moment left_since finds keeps kept start d call
       opens = record { legal = after.legal; state = after.state; version = after.version };
       follows = record {
         legal = tt;
-        follows = subst (λ (l : List Entry). Follows l c edits client) (sym (append-nil (log_of past found.0))) (follows_longer (log_of past seen) (log_of past found.0) c edits client longer f.follows);
+        follows = subst (λ (l : List Entry). FollowsLog l c edits client) (sym (append-nil (log_of past found.0))) (follows_longer (log_of past seen) (log_of past found.0) c edits client longer f.follows);
       };
     }

@@ -11,7 +11,7 @@ use Rattle.canvas_model.specs.Messages.{Message, Ask, Idle}
 use Rattle.canvas_model.specs.Laws.{EachEntryStands, EachVersionIsSound}
 use Rattle.canvas_model.proofs.Log.{done_mono, take_all}
 use Rattle.canvas_client.specs.Follow.{EachVerdictLeavesRoot}
-use Rattle.canvas_board.specs.Marks.{IsLegal, Mark, Opening, board}
+use Rattle.canvas_board.specs.Marks.{IsLegalHistory, Mark, Opening, board}
 use Rattle.canvas_nodes.specs.declared.link.LinkError.{LinkError}
 use Rattle.canvas_nodes.specs.Hears.{BreaksAtEdit, BreaksCatching, BreaksOff, CatchesUp, Climbs, Exchanges, HearsEach, HearsNews, SendsAll, SendsEach, SendsEdit}
 use Rattle.room_handler.specs.News.{news_of}
@@ -40,7 +40,7 @@ module _ (sound : EachVersionIsSound) (stands_after : EachEntryStands) (leaves :
   first_at : (before after : List Mark) → SeesOn o before after → AreFirstOf c edits (log_of past after) → AreFirstOf c edits (log_of past before)
   first_at before after sees all = first_before (log_of past before) (log_of past after) c edits (seen_longer o past before after sees) all
 
-  more_judged : (before after : List Mark) → 0 < c → IsLegal o after → SeesOn o before after → judged_at before ≤ judged_at after
+  more_judged : (before after : List Mark) → 0 < c → IsLegalHistory o after → SeesOn o before after → judged_at before ≤ judged_at after
   more_judged before after given legal sees = done_longer (log_of past before) (log_of past after) c given (legal_at sound stands_after leaves o past opens c edits after legal) (seen_longer o past before after sees)
 
   -- what is acknowledged is judged

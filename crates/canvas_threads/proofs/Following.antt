@@ -14,7 +14,7 @@ use Rattle.canvas_model.proofs.Lists.{nth-append, nth_some}
 use Rattle.canvas_client.specs.Asked.{HasMade, IsRefusal, refusal}
 use Rattle.canvas_client.specs.declared.error.EditError.{EditError}
 use Rattle.canvas_client.specs.declared.error.EditError.TheVariants as error
-use Rattle.canvas_board.specs.Marks.{IsLegal, Mark, Opening}
+use Rattle.canvas_board.specs.Marks.{IsLegalHistory, Mark, Opening}
 use Rattle.canvas_nodes.specs.GoesOn.{GoesOn}
 use Rattle.room_handler.specs.Table.{SeesOn}
 use Rattle.canvas_threads.specs.Follows.{AreFirstOf}
@@ -23,7 +23,7 @@ use Rattle.canvas_threads.specs.Exchanges.{CatchesUpAt, JoinsAt, KeepsFollowing}
 use Rattle.canvas_threads.specs.Laws.{EachEditIsFollowed}
 use Rattle.canvas_threads.proofs.Histories.{first_before, records, seen_legal, seen_longer}
 use Rattle.canvas_threads.proofs.Nexts.{all_first}
-use Rattle.canvas_threads.specs.Worked.{AreMadeOf, HasWorked, IsMadeOf, IsRefused}
+use Rattle.canvas_threads.specs.Worked.{AreMadeOf, HasWorked, IsMadeOf, IsRefusedByClient}
 use Rattle.canvas_threads.specs.Shown.{Ends, FollowsRoom, HasFollowed, ShowsPlan, ShowsTheRoom}
 
 -- a request more, of which a change was made
@@ -35,7 +35,7 @@ made_more (r ∷ requests) (x ∷ changes) request change made (inl are) = inl (
 made_more (r ∷ requests) (x ∷ changes) request change made (inr are) = inr (are.0, made_more requests (x ∷ changes) request change made are.1)
 
 -- a request more, which was refused
-refused_more : (requests : List EditRequest) (changes : List Change) (request : EditRequest) → IsRefused request → AreMadeOf requests changes → AreMadeOf (requests ++ request ∷ []) changes
+refused_more : (requests : List EditRequest) (changes : List Change) (request : EditRequest) → IsRefusedByClient request → AreMadeOf requests changes → AreMadeOf (requests ++ request ∷ []) changes
 refused_more [] [] request refused are = (refused, tt)
 refused_more [] (x ∷ changes) request refused are = absurd are
 refused_more (r ∷ requests) [] request refused are = (are.0, refused_more requests [] request refused are.1)
@@ -84,7 +84,7 @@ still_joined old new some g = by_id old.id refl some
     by_id (Some d) at s = subst (λ (i : Option ℕ). IsSome i) (sym (g.same_id d at)) refl
 
 -- a new client that has joined
-pub joined_follows : (o : Opening) (before after : List Mark) (old new : Client) → old ≡ new_client → GoesOn old new → IsSome new.id → IsLegal o after → JoinsAt o before new after → FollowsRoom o [] after new
+pub joined_follows : (o : Opening) (before after : List Mark) (old new : Client) → old ≡ new_client → GoesOn old new → IsSome new.id → IsLegalHistory o after → JoinsAt o before new after → FollowsRoom o [] after new
 joined_follows o before after old new is g some legal joins = record {
   joined = some;
   edits = [];
@@ -114,7 +114,7 @@ edit_follows law o requests seen old new request made f = record {
       let g = f.follows past opens c (sym same ∙ id) (fewer_first c f.edits (made.0 ∷ []) (log_of past seen) first) in
       record {
         legal = f.legal;
-        follows = subst (λ (x : Client). Rattle.canvas_threads.specs.Follows.Follows (log_of past seen) c (f.edits ++ made.0 ∷ []) x) (sym made.2)
+        follows = subst (λ (x : Client). Rattle.canvas_threads.specs.Follows.FollowsLog (log_of past seen) c (f.edits ++ made.0 ∷ []) x) (sym made.2)
             (law (log_of past seen) (records o past opens seen f.legal).legal c f.edits old g.follows request made.0 made.1);
       };
 }
@@ -123,7 +123,7 @@ edit_follows law o requests seen old new request made f = record {
     same = ap (λ (x : Client). x.id) made.2
 
 -- or has refused one
-pub refused_follows : (o : Opening) (requests : List EditRequest) (seen : List Mark) (old new : Client) (request : EditRequest) → IsRefused request → new ≡ old → FollowsRoom o requests seen old → FollowsRoom o (requests ++ request ∷ []) seen new
+pub refused_follows : (o : Opening) (requests : List EditRequest) (seen : List Mark) (old new : Client) (request : EditRequest) → IsRefusedByClient request → new ≡ old → FollowsRoom o requests seen old → FollowsRoom o (requests ++ request ∷ []) seen new
 refused_follows o requests seen old new request refused same f =
     subst (FollowsRoom o (requests ++ request ∷ []) seen) (sym same)
     (record { joined = f.joined; edits = f.edits; made = refused_more requests f.edits request refused f.made; count = f.count; legal = f.legal; follows = f.follows })
@@ -179,7 +179,7 @@ list_shows o edits requests client asked s = by_id client.id refl s.joined
     by_id (Some c) at some = subst (λ (rs : List EditRequest). ShowsTheRoom o rs client) (asked c at) s
 
 -- an edit that isn't made is refused, where it isn't for want of memory
-pub refused_so : (client : Client) (request : EditRequest) (e : EditError) → (e ≡ error.Memory → ⊥) → IsRefusal client request (refusal e) → IsRefused request
+pub refused_so : (client : Client) (request : EditRequest) (e : EditError) → (e ≡ error.Memory → ⊥) → IsRefusal client request (refusal e) → IsRefusedByClient request
 refused_so client request error.NotOpen other is = (client, local.NotOpen, is)
 refused_so client request error.IsRoot other is = (client, local.IsRoot, is)
 refused_so client request error.NotShown other is = (client, local.NotShown, is)

@@ -13,8 +13,8 @@ use Rattle.canvas_model.specs.Receive.{IsEdit}
 use Rattle.canvas_model.proofs.Lists.{nth-take_inv}
 use Rattle.canvas_model.proofs.Log.{done_opening, find_number, fits-take, number_once}
 use Rattle.canvas_model.proofs.Tests.{one_less}
-use Rattle.canvas_threads.specs.Follows.{AreFirstOf, Follows}
-use Rattle.canvas_threads.specs.Exchanges.{HasHeadline, StandsOnce}
+use Rattle.canvas_threads.specs.Follows.{AreFirstOf, FollowsLog}
+use Rattle.canvas_threads.specs.Exchanges.{HasHeadline, IsOnceInLog}
 
 module _ (log : List Entry) (legal : IsLegal opening log) (c : ℕ) (given : 0 < c) where
   -- two entries of the id with one number are one
@@ -32,7 +32,7 @@ module _ (log : List Entry) (legal : IsLegal opening log) (c : ℕ) (given : 0 <
       by (no apart) = absurd (either (one_less u v apart))
 
   -- an edit that was acknowledged stands in the log once
-  stands_once : (edits : List Change) (all : AreFirstOf c edits log) (client : Client) → Follows log c edits client → (i : ℕ) → 0 < i → i ≤ client.acknowledged → StandsOnce log c i client.version edits
+  stands_once : (edits : List Change) (all : AreFirstOf c edits log) (client : Client) → FollowsLog log c edits client → (i : ℕ) → 0 < i → i ≤ client.acknowledged → IsOnceInLog log c i client.version edits
   stands_once edits all client f i some low =
       let none = done_opening c in
       let count = f.acknowledged in
@@ -49,10 +49,10 @@ module _ (log : List Entry) (legal : IsLegal opening log) (c : ℕ) (given : 0 <
         once = λ u other there mine seq. one_version (suc r.place) u r.entry other here.1 there r.mine mine (r.seq ∙ sym seq);
       }
 
-pub headline : (log : List Entry) → IsLegal opening log → (c : ℕ) (edits : List Change) → AreFirstOf c edits log → (client : Client) → Follows log c edits client → HasHeadline log c edits client
+pub headline : (log : List Entry) → IsLegal opening log → (c : ℕ) (edits : List Change) → AreFirstOf c edits log → (client : Client) → FollowsLog log c edits client → HasHeadline log c edits client
 headline log legal c edits all client f = record { shows = f.stands.shown; stands = stands_once log legal c f.given edits all client f }
 
 -- two clients at one version of a log with nothing waiting show equal documents
-pub agree : (log : List Entry) (b c : ℕ) (made others : List Change) (client other : Client) → Follows log b made client → Follows log c others other → client.version ≡ other.version → client.waiting ≡ [] → other.waiting ≡ [] → client.view ≡ other.view
+pub agree : (log : List Entry) (b c : ℕ) (made others : List Change) (client other : Client) → FollowsLog log b made client → FollowsLog log c others other → client.version ≡ other.version → client.waiting ≡ [] → other.waiting ≡ [] → client.view ≡ other.view
 agree log b c made others client other f g at none no_more =
     f.stands.shown ∙ (λ i. over (at_version log (at i)).doc (none i)) ∙ sym (g.stands.shown ∙ ap (over (at_version log other.version).doc) no_more)

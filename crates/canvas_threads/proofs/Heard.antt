@@ -19,7 +19,7 @@ use Rattle.canvas_client.specs.Follow.{CanFollow, EachVerdictLeavesRoot}
 use Rattle.canvas_nodes.specs.declared.link.LinkError.{LinkError}
 use Rattle.canvas_nodes.specs.Hears.{HearsEach, HearsOne, HearsSome}
 use Rattle.room_handler.specs.News.{copies, news_of, tells, tells_or_copies}
-use Rattle.canvas_threads.specs.Follows.{AreAllOf, AreFirstOf, Follows, IsTrueFor}
+use Rattle.canvas_threads.specs.Follows.{AreAllOf, AreFirstOf, FollowsLog, IsTrueFor}
 use Rattle.canvas_threads.specs.Histories.{AreTrueFor}
 use Rattle.canvas_threads.proofs.Takes.{granted}
 use Rattle.canvas_threads.proofs.Truth.{GoesFurther, as_before, by_message, copy_taken, next_taken}
@@ -39,11 +39,11 @@ module _ (sound : EachVersionIsSound) (stands_after : EachEntryStands) (leaves :
   can_follow (No reason) is = tt
 
   -- one true message more
-  pub heard_one : (old : Client) → Follows log c edits old → (m : Message) → IsTrueFor log c m → (new : Client) → HearsOne old m new → GoesFurther sound stands_after log legal c edits all old new
+  pub heard_one : (old : Client) → FollowsLog log c edits old → (m : Message) → IsTrueFor log c m → (new : Client) → HearsOne old m new → GoesFurther sound stands_after log legal c edits all old new
   heard_one old f m is new h = by_message sound stands_after log legal c edits all old f m is h.answer new (h.follows (can_follow m is))
 
   -- all that it heard was true
-  pub heard_each : (old : Client) → Follows log c edits old → (ms : List Message) → AreTrueFor log c ms → (new : Client) → HearsEach old ms new → GoesFurther sound stands_after log legal c edits all old new
+  pub heard_each : (old : Client) → FollowsLog log c edits old → (ms : List Message) → AreTrueFor log c ms → (new : Client) → HearsEach old ms new → GoesFurther sound stands_after log legal c edits all old new
   heard_each old f [] are new h = as_before sound stands_after log legal c edits all old f new h
   heard_each old f (m ∷ ms) are new h =
       let one = heard_one old f m are.0 h.0 h.1 in
@@ -54,11 +54,11 @@ module _ (sound : EachVersionIsSound) (stands_after : EachEntryStands) (leaves :
   beginning [] rest are = tt
   beginning (m ∷ heard) rest are = (are.0, beginning heard rest are.1)
 
-  pub heard_some : (old : Client) → Follows log c edits old → (ms : List Message) → AreTrueFor log c ms → (e : LinkError) (new : Client) → HearsSome old ms e new → GoesFurther sound stands_after log legal c edits all old new
+  pub heard_some : (old : Client) → FollowsLog log c edits old → (ms : List Message) → AreTrueFor log c ms → (e : LinkError) (new : Client) → HearsSome old ms e new → GoesFurther sound stands_after log legal c edits all old new
   heard_some old f ms are e new h = heard_each old f h.0 (beginning h.0 h.1 (subst (AreTrueFor log c) h.2 are)) new h.3
 
   -- where the news of a board that records the log lead it no further, it has come to the end of the log, where nobody else made an edit under its id
-  pub caught_up : AreAllOf c edits log → (b : Served) → Records b log → (old : Client) → Follows log c edits old → (new : Client) → HearsEach old (news_of b c old.version ++ Idle ∷ []) new → new.version ≤ old.version → old.version ≡ length log
+  pub caught_up : AreAllOf c edits log → (b : Served) → Records b log → (old : Client) → FollowsLog log c edits old → (new : Client) → HearsEach old (news_of b c old.version ++ Idle ∷ []) new → new.version ≤ old.version → old.version ≡ length log
   caught_up alone b r old f new h stays = by (dec_le (length log) old.version)
     where
       -- a copy of a later version is taken

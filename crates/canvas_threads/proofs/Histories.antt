@@ -13,9 +13,9 @@ use Rattle.canvas_model.specs.Good.{IsKnown}
 use Rattle.canvas_model.proofs.Lists.{drop-append, drop-drop, nth-append, take-append}
 use Rattle.canvas_model.proofs.Log.{fits-append, fold-append}
 use Rattle.canvas_server.specs.Served.{Served}
-use Rattle.canvas_board.specs.Marks.{Failed, Floor, IsLegal, LegalFrom, Logged, Mark, MayFollow, Opening, board, board_from, start, step}
+use Rattle.canvas_board.specs.Marks.{Failed, Floor, IsLegalHistory, LegalFrom, Logged, Mark, MarkMayFollow, Opening, board, board_from, start, step}
 use Rattle.room_handler.specs.Table.{SeesOn}
-use Rattle.canvas_threads.specs.Follows.{AreFirstOf, Follows}
+use Rattle.canvas_threads.specs.Follows.{AreFirstOf, FollowsLog}
 use Rattle.canvas_threads.specs.Histories.{OpensAfter, entries_of, log_of}
 
 -- A board that a legal log leads to, of which all is published and the entries after the floor are kept.
@@ -31,7 +31,7 @@ drop_all : (xs : List Entry) → [] ≡ drop (length xs) xs
 drop_all [] = refl
 drop_all (x ∷ xs) = drop_all xs
 
-one_more : (b : Served) (log : List Entry) (e : Entry) → Records b log → MayFollow b (Logged e) → Records (step b (Logged e)) (log ++ e ∷ [])
+one_more : (b : Served) (log : List Entry) (e : Entry) → Records b log → MarkMayFollow b (Logged e) → Records (step b (Logged e)) (log ++ e ∷ [])
 one_more b log e r may = record {
   legal = record {
     fits = fits-append opening log e r.legal.fits (subst (λ (s : State). model.Fits s e) r.state may.0);
@@ -44,7 +44,7 @@ one_more b log e r may = record {
   kept = ap (λ (l : List Entry). l ++ e ∷ []) r.kept ∙ sym (drop-append b.floor log (e ∷ []) (omega (arith, r.low, r.version)));
 }
 
-floored : (b : Served) (log : List Entry) (v : ℕ) → Records b log → MayFollow b (Floor v) → Records (step b (Floor v)) log
+floored : (b : Served) (log : List Entry) (v : ℕ) → Records b log → MarkMayFollow b (Floor v) → Records (step b (Floor v)) log
 floored b log v r may = record {
   legal = r.legal;
   state = r.state;
@@ -61,7 +61,7 @@ records_from b log (Floor v ∷ marks) r l = records_from (step b (Floor v)) log
 records_from b log (Failed ∷ marks) r l = records_from b log marks r l.1
 
 -- the board of a history records its log
-pub records : (o : Opening) (past : List Entry) → OpensAfter o past → (seen : List Mark) → IsLegal o seen → Records (board o seen) (log_of past seen)
+pub records : (o : Opening) (past : List Entry) → OpensAfter o past → (seen : List Mark) → IsLegalHistory o seen → Records (board o seen) (log_of past seen)
 records o past opens seen legal = records_from (start o) past seen (record {
   legal = opens.legal;
   state = opens.state;
@@ -96,8 +96,8 @@ pub seen_longer : (o : Opening) (past : List Entry) (before after : List Mark) �
 seen_longer o past before after (inl same) = subst (λ (x : List Mark). Longer (log_of past before) (log_of past x)) (sym same) (longer_itself (log_of past before))
 seen_longer o past before after (inr sees) = record { more = entries_of sees.0.0; is = ap (log_of past) (sym sees.0.1) ∙ log_append past before sees.0.0 }
 
-pub seen_legal : (o : Opening) (before after : List Mark) → IsLegal o before → SeesOn o before after → IsLegal o after
-seen_legal o before after legal (inl same) = subst (IsLegal o) (sym same) legal
+pub seen_legal : (o : Opening) (before after : List Mark) → IsLegalHistory o before → SeesOn o before after → IsLegalHistory o after
+seen_legal o before after legal (inl same) = subst (IsLegalHistory o) (sym same) legal
 seen_legal o before after legal (inr sees) = sees.1
 
 -- at each version that there was, the state is the same in a longer log
@@ -105,8 +105,8 @@ pub same_at : (log more : List Entry) (v : ℕ) → v ≤ length log → at_vers
 same_at log more v low = ap (fold opening) (take-append log more v low)
 
 -- a client that follows a log follows every longer one
-pub follows_longer : (log new : List Entry) (c : ℕ) (edits : List Change) (client : Client) → Longer log new → Follows log c edits client → Follows new c edits client
-follows_longer log new c edits client longer f = subst (λ (l : List Entry). Follows l c edits client) (sym longer.is) (record {
+pub follows_longer : (log new : List Entry) (c : ℕ) (edits : List Change) (client : Client) → Longer log new → FollowsLog log c edits client → FollowsLog new c edits client
+follows_longer log new c edits client longer f = subst (λ (l : List Entry). FollowsLog l c edits client) (sym longer.is) (record {
   holds = f.holds;
   given = f.given;
   reached = omega (arith, f.reached, length-append log longer.more);

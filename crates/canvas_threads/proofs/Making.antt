@@ -20,7 +20,7 @@ use Rattle.canvas_model.proofs.Making.{live_known, made_id, made_object}
 use Rattle.canvas_model.proofs.Overlay.{CreatedBy, live_over}
 use Rattle.canvas_client.specs.Placed.{BecomesAt, EachPlacedEditStands, MakesAt, NotShown, PlaceRequest, unplaced}
 use Rattle.canvas_client.specs.Placed as placed
-use Rattle.canvas_threads.specs.Follows.{Follows}
+use Rattle.canvas_threads.specs.Follows.{FollowsLog}
 
 -- the object of the change is live in the view, or the change creates it
 abbrev IsShownOrNew : Doc → Change → Type 0
@@ -62,7 +62,7 @@ known_further s edits change i id (inr (inl h)) = inr (inl h)
 known_further s edits change i id (inr (inr h)) = inr (inr (h.0, h.1, (h.2.0, h.2.1, nth-append edits (change ∷ []) h.0 (Create id h.2.0 h.2.1) h.2.2)))
 
 -- the client follows the log after one more change, which is about an object that is shown or new, creates nothing but its own, and leaves it standing
-module _ (sound : EachVersionIsSound) (log : List Entry) (legal : IsLegal opening log) (c : ℕ) (edits : List Change) (client : Client) (f : Follows log c edits client) (change : Change)
+module _ (sound : EachVersionIsSound) (log : List Entry) (legal : IsLegal opening log) (c : ℕ) (edits : List Change) (client : Client) (f : FollowsLog log c edits client) (change : Change)
     (about : IsShownOrNew client.view change) (creates : CreatesAs c change) (stood : StandsBy client change (at_version log client.version).doc) where
   own : (i : ℕ) (id : ObjId) (kind : Kind) (place : Place) → (nth edits i ≡ Some (Create id kind place)) ⊎ ((i ≡ suc (length edits)) × (change ≡ Create id kind place)) → id.client ≡ c
   own i id kind place (inl h) = f.own i id (kind, place, h)
@@ -85,7 +85,7 @@ module _ (sound : EachVersionIsSound) (log : List Entry) (legal : IsLegal openin
   known i other more (inl h) = known_further (at_version log client.version) edits change i (object_of other) (f.known i other more h)
   known i other more (inr h) = subst (λ (x : ℕ × Change). IsKnown (at_version log client.version) (edits ++ change ∷ []) x.0 (object_of x.1)) (λ j. (sym h.0 j, h.1 j)) (new_known about)
 
-  follows_changed : Follows log c (edits ++ change ∷ []) (edited client change)
+  follows_changed : FollowsLog log c (edits ++ change ∷ []) (edited client change)
   follows_changed =
       record {
         holds = f.holds;
@@ -100,19 +100,19 @@ module _ (sound : EachVersionIsSound) (log : List Entry) (legal : IsLegal openin
         known = λ i other more here. known i other more (nth-append_inv edits change i other here);
       }
 
-module _ (sound : EachVersionIsSound) (log : List Entry) (legal : IsLegal opening log) (c : ℕ) (edits : List Change) (client : Client) (f : Follows log c edits client) (change : Change) where
+module _ (sound : EachVersionIsSound) (log : List Entry) (legal : IsLegal opening log) (c : ℕ) (edits : List Change) (client : Client) (f : FollowsLog log c edits client) (change : Change) where
   -- the client's id is the one under which it follows
   id_is : (has : ℕ) → client.id ≡ Some has → has ≡ c
   id_is has is = let both : Some has ≡ Some c = sym is ∙ f.holds in cc
 
-  pub follows_edited : EachEditStands → (request : EditRequest) → Makes client request change → Follows log c (edits ++ change ∷ []) (edited client change)
+  pub follows_edited : EachEditStands → (request : EditRequest) → Makes client request change → FollowsLog log c (edits ++ change ∷ []) (edited client change)
   follows_edited stands_edited request makes =
       follows_changed sound log legal c edits client f change
       (made_about client makes.1 request change makes.3 (λ hidden. makes.0 local.NotShown (inl hidden)))
       (λ id kind place is. (made_id client makes.1 request id kind place (subst (Becomes client makes.1 request) is makes.3)).0 ∙ id_is makes.1 makes.2)
       (stands_edited (at_version log client.version).doc client request change f.owns f.stands makes)
 
-  pub follows_placed : EachPlacedEditStands → (request : PlaceRequest) → MakesAt client request change → Follows log c (edits ++ change ∷ []) (edited client change)
+  pub follows_placed : EachPlacedEditStands → (request : PlaceRequest) → MakesAt client request change → FollowsLog log c (edits ++ change ∷ []) (edited client change)
   follows_placed stands_placed request makes =
       follows_changed sound log legal c edits client f change
       (placed_about client makes.1 request change makes.3 (λ hidden. makes.0 NotShown (inl hidden)))

@@ -24,7 +24,7 @@ use Rattle.canvas_model.proofs.Owned.{own-drop}
 use Rattle.canvas_model.proofs.Deliver.{known_moves}
 use Rattle.canvas_threads.proofs.Edits.{find_about}
 use Rattle.canvas_threads.proofs.Takes.{granted, takes_next}
-use Rattle.canvas_threads.specs.Follows.{AreAllOf, AreFirstOf, Follows}
+use Rattle.canvas_threads.specs.Follows.{AreAllOf, AreFirstOf, FollowsLog}
 
 -- what was asked is an edit of this number
 has_number : (edits : List Change) (what : What) (seq : ℕ) → IsEdit what (nth edits seq) → seq ≤ length edits
@@ -47,7 +47,7 @@ module _ (log : List Entry) (legal : IsLegal opening log) (c : ℕ) (edits : Lis
           omega (arith, low, r.seq)
 
   -- an own entry that comes next is of an edit that waits, where nobody else made one under the id
-  pub all_waits : (client : Client) → Follows log c edits client → (e : Entry) → nth log (suc client.version) ≡ Some e → e.author ≡ c → client.acknowledged < length edits
+  pub all_waits : (client : Client) → FollowsLog log c edits client → (e : Entry) → nth log (suc client.version) ≡ Some e → e.author ≡ c → client.acknowledged < length edits
   all_waits client f e here mine =
       let s = step_at opening log client.version e legal.fits here in
       let count = counted (at_version log client.version) e s.0 c f.given mine in
@@ -61,7 +61,7 @@ all_first c edits log alone v e here mine low = alone v e here mine
 
 module _ (sound : EachVersionIsSound) (stands_after : EachEntryStands) (log : List Entry) (legal : IsLegal opening log) (c : ℕ) (edits : List Change) (all : AreFirstOf c edits log) where
   -- the entry that comes next, where it is the client's own and an edit waits, is its next edit
-  pub own_next : (client : Client) → Follows log c edits client → (e : Entry) → nth log (suc client.version) ≡ Some e → e.author ≡ c → client.acknowledged < length edits → IsNextEdit client e
+  pub own_next : (client : Client) → FollowsLog log c edits client → (e : Entry) → nth log (suc client.version) ≡ Some e → e.author ≡ c → client.acknowledged < length edits → IsNextEdit client e
   own_next client f e here mine low =
       let s = step_at opening log client.version e legal.fits here in
       let count = counted (at_version log client.version) e s.0 c f.given mine in
@@ -72,14 +72,14 @@ module _ (sound : EachVersionIsSound) (stands_after : EachEntryStands) (log : Li
       (omega arith, subst (IsEdit e.what) (ap (nth edits) seq ∙ first) (all (suc client.version) e here mine (omega (arith, seq, low))))
 
   -- where an entry is the client's next edit, one waits
-  pub next_waits : (client : Client) → Follows log c edits client → (e : Entry) → IsNextEdit client e → client.acknowledged < length edits
+  pub next_waits : (client : Client) → FollowsLog log c edits client → (e : Entry) → IsNextEdit client e → client.acknowledged < length edits
   next_waits client f e next =
       let some = has_number client.waiting e.what 1 next.1 in
       let rest = ap length f.waiting ∙ length-drop client.acknowledged edits in
       omega (arith, some, rest)
 
   -- the entry that comes next, where it creates the object of an edit that waits, is the client's own
-  meets_own : (client : Client) → Follows log c edits client → (e : Entry) → nth log (suc client.version) ≡ Some e → MeetsOwn client e
+  meets_own : (client : Client) → FollowsLog log c edits client → (e : Entry) → nth log (suc client.version) ≡ Some e → MeetsOwn client e
   meets_own client f e here id kind ask got what outcome about = own (from_dec (ℕ_discrete e.author c) (λ other. other (author_is known)))
     where
       waits : client.acknowledged < length edits
@@ -121,8 +121,8 @@ module _ (sound : EachVersionIsSound) (stands_after : EachEntryStands) (log : Li
       author_is k = author_by k.0 k.1
 
   -- the client after the entry that comes next follows, whoever made that, where one of its own is of an edit that waits
-  pub after_next : (client : Client) → Follows log c edits client → (e : Entry) → nth log (suc client.version) ≡ Some e → (own : Bool) → is_own c e ≡ own → (own ≡ true → client.acknowledged < length edits)
-      → Follows log c edits (after_entry own client (suc client.version) e)
+  pub after_next : (client : Client) → FollowsLog log c edits client → (e : Entry) → nth log (suc client.version) ≡ Some e → (own : Bool) → is_own c e ≡ own → (own ≡ true → client.acknowledged < length edits)
+      → FollowsLog log c edits (after_entry own client (suc client.version) e)
   after_next client f e here own is waits = by own is waits
     where
       s : Fits (at_version log client.version) e × (at_version log (suc client.version) ≡ effect (at_version log client.version) e)
@@ -143,7 +143,7 @@ module _ (sound : EachVersionIsSound) (stands_after : EachEntryStands) (log : Li
       knows i change more there = known_moves (at_version log client.version) (at_version log (suc client.version)) edits i (object_of change)
           (λ q. used_mono opening log legal.fits q client.version (suc client.version) (omega arith)) (f.known i change more there)
 
-      by : (own : Bool) → is_own c e ≡ own → (own ≡ true → client.acknowledged < length edits) → Follows log c edits (after_entry own client (suc client.version) e)
+      by : (own : Bool) → is_own c e ≡ own → (own ≡ true → client.acknowledged < length edits) → FollowsLog log c edits (after_entry own client (suc client.version) e)
       by true is waits =
           let mine = sym (eq_true c e.author is) in
           let count = counted (at_version log client.version) e s.0 c f.given mine in
@@ -179,7 +179,7 @@ module _ (sound : EachVersionIsSound) (stands_after : EachEntryStands) (log : Li
           }
 
   -- an own entry that comes next is of an edit that waits, where no more edits are judged at a later version than were made
-  next_judged : (client : Client) → Follows log c edits client → (e : Entry) → nth log (suc client.version) ≡ Some e → (v : ℕ) → suc client.version ≤ v → done (at_version log v) c ≤ length edits → is_own c e ≡ true → client.acknowledged < length edits
+  next_judged : (client : Client) → FollowsLog log c edits client → (e : Entry) → nth log (suc client.version) ≡ Some e → (v : ℕ) → suc client.version ≤ v → done (at_version log v) c ≤ length edits → is_own c e ≡ true → client.acknowledged < length edits
   next_judged client f e here v later few own =
       let s = step_at opening log client.version e legal.fits here in
       let count = counted (at_version log client.version) e s.0 c f.given (sym (eq_true c e.author own)) in
@@ -189,8 +189,8 @@ module _ (sound : EachVersionIsSound) (stands_after : EachEntryStands) (log : Li
       omega (arith, now, a, more, few)
 
   -- at each version that the log has reached since, a client follows with the same counter, where no more edits are judged there than were made
-  reach : (k : ℕ) (client : Client) → Follows log c edits client → (v : ℕ) → client.version + k ≡ v → v ≤ length log → done (at_version log v) c ≤ length edits
-      → (later : Client) × Follows log c edits later × (later.version ≡ v) × (later.counter ≡ client.counter)
+  reach : (k : ℕ) (client : Client) → FollowsLog log c edits client → (v : ℕ) → client.version + k ≡ v → v ≤ length log → done (at_version log v) c ≤ length edits
+      → (later : Client) × FollowsLog log c edits later × (later.version ≡ v) × (later.counter ≡ client.counter)
   reach zero client f v at low few = (client, f, omega (arith, at), refl)
   reach (suc k) client f v at low few =
       let x = nth_some log (suc client.version) (omega arith) (omega (arith, at, low)) in
@@ -198,16 +198,16 @@ module _ (sound : EachVersionIsSound) (stands_after : EachEntryStands) (log : Li
       (after_next client f x.0 x.1 (is_own c x.0) refl (λ own. next_judged client f x.0 x.1 v (omega (arith, at)) few own)) v (omega (arith, at)) low few
 
   -- no fewer edits are judged at a later version
-  pub judged_later : (client : Client) → Follows log c edits client → (v : ℕ) → client.version ≤ v → client.acknowledged ≤ done (at_version log v) c
+  pub judged_later : (client : Client) → FollowsLog log c edits client → (v : ℕ) → client.version ≤ v → client.acknowledged ≤ done (at_version log v) c
   judged_later client f v later = let a = f.acknowledged in let m = done_mono opening log legal.fits c f.given client.version v later in omega arith
 
   -- what waits after a copy by which so many were judged
-  rest_later : (client : Client) (n : ℕ) → Follows log c edits client → client.acknowledged ≤ n → staying_past client n ≡ drop n edits
+  rest_later : (client : Client) (n : ℕ) → FollowsLog log c edits client → client.acknowledged ≤ n → staying_past client n ≡ drop n edits
   rest_later client n f more = ap (drop (n - client.acknowledged)) f.waiting ∙ drop-drop client.acknowledged (n - client.acknowledged) edits ∙ ap (λ (k : ℕ). drop k edits) (omega arith)
 
   -- the client after a true copy of a later version, which counts no more edits than were made, follows: it is as it would be by the entries up to there
-  pub after_copied : (client : Client) → Follows log c edits client → (v : ℕ) → client.version ≤ v → v ≤ length log → done (at_version log v) c ≤ length edits
-      → Follows log c edits (after_copy client v (done (at_version log v) c) (at_version log v).doc)
+  pub after_copied : (client : Client) → FollowsLog log c edits client → (v : ℕ) → client.version ≤ v → v ≤ length log → done (at_version log v) c ≤ length edits
+      → FollowsLog log c edits (after_copy client v (done (at_version log v) c) (at_version log v).doc)
   after_copied client f v later low few =
       let r = reach (v - client.version) client f v (omega (arith, later)) low few in
       let g = r.1 in
@@ -219,4 +219,4 @@ module _ (sound : EachVersionIsSound) (stands_after : EachEntryStands) (log : Li
       g.stands.shown ∙ (λ i. over (at_version log (version i)).doc (rest i)) in
       let id = g.holds ∙ sym f.holds in
       let counter = r.3 in
-      subst (Follows log c edits) (λ i. record { id = id i; counter = counter i; version = version i; acknowledged = count i; waiting = rest i; view = view i }) g
+      subst (FollowsLog log c edits) (λ i. record { id = id i; counter = counter i; version = version i; acknowledged = count i; waiting = rest i; view = view i }) g

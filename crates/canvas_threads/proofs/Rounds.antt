@@ -21,14 +21,14 @@ use Rattle.canvas_server.specs.declared.taking.Took.TheVariants as took
 use Rattle.canvas_server.specs.declared.taking.TakeError.{TakeError}
 use Rattle.canvas_server.specs.declared.taking.TakeError.TheVariants as take
 use Rattle.canvas_client.specs.Follow.{EachVerdictLeavesRoot}
-use Rattle.canvas_board.specs.Marks.{IsLegal, Logged, Mark, Opening, board, start}
+use Rattle.canvas_board.specs.Marks.{IsLegalHistory, Logged, Mark, Opening, board, start}
 use Rattle.canvas_board.proofs.Boards.{legal_begin}
 use Rattle.canvas_desk.specs.declared.faults.Refusal.TheVariants.{Stranger, Repeat, Gap, Full}
 use Rattle.canvas_desk.specs.declared.faults.SubmitError.{SubmitError}
 use Rattle.canvas_desk.specs.declared.faults.SubmitError.TheVariants.{Refused, NotKept, Owed}
-use Rattle.canvas_room.specs.Seats.{IsRefused}
+use Rattle.canvas_room.specs.Seats.{IsRefusedSince}
 use Rattle.canvas_nodes.specs.declared.link.LinkError.{LinkError}
-use Rattle.canvas_nodes.specs.Answers.{IsEnd}
+use Rattle.canvas_nodes.specs.Answers.{EndsAnswer}
 use Rattle.canvas_nodes.specs.Hears.{Breaks, Hears, HearsOfEdit}
 use Rattle.room_handler.specs.News.{news_of}
 use Rattle.room_handler.specs.Table.{AnswersAsk, AnswersRequest, IsSince, SaysOf, answer_of}
@@ -110,7 +110,7 @@ stands_judged log legal c k e given here mine =
 
 module _ (sound : EachVersionIsSound) (stands_after : EachEntryStands) (leaves : EachVerdictLeavesRoot) (o : Opening) (past : List Entry) (opens : OpensAfter o past) (c : ℕ) (edits : List Change) where
   -- the log at what was seen is legal
-  pub legal_at : (seen : List Mark) → IsLegal o seen → model.IsLegal opening (log_of past seen)
+  pub legal_at : (seen : List Mark) → IsLegalHistory o seen → model.IsLegal opening (log_of past seen)
   legal_at seen legal = (records o past opens seen legal).legal
 
   -- what a client of this id asks
@@ -118,7 +118,7 @@ module _ (sound : EachVersionIsSound) (stands_after : EachEntryStands) (leaves :
   IsAskedBy (messages.Ask d v) = d ≡ c
   IsAskedBy m = Unit {0}
 
-  end_true : (log : List Entry) (m : Message) → IsEnd m → IsTrueFor log c m
+  end_true : (log : List Entry) (m : Message) → EndsAnswer m → IsTrueFor log c m
   end_true log (Welcome n) ends = tt
   end_true log Idle ends = tt
   end_true log (No reason) ends = tt
@@ -131,14 +131,14 @@ module _ (sound : EachVersionIsSound) (stands_after : EachEntryStands) (leaves :
   request_true : (q : Asked) (before : List Mark) (answer : List Message) (after : List Mark) → AnswersRequest o q before answer after → AreTrueFor (log_of past after) c answer
   request_true q before answer after h = subst (AreTrueFor (log_of past after) c) (sym h.1) (end_true (log_of past after) h.0 (says_ends o q before h.0 after h.2), tt)
 
-  ask_true : (d v : ℕ) (before : List Mark) (answer : List Message) (after : List Mark) → d ≡ c → IsLegal o after → AnswersAsk (board o after) d v answer → (IsNo answer → ⊥) → AreTrueFor (log_of past after) c answer
+  ask_true : (d v : ℕ) (before : List Mark) (answer : List Message) (after : List Mark) → d ≡ c → IsLegalHistory o after → AnswersAsk (board o after) d v answer → (IsNo answer → ⊥) → AreTrueFor (log_of past after) c answer
   ask_true d v before answer after mine legal (inl t) granted =
       subst (AreTrueFor (log_of past after) c) (sym t.1)
       (subst (λ (x : ℕ). AreTrueFor (log_of past after) c (news_of (board o after) x v ++ Idle ∷ [])) (sym mine) (news_true (board o after) (log_of past after) (records o past opens after legal) c v))
   ask_true d v before answer after mine legal (inr t) granted = absurd (granted (subst IsNo (sym t.1) tt))
 
   -- what is granted is true of what the seat has seen then
-  answer_true : (asked : Message) (before : List Mark) (answer : List Message) (after : List Mark) → IsAskedBy asked → IsLegal o after → Grants o before asked answer after → AreTrueFor (log_of past after) c answer
+  answer_true : (asked : Message) (before : List Mark) (answer : List Message) (after : List Mark) → IsAskedBy asked → IsLegalHistory o after → Grants o before asked answer after → AreTrueFor (log_of past after) c answer
   answer_true messages.Join before answer after mine legal g = request_true _ before answer after g.0.1
   answer_true (messages.Edit n seq change) before answer after mine legal g = request_true _ before answer after g.0.1
   answer_true (messages.Ask d v) before answer after mine legal g = ask_true d v before answer after mine legal g.0.1 g.1
@@ -173,18 +173,18 @@ module _ (sound : EachVersionIsSound) (stands_after : EachEntryStands) (leaves :
       let g = heard_some sound stands_after leaves (log_of past after) (legal_at after on.legal) c edits all old on.follows h.0 (answer_true asked before h.0 after mine on.legal h.1) e new h.2 in
       record { legal = on.legal; follows = g.0 }
 
-  since_judged : (before after : List Mark) (e : Entry) → 0 < c → IsLegal o after → IsSince before after e → e.author ≡ c → e.seq ≤ done (fold opening (log_of past after)) c
+  since_judged : (before after : List Mark) (e : Entry) → 0 < c → IsLegalHistory o after → IsSince before after e → e.author ≡ c → e.seq ≤ done (fold opening (log_of past after)) c
   since_judged before after e given legal since mine =
       let there = since_there past before after e since in
       stands_judged (log_of past after) (legal_at after legal) c there.0 e given there.1 mine
 
   -- an edit that is answered with no No is judged by what the seat has seen then
-  module _ (number : ℕ) (change : Change) (before after : List Mark) (given : 0 < c) (legal : IsLegal o after) where
-    refused : (m : Message) (e : SubmitError) → IsRefused o before after (record { author = c; seq = number; what = Edit change }) e → m ≡ answer_of e → (IsNo (m ∷ []) → ⊥) → number ≤ done (fold opening (log_of past after)) c
+  module _ (number : ℕ) (change : Change) (before after : List Mark) (given : 0 < c) (legal : IsLegalHistory o after) where
+    refused : (m : Message) (e : SubmitError) → IsRefusedSince o before after (record { author = c; seq = number; what = Edit change }) e → m ≡ answer_of e → (IsNo (m ∷ []) → ⊥) → number ≤ done (fold opening (log_of past after)) c
     refused m (Refused Stranger) judged told granted = absurd (granted (subst (λ (x : Message). IsNo (x ∷ [])) (sym told) tt))
     refused m (Refused (Repeat d)) judged told granted =
         let low = repeat_done (board o judged.at) (record { author = c; seq = number; what = Edit change }) change d judged.refuses in
-        let legal' : IsLegal o judged.at = legal_begin (start o) judged.at judged.to.0 (subst (IsLegal o) (sym judged.to.1) legal) in
+        let legal' : IsLegalHistory o judged.at = legal_begin (start o) judged.at judged.to.0 (subst (IsLegalHistory o) (sym judged.to.1) legal) in
         let state = ap (λ (s : State). done s c) (records o past opens judged.at legal').state in
         let more = done_longer (log_of past judged.at) (log_of past after) c given (legal_at after legal) (seen_longer o past judged.at after (inr (judged.to, legal))) in
         omega (arith, low, state, more)

@@ -22,8 +22,8 @@ error_told done no.TooLarge = NotKept keep.TooLarge
 error_told done no.NotRead = NotKept keep.Failed
 
 -- the error by which a node ends whose exchange broke off: the one that a No tells, want of memory, or else that the room has failed
-abbrev pub error_of : ℕ → LinkError → SubmitError
-error_of done (link.Refused reason) = error_told done reason
-error_of done link.Memory = NotKept keep.Memory
-error_of done link.Ended = NotKept keep.Failed
-error_of done link.NotRead = NotKept keep.Failed
+abbrev pub error_of_link : ℕ → LinkError → SubmitError
+error_of_link done (link.Refused reason) = error_told done reason
+error_of_link done link.Memory = NotKept keep.Memory
+error_of_link done link.Ended = NotKept keep.Failed
+error_of_link done link.NotRead = NotKept keep.Failed

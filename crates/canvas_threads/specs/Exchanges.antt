@@ -17,7 +17,7 @@ pub record IsUpToDate (o : Opening) (seen : List Mark) (client : Client) : Type 
   pub view : client.view ≡ (board o seen).state.doc
 
 -- The i-th of these edits stands in the log under the id c, at a version up to this one, and no other entry has that author and number.
-pub record StandsOnce (log : List Entry) (c i reached : ℕ) (edits : List Change) : Type 0 where
+pub record IsOnceInLog (log : List Entry) (c i reached : ℕ) (edits : List Change) : Type 0 where
   pub version : ℕ
   pub entry : Entry
   pub within : version ≤ reached
@@ -30,7 +30,7 @@ pub record StandsOnce (log : List Entry) (c i reached : ℕ) (edits : List Chang
 -- Its view is the document at its version with the waiting edits laid over it, and each acknowledged edit stands once by then.
 pub record HasHeadline (log : List Entry) (c : ℕ) (edits : List Change) (client : Client) : Type 0 where
   pub shows : client.view ≡ over (at_version log client.version).doc client.waiting
-  pub stands : (i : ℕ) → 0 < i → i ≤ client.acknowledged → StandsOnce log c i client.version edits
+  pub stands : (i : ℕ) → 0 < i → i ≤ client.acknowledged → IsOnceInLog log c i client.version edits
 
 -- the client follows what the seat has seen as one that has made no edit
 abbrev pub FollowsAnew : Opening → List Entry → List Mark → Client → Type 0

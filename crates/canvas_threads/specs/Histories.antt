@@ -7,8 +7,8 @@ use Rattle.canvas_model.specs.Log as model
 use Rattle.canvas_model.specs.Client.{Client}
 use Rattle.canvas_model.specs.Messages.{Message}
 use Rattle.canvas_server.specs.Served.{Served}
-use Rattle.canvas_board.specs.Marks.{Failed, Floor, IsLegal, Logged, Mark, Opening}
-use Rattle.canvas_threads.specs.Follows.{Follows, IsTrueFor}
+use Rattle.canvas_board.specs.Marks.{Failed, Floor, IsLegalHistory, Logged, Mark, Opening}
+use Rattle.canvas_threads.specs.Follows.{FollowsLog, IsTrueFor}
 
 -- the entries of a history, in their order
 abbrev pub entries_of : List Mark → List Entry
@@ -42,5 +42,5 @@ AreTrueFor log c (m ∷ ms) = IsTrueFor log c m × AreTrueFor log c ms
 
 -- The client follows what the seat has seen, after this past, under the id c and with these edits.
 pub record FollowsAt (o : Opening) (past : List Entry) (c : ℕ) (edits : List Change) (seen : List Mark) (client : Client) : Type 0 where
-  pub legal : IsLegal o seen
-  pub follows : Follows (log_of past seen) c edits client
+  pub legal : IsLegalHistory o seen
+  pub follows : FollowsLog (log_of past seen) c edits client

@@ -4,7 +4,7 @@ use Rattle.canvas_model.specs.Change.{Change}
 use Rattle.canvas_model.specs.Client.{Client, last_number}
 use Rattle.canvas_model.specs.Local.{EditRequest}
 use Rattle.canvas_model.specs.Log.{Entry}
-use Rattle.canvas_board.specs.Marks.{IsLegal, Mark, Opening}
+use Rattle.canvas_board.specs.Marks.{IsLegalHistory, Mark, Opening}
 use Rattle.canvas_threads.specs.Follows.{AreAllOf, AreFirstOf}
 use Rattle.canvas_threads.specs.Histories.{FollowsAt, OpensAfter, log_of}
 use Rattle.canvas_threads.specs.Exchanges.{HasHeadline, IsUpToDate}
@@ -17,7 +17,7 @@ pub record FollowsRoom (o : Opening) (requests : List EditRequest) (seen : List 
   pub edits : List Change
   pub made : AreMadeOf requests edits
   pub count : last_number client ≡ length edits
-  pub legal : IsLegal o seen
+  pub legal : IsLegalHistory o seen
   pub follows : (past : List Entry) → OpensAfter o past → (c : ℕ) → client.id ≡ Some c → AreFirstOf c edits (log_of past seen) → FollowsAt o past c edits seen client
 
 -- The client follows this history, its acknowledged edits stand there once, and it is up to date.
@@ -34,7 +34,7 @@ pub record ShowsTheRoom (o : Opening) (requests : List EditRequest) (client : Cl
   pub made : AreMadeOf requests edits
   pub count : last_number client ≡ length edits
   pub seen : List Mark
-  pub legal : IsLegal o seen
+  pub legal : IsLegalHistory o seen
   pub shows : (past : List Entry) → OpensAfter o past → (c : ℕ) → client.id ≡ Some c → AreAllOf c edits (log_of past seen) → ShowsAll o past c edits seen client
 
 -- these edits were asked of the client by this plan

@@ -1,6 +1,6 @@
 // Why a node ends.
 ghost use Rattle.std.specs.Prelude.{◌≡◌};
-ghost use Rattle.canvas_threads.specs.Errors.{error_of, error_told};
+ghost use Rattle.canvas_threads.specs.Errors.{error_of_link, error_told};
 
 use canvas_client::Client;
 use canvas_desk::{Refusal, SubmitError};
@@ -11,7 +11,7 @@ use canvas_nodes::LinkError;
 /// The error of a node whose client's exchange broke off: the one that a No tells; Memory if memory runs out; and Failed where the
 /// link has ended, or its answer is none, which a link to a seat never says.
 pub(crate) fn broken_off(client: &Client, error: LinkError) -> SubmitError
-    ensures { result ≡ error_of client.now.acknowledged error }
+    ensures { result ≡ error_of_link client.now.acknowledged error }
 {
     match error {
         LinkError::Refused(reason) => told(client.acknowledged(), reason),

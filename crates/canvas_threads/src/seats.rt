@@ -2,7 +2,7 @@
 ghost use Rattle.std.specs.Prelude.{◌≡◌, IfErr, IsNone, IsSome, OnOk};
 ghost use Rattle.canvas_model.specs.Client.{new_client};
 ghost use Rattle.canvas_nodes.specs.GoesOn.{GoesOn};
-ghost use Rattle.canvas_board.specs.Marks.{IsLegal};
+ghost use Rattle.canvas_board.specs.Marks.{IsLegalHistory};
 ghost use Rattle.room_handler.specs.Table.{SeesOn};
 ghost use Rattle.canvas_threads.specs.Exchanges.{CatchesUpAt, JoinsAt, KeepsFollowing, MayJoinAt};
 
@@ -27,7 +27,7 @@ pub fn join_at<K: Keeper + Drop, N: RoomName, R: Wait + Drop, W: Wait + Drop>(
     requires { client.old ≡ new_client }
     ensures joins { OnOk result (JoinsAt N.opening link.old client.new link.new) }
     ensures breaks { IfErr result (λ _. MayJoinAt N.opening link.old client.new link.new) }
-    ensures legal { OnOk result (IsLegal N.opening link.new) }
+    ensures legal { OnOk result (IsLegalHistory N.opening link.new) }
     ensures goes_on { GoesOn client.old client.new }
     ensures id { OnOk result (IsSome client.new.id) }
 {

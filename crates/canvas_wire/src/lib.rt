@@ -2,7 +2,6 @@
 //! text, is read alone.
 #![tactic(auto)]
 
-mod checkpoints;
 mod clients;
 mod copies;
 mod entries;
@@ -10,14 +9,15 @@ mod fault;
 mod heads;
 mod laws;
 mod messages;
+mod old_checkpoints;
 mod rows;
 mod sound;
 
-pub use checkpoints::decode_checkpoint;
 pub use copies::{encode_copy_of, encode_rows};
 pub use entries::{decode_entry, encode_entry};
 pub use fault::WireError;
 pub use heads::{CheckpointHead, decode_head, encode_head};
 pub use laws::{every_checkpoint, every_entry, every_head, every_message, every_row};
 pub use messages::{decode, encode};
+pub use old_checkpoints::decode_checkpoint;
 pub use rows::{decode_row, encode_row};

@@ -15,7 +15,7 @@ use Rattle.canvas_model.proofs.Tests.{le_true, le_false, lt_false}
 use Rattle.canvas_client.specs.Receives.{IsWaiting}
 use Rattle.canvas_server.specs.Served.{tail_of}
 use Rattle.canvas_model.specs.Laws.{InEachGoodWorld}
-use Rattle.canvas_world.specs.Running.{served_in, IsRunning}
+use Rattle.canvas_world.specs.Running.{served_in, ServesGoodWorld}
 use Rattle.canvas_world.specs.Parts.{IsPost}
 use Rattle.canvas_world.proofs.Placed.{at_none, at_some, if_not, if_so}
 use Rattle.canvas_world.proofs.Taken.{found, missing}
@@ -213,6 +213,6 @@ no_asker_at w old v p log ks now e c o here count le is same view joins asks ask
     (welcomes_none w v (subst (λ (p : ℕ). v ≤ p) count le) (inr (e, found w.log log v now e is same view, inr (c, sym joins, missing w.askers ks v asks askers)))))
 
 -- a node's id has joined
-pub copy_joined : InEachGoodWorld HoldersJoined → (w : World) (s : Served) (k c : ℕ) (ns : List Node) (now n : Node) → IsRunning s w → Some now ≡ nth ns k → ns ≡ w.nodes → n ≡ now → n.client.id ≡ Some c → IsTrue (joined s.state c)
+pub copy_joined : InEachGoodWorld HoldersJoined → (w : World) (s : Served) (k c : ℕ) (ns : List Node) (now n : Node) → ServesGoodWorld s w → Some now ≡ nth ns k → ns ≡ w.nodes → n ≡ now → n.client.id ≡ Some c → IsTrue (joined s.state c)
 copy_joined joins w s k c ns now n running is same view id =
     subst (λ (s : Served). IsTrue (joined s.state c)) (sym running.serves) (joins w running.good k c n (record { is = found w.nodes ns k now n is same view; id = id }))

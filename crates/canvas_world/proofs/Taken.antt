@@ -21,7 +21,7 @@ use Rattle.canvas_server.specs.declared.taking.Looked.TheVariants as looked
 use Rattle.canvas_server.specs.declared.taking.TakeError.{TakeError}
 use Rattle.canvas_server.specs.declared.taking.TakeError.TheVariants as refusal
 use Rattle.canvas_world.specs.Running.{served_in}
-use Rattle.canvas_world.specs.Parts.{Becomes, IsJudging}
+use Rattle.canvas_world.specs.Parts.{BecomesJudging, IsJudging}
 use Rattle.canvas_world.specs.declared.changing.Judging.{Judging}
 use Rattle.canvas_world.specs.declared.changing.Judging.TheVariants as judging
 use Rattle.canvas_world.proofs.Placed.{at_some, if_so, if_not}
@@ -113,7 +113,7 @@ fits_next A s r e (Edit change) l =
     (x.1.3, x.0)
 
 judged : {A : Type 0} (w : World) (s : Served) (m : ℕ) (letter : Letter) (r : Asked) (asker : ℕ) (result : Result (Looked A) TakeError) (j : Judging A) → s ≡ served_in w → length w.log ≤ last_version → nth w.letters m ≡ Some letter
-    → letter.to ≡ 0 → Some r ≡ asked_by letter.message → asker ≡ asker_of r letter.from → Looks s r result → Becomes asker result j → IsJudging w m j
+    → letter.to ≡ 0 → Some r ≡ asked_by letter.message → asker ≡ asker_of r letter.from → Looks s r result → BecomesJudging asker result j → IsJudging w m j
 judged {A} w s m letter r asker result j serves few is server asks is_asker looks becomes = by result j looks_here becomes
   where
     looks_here : Looks (served_in w) r result
@@ -123,7 +123,7 @@ judged {A} w s m letter r asker result j serves few is server asks is_asker look
     step result a new l f =
         at_some (nth w.letters m) letter w a new _ is (if_so (letter.to == 0) w a new _ (ap (λ (k : ℕ). k == 0) server) (takes w letter.from letter.message r asker result a new asks is_asker l f))
 
-    by : (result : Result (Looked A) TakeError) (j : Judging A) → Looks (served_in w) r result → Becomes asker result j → IsJudging w m j
+    by : (result : Result (Looked A) TakeError) (j : Judging A) → Looks (served_in w) r result → BecomesJudging asker result j → IsJudging w m j
     by (Ok (looked.Next e)) j l is =
         let x = fits_next A (served_in w) r e r.what l in
         subst (λ (j : Judging A). IsJudging w m j) (sym is) (x.0, room (served_in w) r.what x.1 few, step (Ok (looked.Next e)) _ _ l (refl, refl))
@@ -167,7 +167,7 @@ missing xs ys n is same = sym (is ∙ ap (λ l. nth l n) same)
 
 -- the answers, for the world as its contracts see it
 pub judged_ok : {A E : Type 0} (w old : World) (s : Served) (m : ℕ) (ls : List Letter) (now letter : Letter) (r : Asked) (asker : ℕ) (result : Result (Looked A) TakeError) (made : Result (Judging A) E) → w ≡ old → s ≡ served_in w → length w.log ≤ last_version
-    → Some now ≡ nth ls m → ls ≡ w.letters → letter ≡ now → letter.to ≡ 0 → Some r ≡ asked_by letter.message → asker ≡ asker_of r letter.from → Looks s r result → IfOk made (Becomes asker result) → IfOk made (IsJudging old m)
+    → Some now ≡ nth ls m → ls ≡ w.letters → letter ≡ now → letter.to ≡ 0 → Some r ≡ asked_by letter.message → asker ≡ asker_of r letter.from → Looks s r result → IfOk made (BecomesJudging asker result) → IfOk made (IsJudging old m)
 judged_ok w old s m ls now letter r asker result (Ok j) here serves few is same view server asks is_asker looks becomes =
     subst (λ (u : World). IsJudging u m j) here (judged w s m letter r asker result j serves few (found w.letters ls m now letter is same view) server asks is_asker looks becomes)
 judged_ok w old s m ls now letter r asker result (Err e) here serves few is same view server asks is_asker looks becomes = tt

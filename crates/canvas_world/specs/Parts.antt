@@ -43,13 +43,13 @@ IsJudging w m (judging.Append e asker) = Fits (state w) e × (length w.log < las
 IsJudging w m (judging.Answer answer) = Step w (Take m) (seen_answer answer) w
 
 -- what the world makes of what the server answers; with an entry goes the node that asked for it, if it is a Join
-abbrev pub Becomes : {A : Type 0} → ℕ → Result (Looked A) TakeError → Judging A → Type 0
-Becomes asker (Ok (looked.Next e)) j = j ≡ judging.Append e asker
-Becomes asker (Ok (looked.Repeat d)) j = j ≡ judging.Answer answer.Repeat
-Becomes asker (Ok (looked.Gap d)) j = j ≡ judging.Answer answer.Gap
-Becomes asker (Err refusal.Stranger) j = j ≡ judging.Answer answer.Stranger
-Becomes asker (Err refusal.Full) j = j ≡ judging.Answer answer.FullServer
-Becomes asker (Err refusal.Memory) j = ⊥
+abbrev pub BecomesJudging : {A : Type 0} → ℕ → Result (Looked A) TakeError → Judging A → Type 0
+BecomesJudging asker (Ok (looked.Next e)) j = j ≡ judging.Append e asker
+BecomesJudging asker (Ok (looked.Repeat d)) j = j ≡ judging.Answer answer.Repeat
+BecomesJudging asker (Ok (looked.Gap d)) j = j ≡ judging.Answer answer.Gap
+BecomesJudging asker (Err refusal.Stranger) j = j ≡ judging.Answer answer.Stranger
+BecomesJudging asker (Err refusal.Full) j = j ≡ judging.Answer answer.FullServer
+BecomesJudging asker (Err refusal.Memory) j = ⊥
 
 -- a node makes an edit, or refuses it
 abbrev pub NodeEdits : Node → local.EditRequest → Answer → Node → Type 0

@@ -9,6 +9,6 @@ abbrev pub served_in : World → Served
 served_in w = record { state = state w; version = length w.log; published = w.published; floor = w.floor; kept = drop w.floor w.log }
 
 -- the world is good, and this is its server
-pub record IsRunning (server : Served) (w : World) : Type 0 where
+pub record ServesGoodWorld (server : Served) (w : World) : Type 0 where
   pub serves : server ≡ served_in w
   pub good : IsGood w

@@ -47,11 +47,11 @@ impl<A: Allocator> Model for Network<A> {
 
     ghost coded = { Prim.hlevel (codes, value_code, doc_code) };
 
-    ghost use Rattle.canvas_world.specs.Running.{IsRunning};
+    ghost use Rattle.canvas_world.specs.Running.{ServesGoodWorld};
 
     ghost view = { λ w. record { log = w.log.items; askers = w.askers.items; floor = w.server.floor; published = w.server.published; synced = w.synced; letters = w.letters.items; nodes = w.nodes.items } };
 
-    ghost invariant = { λ w. IsRunning w.server (record { log = w.log.items; askers = w.askers.items; floor = w.server.floor; published = w.server.published; synced = w.synced; letters = w.letters.items; nodes = w.nodes.items }) };
+    ghost invariant = { λ w. ServesGoodWorld w.server (record { log = w.log.items; askers = w.askers.items; floor = w.server.floor; published = w.server.published; synced = w.synced; letters = w.letters.items; nodes = w.nodes.items }) };
 }
 
 impl<A: Allocator> Network<A> {

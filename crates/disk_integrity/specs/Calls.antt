@@ -4,22 +4,22 @@ use Rattle.disk_integrity.specs.declared.call.ShelfCall.{ShelfCall}
 use Rattle.disk_integrity.specs.declared.call.ShelfCall.TheVariants.{List, Read, Create, Append, Sync, Retire}
 
 -- which call it is
-abbrev pub code_of : ShelfCall → ℕ
-code_of List = 1
-code_of (Read n) = 2
-code_of (Create n) = 3
-code_of (Append n) = 4
-code_of (Sync n) = 5
-code_of (Retire n) = 6
+abbrev pub call_code : ShelfCall → ℕ
+call_code List = 1
+call_code (Read n) = 2
+call_code (Create n) = 3
+call_code (Append n) = 4
+call_code (Sync n) = 5
+call_code (Retire n) = 6
 
 -- the segment that it is about, or 0
-abbrev pub number_of : ShelfCall → ℕ
-number_of List = 0
-number_of (Read n) = n
-number_of (Create n) = n
-number_of (Append n) = n
-number_of (Sync n) = n
-number_of (Retire n) = n
+abbrev pub segment_of_call : ShelfCall → ℕ
+segment_of_call List = 0
+segment_of_call (Read n) = n
+segment_of_call (Create n) = n
+segment_of_call (Append n) = n
+segment_of_call (Sync n) = n
+segment_of_call (Retire n) = n
 
 -- it is about this segment, or about none
 abbrev pub IsAbout : ShelfCall → ℕ → Type 0

@@ -29,12 +29,12 @@ IsLeft true checkpoint bytes = IsCutRecord (drop (records_end bytes) bytes)
 IsLeft false checkpoint bytes = IsBeginning bytes checkpoint
 
 -- a crash may leave the segment so
-abbrev pub Stands : Bool → List ℕ → Listed → Type 0
-Stands taken checkpoint s = HasSums s × IsLeft taken checkpoint s.bytes.items
+abbrev pub MayBeLeft : Bool → List ℕ → Listed → Type 0
+MayBeLeft taken checkpoint s = HasSums s × IsLeft taken checkpoint s.bytes.items
 
 -- the same, where this one is taken
-abbrev pub StandsFor : Option ℕ → List ℕ → Listed → Type 0
-StandsFor taken checkpoint s = Stands (is_taken taken s.number) checkpoint s
+abbrev pub MayBeLeftIfTaken : Option ℕ → List ℕ → Listed → Type 0
+MayBeLeftIfTaken taken checkpoint s = MayBeLeft (is_taken taken s.number) checkpoint s
 
 -- this of the segment no crash leaves
 abbrev pub IsLoss : Bool → List ℕ → Listed → Loss → Type 0
@@ -52,7 +52,7 @@ pub record FirstLoss (taken : Option ℕ) (checkpoint : List ℕ) (segments : Li
   pub one : Listed
   pub below : List Listed
   pub whole : segments ≡ above ++ one ∷ below
-  pub each : AllByRecursion (StandsFor taken checkpoint) above
+  pub each : AllByRecursion (MayBeLeftIfTaken taken checkpoint) above
   pub is : IsLoss (is_taken taken one.number) checkpoint one loss
 
 -- no segment is taken, and this is left of a document: it has gone
@@ -63,10 +63,10 @@ gone (Some n) trace = None
 
 -- a crash may leave each of these segments so, down to the taken one, and no document has gone
 abbrev pub NothingLost : Option ℕ → List ℕ → Option Trace → List Listed → Type 0
-NothingLost taken checkpoint trace listed = AllByRecursion (StandsFor taken checkpoint) (down_to taken listed) × (gone taken trace ≡ None)
+NothingLost taken checkpoint trace listed = AllByRecursion (MayBeLeftIfTaken taken checkpoint) (down_to taken listed) × (gone taken trace ≡ None)
 
 -- the loss is the first in these segments; or there is none in them, and the document has gone
 abbrev pub IsLost : Option ℕ → List ℕ → Option Trace → List Listed → Loss → Type 0
 IsLost taken checkpoint trace listed loss =
     FirstLoss taken checkpoint (down_to taken listed) loss
-    ⊎ (AllByRecursion (StandsFor taken checkpoint) (down_to taken listed) × (gone taken trace ≡ Some loss))
+    ⊎ (AllByRecursion (MayBeLeftIfTaken taken checkpoint) (down_to taken listed) × (gone taken trace ≡ Some loss))

@@ -3,7 +3,7 @@ use Rattle.std.specs.Prelude.{◌≡◌, ◌<◌, ◌^◌, ◌++◌, [], ℕ, Li
 use Rattle.std.specs.Io.KnownBytes.{Appends}
 use Rattle.disk_integrity.specs.Lines.{sum_line}
 use Rattle.disk_integrity.specs.Running.{IsSumOf}
-use Rattle.disk_integrity.specs.Changes.{Change, segment_made, bytes_added, segment_synced, segment_retired}
+use Rattle.disk_integrity.specs.Changes.{WitnessedChange, segment_made, bytes_added, segment_synced, segment_retired}
 use Rattle.disk_integrity.specs.declared.summing.Summing.{Summing}
 use Rattle.disk_integrity.specs.declared.summing.Sums.{Sums}
 use Rattle.disk_integrity.specs.declared.summing.Sums.TheVariants.{NoneMade, Written, Failed}
@@ -53,7 +53,7 @@ AreSynced contents n (Written s) Failed = s.number ≡ n
 AreSynced contents n Failed new = new ≡ Failed
 
 -- what a change of the shelf makes of them
-abbrev pub SumsSee : {W : Type 0} → (W → Option (List ℕ)) → Change → Sums W → Sums W → Type 0
+abbrev pub SumsSee : {W : Type 0} → (W → Option (List ℕ)) → WitnessedChange → Sums W → Sums W → Type 0
 SumsSee contents (segment_made n) old new = AreBegun n new
 SumsSee contents (bytes_added n bytes) old new = AreAdded n bytes old new
 SumsSee contents (segment_synced n) old new = AreSynced contents n old new

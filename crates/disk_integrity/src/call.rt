@@ -19,12 +19,12 @@ pub enum ShelfCall {
 }
 
 impl ShelfCall {
-    ghost use Rattle.disk_integrity.specs.Calls.{IsAbout, code_of, number_of};
+    ghost use Rattle.disk_integrity.specs.Calls.{IsAbout, call_code, segment_of_call};
     ghost use Rattle.disk_integrity.specs.declared.call.ShelfCall.{ShelfCall};
 
     /// Which call it was, as a number from 1.
     pub(crate) fn code(self) -> u64
-        ensures { result ≡ code_of self }
+        ensures { result ≡ call_code self }
     {
         match self {
             ShelfCall::List => 1,
@@ -38,7 +38,7 @@ impl ShelfCall {
 
     /// The number of the segment, or 0 where it was about none.
     pub(crate) fn number(self) -> u32
-        ensures { result ≡ number_of self }
+        ensures { result ≡ segment_of_call self }
     {
         match self {
             ShelfCall::List => 0,
@@ -52,7 +52,7 @@ impl ShelfCall {
 
     /// The call of this code, about the segment of this number. None where no call has the code.
     pub(crate) fn of_code(code: u64, number: u32) -> Option<ShelfCall>
-        ensures { MatchOption result ((call : ShelfCall) → code_of call ≡ code → ⊥) (λ call. (code_of call ≡ code) × IsAbout call number) }
+        ensures { MatchOption result ((call : ShelfCall) → call_code call ≡ code → ⊥) (λ call. (call_code call ≡ code) × IsAbout call number) }
     {
         match code {
             1 => Some(ShelfCall::List),

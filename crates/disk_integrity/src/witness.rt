@@ -1,11 +1,11 @@
 // Who is shown what a shelf did.
-ghost use Rattle.disk_integrity.specs.Changes.{Change, segment_made, bytes_added, segment_synced, segment_retired};
+ghost use Rattle.disk_integrity.specs.Changes.{WitnessedChange, segment_made, bytes_added, segment_synced, segment_retired};
 
 /// Is shown each call of a shelf that changed something and didn't fail, in turn. Nothing is asked of it, and nothing that it does or fails to
 /// do changes what the shelf does.
 pub trait Witness {
     /// What becomes of it when it is shown a change. A witness of which nothing is to be said leaves it out.
-    ghost sees: { Self → Change → Self → Type 0 } = { λ old change new. Unit {0} };
+    ghost sees: { Self → WitnessedChange → Self → Type 0 } = { λ old change new. Unit {0} };
 
     /// A segment without bytes was made.
     fn created(&mut self, number: u32)

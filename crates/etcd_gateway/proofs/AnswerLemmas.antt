@@ -4,8 +4,8 @@ use Rattle.std.proofs.lemmas.List.{take_more}
 use Rattle.serde_json.specs.Data.{Data}
 use Rattle.serde_json.specs.View.{view, items_view}
 use Rattle.serde_json.specs.declared.value.Value.{Value as Json}
-use Rattle.etcd_gateway.specs.Answers.{both, each_in}
-use Rattle.etcd_gateway.specs.Faults.{IsUnread}
+use Rattle.etcd_gateway.specs.Answers.{read_both, read_each_item}
+use Rattle.etcd_gateway.specs.Faults.{IsNothingRead}
 use Rattle.etcd_gateway.specs.declared.error.GatewayError.{GatewayError}
 use Rattle.etcd_gateway.specs.declared.error.GatewayError.TheVariants.{NotHttp, TooLarge, NotJson, NotAnAnswer, Memory}
 
@@ -14,11 +14,11 @@ use Rattle.etcd_gateway.specs.declared.error.GatewayError.TheVariants.{NotHttp, 
 -- each of some trees, read in turn
 abbrev pub read_each : {A : Type 0} → (Json → Option A) → List Json → Option (List A)
 read_each f [] = Some []
-read_each f (v ∷ vs) = both (λ a rest. a ∷ rest) (f v) (read_each f vs)
+read_each f (v ∷ vs) = read_both (λ a rest. a ∷ rest) (f v) (read_each f vs)
 
-pub each_view : {A : Type 0} (f : Data → Option A) (vs : List Json) → each_in f (items_view vs) ≡ read_each (λ v. f (view v)) vs
+pub each_view : {A : Type 0} (f : Data → Option A) (vs : List Json) → read_each_item f (items_view vs) ≡ read_each (λ v. f (view v)) vs
 each_view f [] = refl
-each_view f (v ∷ vs) = ap (both (λ a rest. a ∷ rest) (f (view v))) (each_view f vs)
+each_view f (v ∷ vs) = ap (read_both (λ a rest. a ∷ rest) (f (view v))) (each_view f vs)
 
 -- what was read of the first ones, and one more
 abbrev then_one : {A : Type 0} → Option (List A) → Option A → Option (List A)
@@ -26,23 +26,23 @@ then_one None o = None
 then_one (Some r) None = None
 then_one (Some r) (Some a) = Some (r ++ a ∷ [])
 
-front_then : {A : Type 0} (x : Option A) (r : Option (List A)) (o : Option A) → both (λ a rest. a ∷ rest) x (then_one r o) ≡ then_one (both (λ a rest. a ∷ rest) x r) o
+front_then : {A : Type 0} (x : Option A) (r : Option (List A)) (o : Option A) → read_both (λ a rest. a ∷ rest) x (then_one r o) ≡ then_one (read_both (λ a rest. a ∷ rest) x r) o
 front_then None r o = refl
 front_then (Some x) None o = refl
 front_then (Some x) (Some r) None = refl
 front_then (Some x) (Some r) (Some o) = refl
 
-front_last : {A : Type 0} (x : Option A) → both (λ a rest. a ∷ rest) x (Some []) ≡ then_one (Some []) x
+front_last : {A : Type 0} (x : Option A) → read_both (λ a rest. a ∷ rest) x (Some []) ≡ then_one (Some []) x
 front_last None = refl
 front_last (Some x) = refl
 
-front_none : {A : Type 0} (x : Option A) → both {B = List A} (λ a rest. a ∷ rest) x None ≡ None
+front_none : {A : Type 0} (x : Option A) → read_both {B = List A} (λ a rest. a ∷ rest) x None ≡ None
 front_none None = refl
 front_none (Some x) = refl
 
 read_each-append : {A : Type 0} (f : Json → Option A) (vs : List Json) (v : Json) → read_each f (vs ++ v ∷ []) ≡ then_one (read_each f vs) (f v)
 read_each-append f [] v = front_last (f v)
-read_each-append f (w ∷ vs) v = ap (both (λ a rest. a ∷ rest) (f w)) (read_each-append f vs v) ∙ front_then (f w) (read_each f vs) (f v)
+read_each-append f (w ∷ vs) v = ap (read_both (λ a rest. a ∷ rest) (f w)) (read_each-append f vs v) ∙ front_then (f w) (read_each f vs) (f v)
 
 -- one more member, by its place
 pub read_each-more : {A : Type 0} (f : Json → Option A) (vs : List Json) (i : ℕ) (v : Json) (found : List A) (a : A)
@@ -53,12 +53,12 @@ read_each-more f vs i v found a less before here =
 -- a member that can't be read
 pub read_each-none : {A : Type 0} (f : Json → Option A) (vs : List Json) (i : ℕ) (v : Json) → i < length vs → f (get_or vs i v) ≡ None → read_each f vs ≡ None
 read_each-none f [] i v less e = absurd (omega arith)
-read_each-none f (w ∷ vs) zero v less e = ap (λ x. both (λ a rest. a ∷ rest) x (read_each f vs)) e
-read_each-none f (w ∷ vs) (suc i) v less e = ap (both (λ a rest. a ∷ rest) (f w)) (read_each-none f vs i v (omega arith) e) ∙ front_none (f w)
+read_each-none f (w ∷ vs) zero v less e = ap (λ x. read_both (λ a rest. a ∷ rest) x (read_each f vs)) e
+read_each-none f (w ∷ vs) (suc i) v less e = ap (read_both (λ a rest. a ∷ rest) (f w)) (read_each-none f vs i v (omega arith) e) ∙ front_none (f w)
 
 -- a member that isn't read, where all were asked for
 pub unread_each : {A : Type 0} (f : Data → Option A) (vs : List Json) (i : ℕ) (v : Json) (e : GatewayError) → i < length vs → v ≡ get_or vs i v
-    → IsUnread (f (view v)) e → IsUnread (each_in f (items_view vs)) e
+    → IsNothingRead (f (view v)) e → IsNothingRead (read_each_item f (items_view vs)) e
 unread_each f vs i v NotAnAnswer less is h = each_view f vs ∙ read_each-none (λ w. f (view w)) vs i v less (ap (λ w. f (view w)) (sym is) ∙ h)
 unread_each f vs i v Memory less is h = tt
 unread_each f vs i v NotHttp less is h = h

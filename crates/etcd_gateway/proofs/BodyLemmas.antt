@@ -9,8 +9,8 @@ use Rattle.httparse.specs.Ascii.{crlf_bytes, space}
 use Rattle.httparse.specs.Grammar.{ChunkLine, Field, LineEnd, HasNoSection, IsChunkLine, ReadsChunkLine, ReadsSection, ResponseHead, chunk_size, crlf, print_blank, print_chunk_line, print_end, print_extension, print_reason, print_response, print_section, print_version, status_code}
 use Rattle.httparse.specs.Spans.{IsChunkLineAt}
 use Rattle.httparse.proofs.ChunkLemmas.{chunk_line_unique}
-use Rattle.etcd_gateway.specs.Bodies.{ArePieces, BeginsChunk, HasNoChunk, IsBehindHead, IsLast, IsPiece, Piece, has_read, print_piece}
-use Rattle.etcd_gateway.specs.Heads.{Begins, framing_in, head_of}
+use Rattle.etcd_gateway.specs.Bodies.{ArePieces, BeginsChunk, HasNoChunk, IsBehindHead, IsLastChunk, IsPiece, Piece, has_read, print_piece}
+use Rattle.etcd_gateway.specs.Heads.{BeginsWithResponse, framing_in, answer_head_of}
 use Rattle.etcd_gateway.specs.declared.chunk.Chunk.TheVariants.{Bytes}
 use Rattle.etcd_gateway.specs.declared.reader.Stage.{Stage}
 use Rattle.etcd_gateway.specs.declared.reader.Stage.TheVariants as stage
@@ -27,13 +27,13 @@ said_by head (Some framing) said e =
     let same : record { status = status_code head; framing = framing; length = length (print_response head) } ≡ said = cc in
     (ap (λ (s : AnswerHead). Some s.framing) same, sym (ap (λ (s : AnswerHead). s.status) same), sym (ap (λ (s : AnswerHead). s.length) same))
 
-pub head_long : (bytes : List ℕ) (head : ResponseHead) (said : AnswerHead) → Begins bytes head → head_of head ≡ Some said → said.length ≤ length bytes
+pub head_long : (bytes : List ℕ) (head : ResponseHead) (said : AnswerHead) → BeginsWithResponse bytes head → answer_head_of head ≡ Some said → said.length ≤ length bytes
 head_long bytes head said begins is =
     let long = (said_by head (framing_in head) said is).2 in
     omega (arith, long, ap length begins.0.1.1, length-append (print_response head) begins.0.0)
 
 -- a head was read
-pub start : (bytes : List ℕ) (head : ResponseHead) (said : AnswerHead) (Holds : Framing → List ℕ → Type 0) → Begins bytes head → head_of head ≡ Some said
+pub start : (bytes : List ℕ) (head : ResponseHead) (said : AnswerHead) (Holds : Framing → List ℕ → Type 0) → BeginsWithResponse bytes head → answer_head_of head ≡ Some said
     → Holds said.framing [] → IsBehindHead (take said.length bytes) said.status Holds
 start bytes head said Holds begins is holds =
     let said_is = said_by head (framing_in head) said is in
@@ -137,7 +137,7 @@ piece_is buf body end line size l at some long body_is end_is crlf_is =
 -- ---- the last chunk
 
 pub last_is : (buf behind : List ℕ) (line count : ℕ) (l : ChunkLine) (fields : List Field) (end : LineEnd) → IsChunkLineAt buf line 0 l → behind ≡ drop line buf
-    → ReadsSection behind fields end (drop count behind) → count ≡ length (print_section fields end) → IsLast (take (line + count) buf)
+    → ReadsSection behind fields end (drop count behind) → count ≡ length (print_section fields end) → IsLastChunk (take (line + count) buf)
 last_is buf behind line count l fields end at behind_is reads count_is = record {
   line = l;
   fields = fields;
@@ -172,14 +172,14 @@ unfolding print_response
 head_some head =
     six (print_blank head.blank) (print_version head.minor) (space ∷ head.digits) (print_reason head.reason) (print_end head.line_end) (print_section head.fields head.last) (omega arith)
 
-pub said_some : (head : ResponseHead) (said : AnswerHead) → head_of head ≡ Some said → 0 < said.length
+pub said_some : (head : ResponseHead) (said : AnswerHead) → answer_head_of head ≡ Some said → 0 < said.length
 said_some head said is = omega (arith, (said_by head (framing_in head) said is).2, head_some head)
 
 line_some : (l : ChunkLine) → IsChunkLine l → 0 < length (print_chunk_line l)
 unfolding print_chunk_line
 line_some l is = omega (arith, length-append (l.digits ++ l.pad ++ print_extension l.extension) (print_end crlf))
 
-pub last_some : (text : List ℕ) → IsLast text → 0 < length text
+pub last_some : (text : List ℕ) → IsLastChunk text → 0 < length text
 last_some text is = omega (arith, ap (λ (t : List ℕ). length t) is.text_is, length-append (print_chunk_line is.line) (print_section is.fields is.end), line_some is.line is.is_line)
 
 pub piece_some : (piece : Piece) → IsPiece piece → 0 < length (print_piece piece)
@@ -202,7 +202,7 @@ more_bytes s status body longer past buf chunk size at begins longer_is =
 
 -- a head came
 pub head_came : (s new : Stage) (before : ℕ) (body past bytes : List ℕ) (head : ResponseHead) (said : AnswerHead) → s ≡ stage.Head
-    → Begins bytes head → head_of head ≡ Some said
+    → BeginsWithResponse bytes head → answer_head_of head ≡ Some said
     → ((status : ℕ) (past : List ℕ) → IsBehindHead past status (λ framing text. (framing ≡ said.framing) × (text ≡ [])) → has_read new status [] past)
     → has_read s before body past → has_read new said.status body (past ++ take said.length bytes)
 head_came s new before body past bytes head said at begins is then so_far =

@@ -3,7 +3,7 @@ use Rattle.std.proofs.Common.{◌≡◌, ◌-◌, ℕ, true, List, ◌++◌, len
 use Rattle.std.specs.Cmp.Lexicographic.{pointwise, same_text}
 use Rattle.std.specs.Prelude.{nat_eq}
 use Rattle.std.proofs.lemmas.List.{take-append-drop}
-use Rattle.etcd_gateway.specs.Hosts.{IsBlankBelow, IsBlankFrom, StandsAfter, WithSlash}
+use Rattle.etcd_gateway.specs.Hosts.{IsBlankBelow, IsBlankFrom, LiesBetweenBlanks, WithSlash}
 
 -- what ends so is what stands before, and its end
 pub ends : (text rest end : List ℕ) → pointwise nat_eq (drop (length text - length end) text) end ≡ true → rest ≡ take (length text - length end) text → text ≡ rest ++ end
@@ -13,6 +13,6 @@ ends text rest end same is =
     ∙ ap (λ (t : List ℕ). t ++ end) (sym is)
 
 pub stands : (url text rest : List ℕ) (blanks : ℕ) → text ≡ codes "http://" ++ rest → text ≡ take (length text) (drop blanks url)
-    → IsBlankBelow url blanks → IsBlankFrom (drop blanks url) (length text) → StandsAfter blanks (codes "http://" ++ rest) url
+    → IsBlankBelow url blanks → IsBlankFrom (drop blanks url) (length text) → LiesBetweenBlanks blanks (codes "http://" ++ rest) url
 stands url text rest blanks is middle front back =
-    subst (λ (t : List ℕ). StandsAfter blanks t url) is (record { front = front; middle = middle; back = back })
+    subst (λ (t : List ℕ). LiesBetweenBlanks blanks t url) is (record { front = front; middle = middle; back = back })

@@ -17,8 +17,8 @@ use Rattle.net_heads.specs.Written.{field_line}
 use Rattle.net_heads.proofs.Written.{is_field, size_passes}
 use Rattle.etcd_gateway.specs.declared.posts.GatewayCall.{GatewayCall}
 use Rattle.etcd_gateway.specs.declared.posts.GatewayCall.TheVariants as call
-use Rattle.etcd_gateway.specs.Hosts.{is_host, is_host_byte}
-use Rattle.etcd_gateway.specs.Posts.{Asks, head_text, path_of, request_of}
+use Rattle.etcd_gateway.specs.Hosts.{is_host, is_url_host_byte}
+use Rattle.etcd_gateway.specs.Posts.{SpellsPost, post_head_text, call_path, post_head}
 
 -- the lines of a head without brackets
 pub head_regroup : (a p v e n s h m t z : List ℕ)
@@ -27,8 +27,8 @@ pub head_regroup : (a p v e n s h m t z : List ℕ)
 head_regroup a p v e n s h m t z = simp append_assoc
 
 -- the first line
-start_is : (asked : GatewayCall) → codes "POST " ++ path_of asked ++ codes " HTTP/1.1" ++ crlf_bytes
-    ≡ print_blank [] ++ codes "POST" ++ space ∷ path_of asked ++ space ∷ print_version 1 ++ print_end crlf
+start_is : (asked : GatewayCall) → codes "POST " ++ call_path asked ++ codes " HTTP/1.1" ++ crlf_bytes
+    ≡ print_blank [] ++ codes "POST" ++ space ∷ call_path asked ++ space ∷ print_version 1 ++ print_end crlf
 start_is call.Range = refl
 start_is call.Commit = refl
 start_is call.Grant = refl
@@ -39,47 +39,47 @@ lines_regroup : (a l m c e : List ℕ) → a ++ l ++ m ++ c ++ e ≡ a ++ ((l ++
 lines_regroup a l m c e = simp append_assoc
 
 -- the text of a head is that of its tree
-pub head_text_is : (host : List ℕ) (asked : GatewayCall) (size : ℕ) → head_text host asked size ≡ print_request (request_of host asked size)
+pub head_text_is : (host : List ℕ) (asked : GatewayCall) (size : ℕ) → post_head_text host asked size ≡ print_request (post_head host asked size)
 unfolding print_request
 head_text_is host asked size =
-    lines_regroup (codes "POST " ++ path_of asked ++ codes " HTTP/1.1" ++ crlf_bytes) (field_line (codes "Host") host)
+    lines_regroup (codes "POST " ++ call_path asked ++ codes " HTTP/1.1" ++ crlf_bytes) (field_line (codes "Host") host)
     (field_line (codes "Content-Type") (codes "application/json")) (field_line (codes "Content-Length") (decimal size)) crlf_bytes
     ∙ ap (λ (a : List ℕ). a ++ ((field_line (codes "Host") host ++ (field_line (codes "Content-Type") (codes "application/json")
     ++ field_line (codes "Content-Length") (decimal size))) ++ crlf_bytes)) (start_is asked)
-    ∙ ap (λ (c : List ℕ). (print_blank [] ++ codes "POST" ++ space ∷ path_of asked ++ space ∷ print_version 1 ++ print_end crlf)
+    ∙ ap (λ (c : List ℕ). (print_blank [] ++ codes "POST" ++ space ∷ call_path asked ++ space ∷ print_version 1 ++ print_end crlf)
     ++ ((field_line (codes "Host") host ++ (field_line (codes "Content-Type") (codes "application/json") ++ c)) ++ crlf_bytes)) (sym (append-nil (field_line (codes "Content-Length") (decimal size))))
 
 -- ---- its parts
 
-host_byte_passes : (b : ℕ) → is_host_byte b ≡ true → IsTrue (is_value_byte b)
+host_byte_passes : (b : ℕ) → is_url_host_byte b ≡ true → IsTrue (is_value_byte b)
 host_byte_passes b host = grind (arith, nat_tests)
 
 host_passes : (host : List ℕ) → is_host host ≡ true → AllPass is_value_byte host
 host_passes host is =
-    All-weaker (λ b. is_host_byte b ≡ true) (λ b. IsTrue (is_value_byte b)) host_byte_passes host (AllPass-from_list_all is_host_byte host (and_parts _ (list_all is_host_byte host) is).1)
+    All-weaker (λ b. is_url_host_byte b ≡ true) (λ b. IsTrue (is_value_byte b)) host_byte_passes host (AllPass-from_list_all is_url_host_byte host (and_parts _ (list_all is_url_host_byte host) is).1)
 
-path_passes : (asked : GatewayCall) → (0 < length (path_of asked)) × AllPass is_uri_byte (path_of asked)
-path_passes call.Range = (omega arith, AllPass-from_list_all is_uri_byte (path_of call.Range) refl)
-path_passes call.Commit = (omega arith, AllPass-from_list_all is_uri_byte (path_of call.Commit) refl)
-path_passes call.Grant = (omega arith, AllPass-from_list_all is_uri_byte (path_of call.Grant) refl)
-path_passes call.KeepAlive = (omega arith, AllPass-from_list_all is_uri_byte (path_of call.KeepAlive) refl)
-path_passes call.Revoke = (omega arith, AllPass-from_list_all is_uri_byte (path_of call.Revoke) refl)
+path_passes : (asked : GatewayCall) → (0 < length (call_path asked)) × AllPass is_uri_byte (call_path asked)
+path_passes call.Range = (omega arith, AllPass-from_list_all is_uri_byte (call_path call.Range) refl)
+path_passes call.Commit = (omega arith, AllPass-from_list_all is_uri_byte (call_path call.Commit) refl)
+path_passes call.Grant = (omega arith, AllPass-from_list_all is_uri_byte (call_path call.Grant) refl)
+path_passes call.KeepAlive = (omega arith, AllPass-from_list_all is_uri_byte (call_path call.KeepAlive) refl)
+path_passes call.Revoke = (omega arith, AllPass-from_list_all is_uri_byte (call_path call.Revoke) refl)
 
 ascii : (bytes : List ℕ) → list_all is_ascii bytes ≡ true → IsUtf8 bytes
 ascii bytes passes =
     IsUtf8-from_ascii bytes (IsAscii-from_all bytes (All-weaker (λ b. IsTrue (is_ascii b)) (λ b. b < 128) (λ b h. grind (arith, nat_tests)) bytes (AllPass-from_list_all is_ascii bytes passes)))
 
-path_is_text : (asked : GatewayCall) → IsUtf8 (path_of asked)
-path_is_text call.Range = ascii (path_of call.Range) refl
-path_is_text call.Commit = ascii (path_of call.Commit) refl
-path_is_text call.Grant = ascii (path_of call.Grant) refl
-path_is_text call.KeepAlive = ascii (path_of call.KeepAlive) refl
-path_is_text call.Revoke = ascii (path_of call.Revoke) refl
+path_is_text : (asked : GatewayCall) → IsUtf8 (call_path asked)
+path_is_text call.Range = ascii (call_path call.Range) refl
+path_is_text call.Commit = ascii (call_path call.Commit) refl
+path_is_text call.Grant = ascii (call_path call.Grant) refl
+path_is_text call.KeepAlive = ascii (call_path call.KeepAlive) refl
+path_is_text call.Revoke = ascii (call_path call.Revoke) refl
 
-fields_pass : (host : List ℕ) (size : ℕ) → is_host host ≡ true → size < 2 ^ 64 → All IsField (request_of host call.Range size).fields
+fields_pass : (host : List ℕ) (size : ℕ) → is_host host ≡ true → size < 2 ^ 64 → All IsField (post_head host call.Range size).fields
 unfolding is_token_byte
 fields_pass host size named small =
-    All-from_recursion IsField (request_of host call.Range size).fields (
+    All-from_recursion IsField (post_head host call.Range size).fields (
       is_field (codes "Host") host (omega arith) refl (host_passes host named),
       (
         is_field (codes "Content-Type") (codes "application/json") (omega arith) refl (AllPass-from_list_all is_value_byte (codes "application/json") refl),
@@ -92,7 +92,7 @@ fields_pass host size named small =
 
 -- a request is read as its head, and its body is left
 post_reads : (host : List ℕ) (asked : GatewayCall) (size : ℕ) (bytes body : List ℕ) → is_host host ≡ true → size < 2 ^ 64
-    → bytes ≡ head_text host asked size ++ body → ReadsRequest bytes (request_of host asked size) body
+    → bytes ≡ post_head_text host asked size ++ body → ReadsRequest bytes (post_head host asked size) body
 unfolding is_token_byte
 post_reads host asked size bytes body named small is = (
   record {
@@ -107,12 +107,12 @@ post_reads host asked size bytes body named small is = (
 
 -- a head and a body ask what they spell
 pub post_asks : (bytes head body host : List ℕ) (asked : GatewayCall) (size : ℕ) (tree : Data) → is_host host ≡ true → size < 2 ^ 64 → size ≡ length body
-    → body ≡ compact_text tree → head ≡ head_text host asked size → bytes ≡ head ++ body → read body ≡ Some tree → Asks bytes host asked tree
+    → body ≡ compact_text tree → head ≡ post_head_text host asked size → bytes ≡ head ++ body → read body ≡ Some tree → SpellsPost bytes host asked tree
 post_asks bytes head body host asked size tree named small long body_is head_is bytes_is reads =
     let size_is : size ≡ length (compact_text tree) = long ∙ ap (λ (t : List ℕ). length t) body_is in
-    let text : bytes ≡ head_text host asked (length (compact_text tree)) ++ compact_text tree =
-    bytes_is ∙ ap (λ (h : List ℕ). h ++ body) (head_is ∙ ap (head_text host asked) size_is)
-    ∙ ap (λ (b : List ℕ). head_text host asked (length (compact_text tree)) ++ b) body_is in
+    let text : bytes ≡ post_head_text host asked (length (compact_text tree)) ++ compact_text tree =
+    bytes_is ∙ ap (λ (h : List ℕ). h ++ body) (head_is ∙ ap (post_head_text host asked) size_is)
+    ∙ ap (λ (b : List ℕ). post_head_text host asked (length (compact_text tree)) ++ b) body_is in
     record {
       text = text;
       head = post_reads host asked (length (compact_text tree)) bytes (compact_text tree) named (subst (λ (n : ℕ). n < 2 ^ 64) size_is small) text;

@@ -20,25 +20,25 @@ or_absent absent f None = Some absent
 or_absent absent f (Some d) = f d
 
 -- a whole number: those of 64 bits are texts of digits
-abbrev pub whole_in : Data → Option ℕ
-whole_in null = None
-whole_in (boolean b) = None
-whole_in (D.number n) = as_u64 n
-whole_in (string s) = whole_of s
-whole_in (array ds) = None
-whole_in (object ms) = None
+abbrev pub whole_number_in : Data → Option ℕ
+whole_number_in null = None
+whole_number_in (boolean b) = None
+whole_number_in (D.number n) = as_u64 n
+whole_number_in (string s) = whole_of s
+whole_number_in (array ds) = None
+whole_number_in (object ms) = None
 
 -- bytes, as a text in base64
-abbrev pub bytes_in : Data → Option (List ℕ)
-bytes_in d = option_and_then (λ text. result_ok (decode_of standard text)) (as_str d)
+abbrev pub base64_bytes_in : Data → Option (List ℕ)
+base64_bytes_in d = option_and_then (λ text. result_ok (decode_of standard text)) (as_str d)
 
 -- a whole number under this name
 abbrev pub whole_at : List ℕ → Data → Option ℕ
-whole_at name d = or_absent 0 whole_in (get name d)
+whole_at name d = or_absent 0 whole_number_in (get name d)
 
 -- bytes under this name
-abbrev pub bytes_at : List ℕ → Data → Option (List ℕ)
-bytes_at name d = or_absent [] bytes_in (get name d)
+abbrev pub bytes_under : List ℕ → Data → Option (List ℕ)
+bytes_under name d = or_absent [] base64_bytes_in (get name d)
 
 -- whether something is true under this name
 abbrev pub flag_at : List ℕ → Data → Option Bool
@@ -49,18 +49,18 @@ abbrev pub revision_in : Data → Option ℕ
 revision_in d = option_and_then (whole_at (codes "revision")) (get (codes "header") d)
 
 -- two readings, one after the other
-abbrev pub both : {A B C : Type 0} → (A → B → C) → Option A → Option B → Option C
-both f None o = None
-both f (Some a) o = option_map (f a) o
+abbrev pub read_both : {A B C : Type 0} → (A → B → C) → Option A → Option B → Option C
+read_both f None o = None
+read_both f (Some a) o = option_map (f a) o
 
 -- three readings, one after the other
 abbrev pub all_three : {A B C E : Type 0} → (A → B → C → E) → Option A → Option B → Option C → Option E
 all_three f None o p = None
-all_three f (Some a) o p = both (f a) o p
+all_three f (Some a) o p = read_both (f a) o p
 
 -- a lease and the seconds after which it ends, which are 0 where it has ended
 abbrev pub lease_in : Data → Option Lease
-lease_in d = both (λ lease seconds. record { number = lease; seconds = seconds }) (whole_at (codes "ID") d) (whole_at (codes "TTL") d)
+lease_in d = read_both (λ lease seconds. record { number = lease; seconds = seconds }) (whole_at (codes "ID") d) (whole_at (codes "TTL") d)
 
 -- the same of an answer to what keeps a lease alive
 abbrev pub kept_in : Data → Option Lease
@@ -94,11 +94,11 @@ abbrev pub is_of_space : ℕ → List ℕ → Bool
 is_of_space code message = code == 8 && bytes_eq message no_space
 
 -- the reason for which a call was refused, by such a number and a message
-abbrev pub refusal_of : ℕ → List ℕ → GatewayRefusal
-refusal_of code message = if is_of_rights code message then Rights else if is_of_space code message then Space else Other
+abbrev pub refusal_by_code : ℕ → List ℕ → GatewayRefusal
+refusal_by_code code message = if is_of_rights code message then Rights else if is_of_space code message then Space else Other
 
 abbrev pub refusal_in : Data → Option GatewayRefusal
-refusal_in d = both refusal_of (option_and_then whole_in (get (codes "code") d)) (text_at (codes "message") d)
+refusal_in d = read_both refusal_by_code (option_and_then whole_number_in (get (codes "code") d)) (text_at (codes "message") d)
 
 -- a key, its value, and the revision at which it was written last
 pub record Pair : Type 0 where
@@ -109,13 +109,13 @@ pub record Pair : Type 0 where
 -- a key with its value, where it was asked for
 abbrev pub pair_in : Data → Option Pair
 pair_in d =
-    all_three (λ key value revision. record { key = key; value = value; revision = revision }) (bytes_at (codes "key") d) (bytes_at (codes "value") d)
+    all_three (λ key value revision. record { key = key; value = value; revision = revision }) (bytes_under (codes "key") d) (bytes_under (codes "value") d)
     (whole_at (codes "mod_revision") d)
 
 -- each of some members, read in turn
-abbrev pub each_in : {A : Type 0} → (Data → Option A) → Items → Option (List A)
-each_in f no_items = Some []
-each_in f (item d ds) = both (λ a rest. a ∷ rest) (f d) (each_in f ds)
+abbrev pub read_each_item : {A : Type 0} → (Data → Option A) → Items → Option (List A)
+read_each_item f no_items = Some []
+read_each_item f (item d ds) = read_both (λ a rest. a ∷ rest) (f d) (read_each_item f ds)
 
 -- the members of an array under this name
 abbrev pub items_at : List ℕ → Data → Option Items
@@ -133,23 +133,23 @@ first_at name d = option_and_then first_of (items_at name d)
 -- the keys that were read in place of changes
 abbrev pub instead_in : Data → Option (List Pair)
 instead_in d =
-    option_and_then (λ range. option_and_then (each_in pair_in) (items_at (codes "kvs") range))
+    option_and_then (λ range. option_and_then (read_each_item pair_in) (items_at (codes "kvs") range))
     (option_and_then (get (codes "response_range")) (first_at (codes "responses") d))
 
 -- whether changes were made, and the keys that were read in their place where they weren't
-pub record Outcome : Type 0 where
+pub record TransactionOutcome : Type 0 where
   pub done : Bool
   pub found : List Pair
 
-abbrev pub refused_with : List Pair → Outcome
+abbrev pub refused_with : List Pair → TransactionOutcome
 refused_with pairs = record { done = false; found = pairs }
 
 -- what is said by whether they were made
-abbrev pub outcome_in : Data → Bool → Option Outcome
+abbrev pub outcome_in : Data → Bool → Option TransactionOutcome
 outcome_in d true = Some (record { done = true; found = [] })
 outcome_in d false = option_map refused_with (instead_in d)
 
-abbrev pub committed_in : Data → Option Outcome
+abbrev pub committed_in : Data → Option TransactionOutcome
 committed_in d = option_and_then (outcome_in d) (flag_at (codes "succeeded") d)
 
 -- the keys that were found, in their order, whether there are more of them, and the revision of the store
@@ -161,7 +161,7 @@ pub record Range : Type 0 where
 -- what an answer to a request for keys says
 abbrev pub range_in : Data → Option Range
 range_in d =
-    all_three (λ pairs more revision. record { pairs = pairs; more = more; revision = revision }) (option_and_then (each_in pair_in) (items_at (codes "kvs") d))
+    all_three (λ pairs more revision. record { pairs = pairs; more = more; revision = revision }) (option_and_then (read_each_item pair_in) (items_at (codes "kvs") d))
     (flag_at (codes "more") d) (revision_in d)
 
 -- what contracts see of a key with its value
@@ -173,5 +173,5 @@ abbrev pub seen_range : Found → Range
 seen_range found = record { pairs = map seen_pair found.pairs.items; more = found.more; revision = found.revision }
 
 -- what contracts see of whether changes were made
-abbrev pub seen_committed : Committed → Outcome
+abbrev pub seen_committed : Committed → TransactionOutcome
 seen_committed committed = record { done = committed.done; found = map seen_pair committed.found.items }

@@ -35,7 +35,7 @@ pub record ArePieces (text : List ℕ) (body : List ℕ) : Type 0 where
   pub body_is : body ≡ flat_map (λ (piece : Piece). piece.bytes) pieces
 
 -- the text is the line of an empty chunk, and fields
-pub record IsLast (text : List ℕ) : Type 0 where
+pub record IsLastChunk (text : List ℕ) : Type 0 where
   pub line : ChunkLine
   pub fields : List Field
   pub end : LineEnd
@@ -47,16 +47,16 @@ pub record IsLast (text : List ℕ) : Type 0 where
 -- the bytes begin with this chunk, or with the last
 abbrev pub BeginsChunk : List ℕ → Chunk → Type 0
 BeginsChunk buf (Bytes bytes size) = (size ≤ length buf) × (piece : Piece) × IsPiece piece × (take size buf ≡ print_piece piece) × (bytes.now ≡ piece.bytes)
-BeginsChunk buf (Last size) = (size ≤ length buf) × IsLast (take size buf)
+BeginsChunk buf (Last size) = (size ≤ length buf) × IsLastChunk (take size buf)
 
 -- the bytes begin with no chunk
 abbrev pub HasNoChunk : List ℕ → Type 0
-HasNoChunk buf = ((piece : Piece) (rest : List ℕ) → IsPiece piece → buf ≢ print_piece piece ++ rest) × ((text : List ℕ) (rest : List ℕ) → IsLast text → buf ≢ text ++ rest)
+HasNoChunk buf = ((piece : Piece) (rest : List ℕ) → IsPiece piece → buf ≢ print_piece piece ++ rest) × ((text : List ℕ) (rest : List ℕ) → IsLastChunk text → buf ≢ text ++ rest)
 
 -- the text is a body that was sent like this
 abbrev pub IsBody : Framing → List ℕ → List ℕ → Type 0
 IsBody (Sized size) text body = (text ≡ body) × (length body ≡ size)
-IsBody Chunked text body = (front : List ℕ) × (back : List ℕ) × (text ≡ front ++ back) × ArePieces front body × IsLast back
+IsBody Chunked text body = (front : List ℕ) × (back : List ℕ) × (text ≡ front ++ back) × ArePieces front body × IsLastChunk back
 
 -- the bytes are a head of this status that says how long the body is, and a text of which this holds
 pub record IsBehindHead (bytes : List ℕ) (status : ℕ) (Holds : Framing → List ℕ → Type 0) : Type 0 where
@@ -70,19 +70,19 @@ pub record IsBehindHead (bytes : List ℕ) (status : ℕ) (Holds : Framing → L
   pub holds : Holds framing text
 
 -- the bytes are an answer of this status with this body
-abbrev pub IsAnswer : List ℕ → ℕ → List ℕ → Type 0
-IsAnswer bytes status body = IsBehindHead bytes status (λ framing text. IsBody framing text body)
+abbrev pub IsHttpAnswer : List ℕ → ℕ → List ℕ → Type 0
+IsHttpAnswer bytes status body = IsBehindHead bytes status (λ framing text. IsBody framing text body)
 
 -- what was read so far: nothing; a head, and all but so many bytes of a body; a head, and chunks; an answer
 abbrev pub has_read : Stage → ℕ → List ℕ → List ℕ → Type 0
 has_read stage.Head status body past = (past ≡ []) × (body ≡ [])
 has_read (stage.Sized left) status body past = IsBehindHead past status (λ framing text. (framing ≡ Sized (length body + left)) × (text ≡ body))
 has_read stage.Chunks status body past = IsBehindHead past status (λ framing text. (framing ≡ Chunked) × ArePieces text body)
-has_read stage.Whole status body past = IsAnswer past status body
+has_read stage.Whole status body past = IsHttpAnswer past status body
 
 -- the reader has read these bytes
-abbrev pub HasRead : AnswerReader → List ℕ → Type 0
-HasRead reader past = has_read reader.stage reader.status reader.body.items past
+abbrev pub HasReadBytes : AnswerReader → List ℕ → Type 0
+HasReadBytes reader past = has_read reader.stage reader.status reader.body.items past
 
 -- the bytes hold nothing to read on: no whole head, no byte of a body of which bytes are to come, no whole chunk
 abbrev pub has_nothing : Stage → List ℕ → Type 0
@@ -96,5 +96,5 @@ abbrev pub HasNothingFor : AnswerReader → List ℕ → Type 0
 HasNothingFor reader bytes = has_nothing reader.stage bytes
 
 -- the answer was read whole
-abbrev pub IsWhole : AnswerReader → Type 0
-IsWhole reader = reader.stage ≡ stage.Whole
+abbrev pub IsReadWhole : AnswerReader → Type 0
+IsReadWhole reader = reader.stage ≡ stage.Whole

@@ -23,9 +23,9 @@ abbrev pub framing_in : ResponseHead → Option Framing
 framing_in head = framing_of (map name_and_value head.fields)
 
 -- what an answer's head says, where it says how long the body is
-abbrev pub head_of : ResponseHead → Option AnswerHead
-head_of head = option_map (λ framing. record { status = status_code head; framing = framing; length = length (print_response head) }) (framing_in head)
+abbrev pub answer_head_of : ResponseHead → Option AnswerHead
+answer_head_of head = option_map (λ framing. record { status = status_code head; framing = framing; length = length (print_response head) }) (framing_in head)
 
 -- the bytes begin with this head, and it has at most 64 fields
-abbrev pub Begins : List ℕ → ResponseHead → Type 0
-Begins bytes head = ((rest : List ℕ) × ReadsResponse bytes head rest) × (length head.fields ≤ 64)
+abbrev pub BeginsWithResponse : List ℕ → ResponseHead → Type 0
+BeginsWithResponse bytes head = ((rest : List ℕ) × ReadsResponse bytes head rest) × (length head.fields ≤ 64)

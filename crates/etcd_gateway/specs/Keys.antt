@@ -5,12 +5,12 @@ use Rattle.std.specs.Char.{is_ascii_alphanumeric}
 use Rattle.canvas_decimals.specs.Decimals.{ten_digits}
 
 -- a letter, a digit, `-`, `.` or `_`
-abbrev pub is_name_byte : ℕ → Bool
-is_name_byte b = is_ascii_alphanumeric b || (b == 45 || (b == 46 || b == 95))
+abbrev pub is_document_name_byte : ℕ → Bool
+is_document_name_byte b = is_ascii_alphanumeric b || (b == 45 || (b == 46 || b == 95))
 
 -- a document's name: 1 to 64 such bytes, the first no `-`
-abbrev pub is_name : List ℕ → Bool
-is_name name = (nat_lt 0 (length name) && (nat_le (length name) 64 && not (starts_with nat_eq name (codes "-")))) && list_all is_name_byte name
+abbrev pub is_document_name : List ℕ → Bool
+is_document_name name = (nat_lt 0 (length name) && (nat_le (length name) 64 && not (starts_with nat_eq name (codes "-")))) && list_all is_document_name_byte name
 
 -- what the keys of a document begin with
 abbrev pub document_keys : List ℕ → List ℕ

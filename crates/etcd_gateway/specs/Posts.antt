@@ -11,28 +11,28 @@ use Rattle.etcd_gateway.specs.declared.posts.GatewayCall.{GatewayCall}
 use Rattle.etcd_gateway.specs.declared.posts.GatewayCall.TheVariants as call
 
 -- where each call is asked
-abbrev pub path_of : GatewayCall → List ℕ
-path_of call.Range = codes "/v3/kv/range"
-path_of call.Commit = codes "/v3/kv/txn"
-path_of call.Grant = codes "/v3/lease/grant"
-path_of call.KeepAlive = codes "/v3/lease/keepalive"
-path_of call.Revoke = codes "/v3/lease/revoke"
+abbrev pub call_path : GatewayCall → List ℕ
+call_path call.Range = codes "/v3/kv/range"
+call_path call.Commit = codes "/v3/kv/txn"
+call_path call.Grant = codes "/v3/lease/grant"
+call_path call.KeepAlive = codes "/v3/lease/keepalive"
+call_path call.Revoke = codes "/v3/lease/revoke"
 
 -- a head: what is asked of which host, and how long a JSON text follows
-abbrev pub head_text : List ℕ → GatewayCall → ℕ → List ℕ
-head_text host asked size =
-    codes "POST " ++ path_of asked ++ codes " HTTP/1.1" ++ crlf_bytes
+abbrev pub post_head_text : List ℕ → GatewayCall → ℕ → List ℕ
+post_head_text host asked size =
+    codes "POST " ++ call_path asked ++ codes " HTTP/1.1" ++ crlf_bytes
     ++ field_line (codes "Host") host
     ++ field_line (codes "Content-Type") (codes "application/json")
     ++ field_line (codes "Content-Length") (decimal size)
     ++ crlf_bytes
 
 -- the same head as one of HTTP's grammar
-abbrev pub request_of : List ℕ → GatewayCall → ℕ → RequestHead
-request_of host asked size = record {
+abbrev pub post_head : List ℕ → GatewayCall → ℕ → RequestHead
+post_head host asked size = record {
   blank = [];
   method = codes "POST";
-  target = path_of asked;
+  target = call_path asked;
   minor = 1;
   line_end = crlf;
   fields = field (codes "Host") host ∷ field (codes "Content-Type") (codes "application/json") ∷ field (codes "Content-Length") (decimal size) ∷ [];
@@ -40,7 +40,7 @@ request_of host asked size = record {
 }
 
 -- the bytes ask this: a head, and behind it the tree's JSON text, with no blank outside its texts, which reads as the tree again
-pub record Asks (bytes : List ℕ) (host : List ℕ) (asked : GatewayCall) (tree : Data) : Type 0 where
-  pub text : bytes ≡ head_text host asked (length (compact_text tree)) ++ compact_text tree
-  pub head : ReadsRequest bytes (request_of host asked (length (compact_text tree))) (compact_text tree)
+pub record SpellsPost (bytes : List ℕ) (host : List ℕ) (asked : GatewayCall) (tree : Data) : Type 0 where
+  pub text : bytes ≡ post_head_text host asked (length (compact_text tree)) ++ compact_text tree
+  pub head : ReadsRequest bytes (post_head host asked (length (compact_text tree))) (compact_text tree)
   pub reads_back : read (compact_text tree) ≡ Some tree

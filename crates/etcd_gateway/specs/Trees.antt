@@ -16,14 +16,14 @@ abbrev pub base64_text : List ℕ → Data
 base64_text bytes = string (encode_of standard bytes)
 
 -- a whole number
-abbrev pub whole : ℕ → Data
-whole n = number (unsigned n)
+abbrev pub whole_number : ℕ → Data
+whole_number n = number (unsigned n)
 
 -- what stands under a name
 abbrev pub leaf_tree : Leaf → Data
 leaf_tree (Bytes bytes) = base64_text bytes.now
 leaf_tree (Text text) = string text.now
-leaf_tree (Whole n) = whole n
+leaf_tree (Whole n) = whole_number n
 leaf_tree (Flag b) = boolean b
 
 -- the keys from one on up to another, which isn't one of them, with their values or without, at most so many where the limit isn't 0, and as they
@@ -32,15 +32,15 @@ abbrev pub range_tree : List ℕ → List ℕ → ℕ → Bool → ℕ → Data
 range_tree from to limit keys_only revision =
     object (member (codes "key") (base64_text from)
     (member (codes "keys_only") (boolean keys_only)
-    (member (codes "limit") (whole limit)
+    (member (codes "limit") (whole_number limit)
     (member (codes "range_end") (base64_text to)
-    (member (codes "revision") (whole revision) no_members)))))
+    (member (codes "revision") (whole_number revision) no_members)))))
 
 -- that a key isn't there: it was written last at revision 0
 abbrev pub absent_tree : List ℕ → Data
 absent_tree key =
     object (member (codes "key") (base64_text key)
-    (member (codes "mod_revision") (whole 0)
+    (member (codes "mod_revision") (whole_number 0)
     (member (codes "result") (string (codes "EQUAL"))
     (member (codes "target") (string (codes "MOD")) no_members))))
 
@@ -66,7 +66,7 @@ abbrev pub put_tree : List ℕ → List ℕ → ℕ → Data
 put_tree key value lease =
     object (member (codes "request_put")
     (object (member (codes "key") (base64_text key)
-    (member (codes "lease") (whole lease)
+    (member (codes "lease") (whole_number lease)
     (member (codes "value") (base64_text value) no_members)))) no_members)
 
 -- that keys go, from one on up to another, which isn't one of them
@@ -94,8 +94,8 @@ commit_tree key expected changes =
 
 -- a new lease of so many seconds, whose number etcd chooses
 abbrev pub grant_tree : ℕ → Data
-grant_tree seconds = object (member (codes "TTL") (whole seconds) no_members)
+grant_tree seconds = object (member (codes "TTL") (whole_number seconds) no_members)
 
 -- a lease, by its number
 abbrev pub lease_tree : ℕ → Data
-lease_tree lease = object (member (codes "ID") (whole lease) no_members)
+lease_tree lease = object (member (codes "ID") (whole_number lease) no_members)

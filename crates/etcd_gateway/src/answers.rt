@@ -4,8 +4,8 @@ ghost use Rattle.std.specs.Result.{result_ok};
 ghost use Rattle.base64.specs.Engines.{standard};
 ghost use Rattle.base64.specs.GeneralPurpose.{decode_of};
 ghost use Rattle.serde_json.specs.View.{items_view, view};
-ghost use Rattle.etcd_gateway.specs.Answers.{bytes_at, bytes_in, committed_in, each_in, first_at, flag_at, granted_in, instead_in, is_of_rights, is_of_space, items_at, kept_in, lease_in, no_space, no_user, pair_in, range_in, refusal_in, refusal_of, revision_in, seen_committed, seen_pair, seen_range, text_at, whole_at, whole_in};
-ghost use Rattle.etcd_gateway.specs.Faults.{IsAnswerError, IsJson, IsNotJson, IsUnread, Spells};
+ghost use Rattle.etcd_gateway.specs.Answers.{bytes_under, base64_bytes_in, committed_in, read_each_item, first_at, flag_at, granted_in, instead_in, is_of_rights, is_of_space, items_at, kept_in, lease_in, no_space, no_user, pair_in, range_in, refusal_in, refusal_by_code, revision_in, seen_committed, seen_pair, seen_range, text_at, whole_at, whole_number_in};
+ghost use Rattle.etcd_gateway.specs.Faults.{IsAnswerError, IsJsonTextOf, IsNotJsonText, IsNothingRead, SpellsInJson};
 
 use crate::error::GatewayError;
 use base64::DecodeAllocError;
@@ -70,7 +70,7 @@ pub struct Found {
 /// `NotJson` where it isn't JSON, `NotAnAnswer` where its tree is no answer to a request for keys. `Memory` can be answered in place of each
 /// of these.
 pub fn read_found(alloc: Global, body: &[u8]) -> Result<Found, GatewayError>
-    ensures ok { IfOk result (λ found. Spells range_in body.now (seen_range found)) }
+    ensures ok { IfOk result (λ found. SpellsInJson range_in body.now (seen_range found)) }
     ensures fault { IfErr result (IsAnswerError range_in body.now) }
 {
     let json = parse(alloc, body)?;
@@ -82,7 +82,7 @@ pub fn read_found(alloc: Global, body: &[u8]) -> Result<Found, GatewayError>
 /// `NotJson` where it isn't JSON, `NotAnAnswer` where its tree is no answer to a request for changes. `Memory` can be answered in place of
 /// each of these.
 pub fn read_committed(alloc: Global, body: &[u8]) -> Result<Committed, GatewayError>
-    ensures ok { IfOk result (λ committed. Spells committed_in body.now (seen_committed committed)) }
+    ensures ok { IfOk result (λ committed. SpellsInJson committed_in body.now (seen_committed committed)) }
     ensures fault { IfErr result (IsAnswerError committed_in body.now) }
 {
     let json = parse(alloc, body)?;
@@ -94,7 +94,7 @@ pub fn read_committed(alloc: Global, body: &[u8]) -> Result<Committed, GatewayEr
 /// `NotJson` where it isn't JSON, `NotAnAnswer` where its tree is no answer to a request for a lease, or names no lease. `Memory` can be
 /// answered in place of each of these.
 pub fn read_granted(alloc: Global, body: &[u8]) -> Result<Lease, GatewayError>
-    ensures ok { IfOk result (Spells granted_in body.now) }
+    ensures ok { IfOk result (SpellsInJson granted_in body.now) }
     ensures fault { IfErr result (IsAnswerError granted_in body.now) }
 {
     let json = parse(alloc, body)?;
@@ -106,7 +106,7 @@ pub fn read_granted(alloc: Global, body: &[u8]) -> Result<Lease, GatewayError>
 /// `NotJson` where it isn't JSON, `NotAnAnswer` where its tree is no answer to a request that a lease goes on. `Memory` can be answered in
 /// place of each of these.
 pub fn read_kept(alloc: Global, body: &[u8]) -> Result<Lease, GatewayError>
-    ensures ok { IfOk result (Spells kept_in body.now) }
+    ensures ok { IfOk result (SpellsInJson kept_in body.now) }
     ensures fault { IfErr result (IsAnswerError kept_in body.now) }
 {
     let json = parse(alloc, body)?;
@@ -118,7 +118,7 @@ pub fn read_kept(alloc: Global, body: &[u8]) -> Result<Lease, GatewayError>
 /// `NotJson` where it isn't JSON, `NotAnAnswer` where it has no number of gRPC's for the reason, or a message that is no text. `Memory` can be
 /// answered in place of each of these.
 pub fn read_refused(alloc: Global, body: &[u8]) -> Result<GatewayRefusal, GatewayError>
-    ensures ok { IfOk result (Spells refusal_in body.now) }
+    ensures ok { IfOk result (SpellsInJson refusal_in body.now) }
     ensures fault { IfErr result (IsAnswerError refusal_in body.now) }
 {
     let json = parse(alloc, body)?;
@@ -127,8 +127,8 @@ pub fn read_refused(alloc: Global, body: &[u8]) -> Result<GatewayRefusal, Gatewa
 
 // The tree of which the bytes are JSON.
 fn parse(alloc: Global, bytes: &[u8]) -> Result<Json, GatewayError>
-    ensures ok { IfOk result (λ j. IsJson bytes.now (view j)) }
-    ensures fault { IfErr result (IsNotJson bytes.now) }
+    ensures ok { IfOk result (λ j. IsJsonTextOf bytes.now (view j)) }
+    ensures fault { IfErr result (IsNotJsonText bytes.now) }
 {
     match Json::from_slice(alloc, bytes) {
         Ok(json) => Ok(json),
@@ -143,7 +143,7 @@ fn parse(alloc: Global, bytes: &[u8]) -> Result<Json, GatewayError>
 // Whether changes were made, by a tree.
 fn committed_in(alloc: Global, json: &Json) -> Result<Committed, GatewayError>
     ensures ok { IfOk result (λ committed. committed_in (view json.now) ≡ Some (seen_committed committed)) }
-    ensures fault { IfErr result (IsUnread (committed_in (view json.now))) }
+    ensures fault { IfErr result (IsNothingRead (committed_in (view json.now))) }
 {
     match flag_at(json, "succeeded") {
         None => Err(GatewayError::NotAnAnswer),
@@ -161,7 +161,7 @@ fn committed_in(alloc: Global, json: &Json) -> Result<Committed, GatewayError>
 // The keys that were read in place of changes, by a tree.
 fn instead_in(alloc: Global, json: &Json) -> Result<Vec<KeyValue>, GatewayError>
     ensures ok { IfOk result (λ pairs. instead_in (view json.now) ≡ Some (map seen_pair pairs.items)) }
-    ensures fault { IfErr result (IsUnread (instead_in (view json.now))) }
+    ensures fault { IfErr result (IsNothingRead (instead_in (view json.now))) }
 {
     let Some(answer) = first_at(json, "responses") else {
         return Err(GatewayError::NotAnAnswer);
@@ -220,7 +220,7 @@ fn refusal_in(json: &Json) -> Option<GatewayRefusal>
 
 // The reason that has this number and this message.
 fn refusal_of(code: u64, message: &str) -> GatewayRefusal
-    ensures { result ≡ refusal_of code message.now }
+    ensures { result ≡ refusal_by_code code message.now }
 {
     if is_of_rights(code, message) {
         GatewayRefusal::Rights
@@ -282,7 +282,7 @@ fn revision_in(json: &Json) -> Option<u64>
 // What was found, by a tree.
 fn found_in(alloc: Global, json: &Json) -> Result<Found, GatewayError>
     ensures ok { IfOk result (λ found. range_in (view json.now) ≡ Some (seen_range found)) }
-    ensures fault { IfErr result (IsUnread (range_in (view json.now))) }
+    ensures fault { IfErr result (IsNothingRead (range_in (view json.now))) }
 {
     let Some(items) = items_at(json, "kvs") else {
         return Err(GatewayError::NotAnAnswer);
@@ -303,8 +303,8 @@ fn found_in(alloc: Global, json: &Json) -> Result<Found, GatewayError>
 
 // Keys with their values, by the members of an array.
 fn pairs_in(alloc: Global, items: &[Json]) -> Result<Vec<KeyValue>, GatewayError>
-    ensures ok { IfOk result (λ pairs. each_in pair_in (items_view items.now) ≡ Some (map seen_pair pairs.items)) }
-    ensures fault { IfErr result (IsUnread (each_in pair_in (items_view items.now))) }
+    ensures ok { IfOk result (λ pairs. read_each_item pair_in (items_view items.now) ≡ Some (map seen_pair pairs.items)) }
+    ensures fault { IfErr result (IsNothingRead (read_each_item pair_in (items_view items.now))) }
 {
     let mut pairs = Vec::with_capacity(alloc, items.len())?;
     for item in items {
@@ -320,7 +320,7 @@ fn pairs_in(alloc: Global, items: &[Json]) -> Result<Vec<KeyValue>, GatewayError
 // A key with its value, by a tree.
 fn pair_in(alloc: Global, json: &Json) -> Result<KeyValue, GatewayError>
     ensures ok { IfOk result (λ pair. pair_in (view json.now) ≡ Some (seen_pair pair)) }
-    ensures fault { IfErr result (IsUnread (pair_in (view json.now))) }
+    ensures fault { IfErr result (IsNothingRead (pair_in (view json.now))) }
 {
     let key = match bytes_at(alloc, json, "key") {
         Ok(key) => key,
@@ -353,8 +353,8 @@ fn items_at<'a>(json: &'a Json, name: &str) -> Option<&'a [Json]>
 
 // Bytes under this name.
 fn bytes_at(alloc: Global, json: &Json, name: &str) -> Result<Vec<u8>, GatewayError>
-    ensures ok { IfOk result (λ bytes. bytes_at name.now (view json.now) ≡ Some bytes.items) }
-    ensures fault { IfErr result (IsUnread (bytes_at name.now (view json.now))) }
+    ensures ok { IfOk result (λ bytes. bytes_under name.now (view json.now) ≡ Some bytes.items) }
+    ensures fault { IfErr result (IsNothingRead (bytes_under name.now (view json.now))) }
 {
     match json.get(name) {
         None => Ok(Vec::new(alloc)),
@@ -364,8 +364,8 @@ fn bytes_at(alloc: Global, json: &Json, name: &str) -> Result<Vec<u8>, GatewayEr
 
 // Bytes, by a tree.
 fn bytes_in(alloc: Global, json: &Json) -> Result<Vec<u8>, GatewayError>
-    ensures ok { IfOk result (λ bytes. bytes_in (view json.now) ≡ Some bytes.items) }
-    ensures fault { IfErr result (IsUnread (bytes_in (view json.now))) }
+    ensures ok { IfOk result (λ bytes. base64_bytes_in (view json.now) ≡ Some bytes.items) }
+    ensures fault { IfErr result (IsNothingRead (base64_bytes_in (view json.now))) }
 {
     let Some(text) = json.as_str() else {
         return Err(GatewayError::NotAnAnswer);
@@ -399,7 +399,7 @@ fn whole_at(json: &Json, name: &str) -> Option<u64>
 
 // A whole number, by a tree.
 fn whole_in(json: &Json) -> Option<u64>
-    ensures { result ≡ whole_in (view json.now) }
+    ensures { result ≡ whole_number_in (view json.now) }
 {
     match json {
         Json::Number(number) => number.as_u64(),

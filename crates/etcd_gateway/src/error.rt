@@ -23,9 +23,9 @@ pub enum GatewayError {
 }
 
 impl From<AllocError> for GatewayError {
-    ghost use Rattle.etcd_gateway.specs.Faults.{IsMemory};
+    ghost use Rattle.etcd_gateway.specs.Faults.{IsOutOfMemory};
 
-    ghost from_gives = { λ _ e. IsMemory e };
+    ghost from_gives = { λ _ e. IsOutOfMemory e };
 
     fn from(_error: AllocError) -> GatewayError {
         GatewayError::Memory
@@ -33,9 +33,9 @@ impl From<AllocError> for GatewayError {
 }
 
 impl<T: Drop> From<AllocFailed<T>> for GatewayError {
-    ghost use Rattle.etcd_gateway.specs.Faults.{IsMemory};
+    ghost use Rattle.etcd_gateway.specs.Faults.{IsOutOfMemory};
 
-    ghost from_gives = { λ _ e. IsMemory e };
+    ghost from_gives = { λ _ e. IsOutOfMemory e };
 
     fn from(_error: AllocFailed<T>) -> GatewayError {
         GatewayError::Memory

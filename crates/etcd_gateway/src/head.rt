@@ -3,7 +3,7 @@ ghost use Rattle.std.specs.Prelude.{◌≡◌, All, IfNone, IfOk, IfSome, length
 ghost use Rattle.httparse.specs.Grammar.{HasNoResponse, ResponseHead};
 ghost use Rattle.httparse.specs.Spans.{IsHeaderWithin};
 ghost use Rattle.net_heads.specs.Fields.{seen_fields};
-ghost use Rattle.etcd_gateway.specs.Heads.{Begins, framing_of, head_of};
+ghost use Rattle.etcd_gateway.specs.Heads.{BeginsWithResponse, framing_of, answer_head_of};
 
 use crate::error::GatewayError;
 use canvas_decimals::whole_of;
@@ -38,8 +38,8 @@ pub(crate) struct AnswerHead {
 // it isn't after 16384 bytes.
 pub(crate) fn read_head(bytes: &[u8]) -> Result<Option<AnswerHead>, GatewayError>
     // A head is found exactly if the bytes begin with one of at most 64 fields that says how long the body is.
-    ensures found { (head : ResponseHead) (said : AnswerHead) → Begins bytes.now head → head_of head ≡ Some said → result ≡ Ok (Some said) }
-    ensures some { IfOk result (λ found. IfSome found (λ said. (head : ResponseHead) × Begins bytes.now head × (head_of head ≡ Some said))) }
+    ensures found { (head : ResponseHead) (said : AnswerHead) → BeginsWithResponse bytes.now head → answer_head_of head ≡ Some said → result ≡ Ok (Some said) }
+    ensures some { IfOk result (λ found. IfSome found (λ said. (head : ResponseHead) × BeginsWithResponse bytes.now head × (answer_head_of head ≡ Some said))) }
     ensures none { IfOk result (λ found. IfNone found (HasNoResponse bytes.now)) }
 {
     let mut spans = [EMPTY_HEADER_SPAN; 64];

@@ -1,7 +1,7 @@
 // Hosts as requests name them.
 ghost use Rattle.std.specs.Prelude.{◌≡◌, ◌↔◌, IfOk, IfSome, IsSome, map, string_bytes, true};
 ghost use Rattle.std.specs.List.{list_all};
-ghost use Rattle.etcd_gateway.specs.Hosts.{IsUrlOf, WithSlash, is_host, is_host_byte};
+ghost use Rattle.etcd_gateway.specs.Hosts.{IsUrlOf, WithSlash, is_host, is_url_host_byte};
 
 use std::alloc::{AllocError, Global};
 
@@ -90,14 +90,14 @@ fn is_host(text: &[u8]) -> bool
 
 // Checks whether each byte may stand in a host.
 fn are_host_bytes(text: &[u8]) -> bool
-    ensures { result ≡ list_all is_host_byte text.now }
+    ensures { result ≡ list_all is_url_host_byte text.now }
 {
     text.iter().all(|b| is_host_byte(*b))
 }
 
 // Checks whether the byte may stand in a host.
 fn is_host_byte(b: u8) -> bool
-    ensures { result ≡ is_host_byte b }
+    ensures { result ≡ is_url_host_byte b }
 {
     b.is_ascii_alphanumeric() || matches!(b, b'-' | b'.' | b':' | b'[' | b']')
 }

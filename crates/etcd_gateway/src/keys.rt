@@ -1,7 +1,7 @@
 // The keys of a document in the store.
 ghost use Rattle.std.specs.Prelude.{◌≡◌, ◌≢◌, ◌^◌, ◌<◌, ◌++◌, ℕ, [], List, codes, length, IfOk, IfSome, IfNone};
 ghost use Rattle.std.specs.List.{fold, list_all};
-ghost use Rattle.etcd_gateway.specs.Keys.{EachKeyIsOneChunk, chunk_key, end_key, first_behind, first_below, identity_key, is_name, is_name_byte, owner_key, segment_key, segments_key};
+ghost use Rattle.etcd_gateway.specs.Keys.{EachKeyIsOneChunk, chunk_key, end_key, first_behind, first_below, identity_key, is_document_name, is_document_name_byte, owner_key, segment_key, segments_key};
 ghost use Rattle.canvas_decimals.specs.Decimals.{ten_digits};
 
 use canvas_decimals::{read_ten_digits, ten_digits};
@@ -34,21 +34,21 @@ pub struct ChunkPlace {
 /// Checks whether a document may have this name in the store: 1 to 64 bytes, each a letter or digit of ASCII, `-`, `.` or `_`, and the
 /// first no `-`. So no document's keys lie among another's, and no name is taken for an option.
 pub fn is_name(name: &[u8]) -> bool
-    ensures { result ≡ is_name name.now }
+    ensures { result ≡ is_document_name name.now }
 {
     !name.is_empty() && name.len() <= 64 && !name.starts_with(b"-") && are_name_bytes(name)
 }
 
 // Checks whether each byte may stand in a name.
 fn are_name_bytes(name: &[u8]) -> bool
-    ensures { result ≡ list_all is_name_byte name.now }
+    ensures { result ≡ list_all is_document_name_byte name.now }
 {
     name.iter().all(|b| is_name_byte(*b))
 }
 
 // Checks whether the byte may stand in a name.
 fn is_name_byte(b: u8) -> bool
-    ensures { result ≡ is_name_byte b }
+    ensures { result ≡ is_document_name_byte b }
 {
     b.is_ascii_alphanumeric() || b == b'-' || b == b'.' || b == b'_'
 }

@@ -4,7 +4,7 @@ ghost use Rattle.serde_json.specs.Data.{depth};
 ghost use Rattle.serde_json.specs.Read.{max_depth};
 ghost use Rattle.serde_json.specs.View.{view};
 ghost use Rattle.serde_json.specs.Written.{has_float};
-ghost use Rattle.etcd_gateway.specs.Posts.{Asks, head_text, path_of};
+ghost use Rattle.etcd_gateway.specs.Posts.{SpellsPost, post_head_text, call_path};
 
 use crate::host::Host;
 use serde_json::Value as Json;
@@ -28,7 +28,7 @@ pub enum GatewayCall {
 impl GatewayCall {
     // Where it is asked.
     fn path(self) -> &'static str
-        ensures { result.now ≡ path_of self }
+        ensures { result.now ≡ call_path self }
     {
         match self {
             GatewayCall::Range => "/v3/kv/range",
@@ -49,7 +49,7 @@ pub(crate) fn post_tree(
 ) -> Result<Vec<u8>, AllocError>
     requires whole { has_float (view tree) ≡ false }
     requires shallow { depth (view tree) ≤ max_depth }
-    ensures { IfOk result (λ bytes. Asks bytes.items (string_bytes host.now.text) asked (view tree)) }
+    ensures { IfOk result (λ bytes. SpellsPost bytes.items (string_bytes host.now.text) asked (view tree)) }
 {
     post(alloc, host, asked, &tree)
 }
@@ -58,7 +58,7 @@ pub(crate) fn post_tree(
 fn post(alloc: Global, host: &Host, asked: GatewayCall, tree: &Json) -> Result<Vec<u8>, AllocError>
     requires whole { has_float (view tree.now) ≡ false }
     requires shallow { depth (view tree.now) ≤ max_depth }
-    ensures { IfOk result (λ bytes. Asks bytes.items (string_bytes host.now.text) asked (view tree.now)) }
+    ensures { IfOk result (λ bytes. SpellsPost bytes.items (string_bytes host.now.text) asked (view tree.now)) }
 {
     let body = tree.to_vec(alloc)?;
     let head = head_text(alloc, host, asked, body.len())?;
@@ -74,7 +74,7 @@ fn head_text(
     asked: GatewayCall,
     length: usize,
 ) -> Result<String, AllocError>
-    ensures { IfOk result (λ head. string_bytes head ≡ head_text (string_bytes host.now.text) asked length) }
+    ensures { IfOk result (λ head. string_bytes head ≡ post_head_text (string_bytes host.now.text) asked length) }
 {
     let path = asked.path();
     let host = host.text.as_str();

@@ -1,6 +1,6 @@
 // Answers, read as they come.
 ghost use Rattle.std.specs.Prelude.{◌≡◌, ◌≤◌, ◌++◌, ◌↔◌, ℕ, [], List, IfOk, IfSome, IsTrue, IsSome, Ok, length, take};
-ghost use Rattle.etcd_gateway.specs.Bodies.{HasNothingFor, HasRead, IsAnswer, IsBehindHead, IsWhole, has_read};
+ghost use Rattle.etcd_gateway.specs.Bodies.{HasNothingFor, HasReadBytes, IsHttpAnswer, IsBehindHead, IsReadWhole, has_read};
 ghost use Rattle.etcd_gateway.specs.declared.reader.Stage.TheVariants.{Sized};
 
 use crate::chunk::{Chunk, read_chunk};
@@ -42,7 +42,7 @@ pub struct Answer {
 impl AnswerReader {
     /// Nothing is read yet, of an answer whose body has at most `limit` bytes. Takes no memory.
     pub fn new(alloc: Global, limit: u64) -> Self
-        ensures { HasRead result [] }
+        ensures { HasReadBytes result [] }
     {
         AnswerReader {
             stage: Stage::Head,
@@ -61,7 +61,7 @@ impl AnswerReader {
     /// reader is of no use.
     pub fn take(&mut self, bytes: &[u8]) -> Result<usize, GatewayError>
         // What was read so far and what was taken now are what is read from now on.
-        ensures read { IfOk result (λ count. (past : List ℕ) → HasRead self.old past → HasRead self.new (past ++ take count bytes.now)) }
+        ensures read { IfOk result (λ count. (past : List ℕ) → HasReadBytes self.old past → HasReadBytes self.new (past ++ take count bytes.now)) }
         ensures within { IfOk result (λ count. count ≤ length bytes.now) }
         ensures nothing { result ≡ Ok 0 → HasNothingFor self.old bytes.now }
     {
@@ -76,7 +76,7 @@ impl AnswerReader {
     // Reads the head.
     fn take_head(&mut self, bytes: &[u8]) -> Result<usize, GatewayError>
         requires { self.old.stage ≡ Stage.Head }
-        ensures read { IfOk result (λ count. (past : List ℕ) → HasRead self.old past → HasRead self.new (past ++ take count bytes.now)) }
+        ensures read { IfOk result (λ count. (past : List ℕ) → HasReadBytes self.old past → HasReadBytes self.new (past ++ take count bytes.now)) }
         ensures within { IfOk result (λ count. count ≤ length bytes.now) }
         ensures nothing { result ≡ Ok 0 → HasNothingFor self.old bytes.now }
     {
@@ -91,7 +91,7 @@ impl AnswerReader {
     // Reads on in the body.
     fn take_body(&mut self, left: u64, bytes: &[u8]) -> Result<usize, GatewayError>
         requires { self.old.stage ≡ Stage.Sized left }
-        ensures read { IfOk result (λ count. (past : List ℕ) → HasRead self.old past → HasRead self.new (past ++ take count bytes.now)) }
+        ensures read { IfOk result (λ count. (past : List ℕ) → HasReadBytes self.old past → HasReadBytes self.new (past ++ take count bytes.now)) }
         ensures within { IfOk result (λ count. count ≤ length bytes.now) }
         ensures nothing { result ≡ Ok 0 → HasNothingFor self.old bytes.now }
     {
@@ -104,7 +104,7 @@ impl AnswerReader {
     // Reads a chunk.
     fn take_chunk(&mut self, bytes: &[u8]) -> Result<usize, GatewayError>
         requires { self.old.stage ≡ Stage.Chunks }
-        ensures read { IfOk result (λ count. (past : List ℕ) → HasRead self.old past → HasRead self.new (past ++ take count bytes.now)) }
+        ensures read { IfOk result (λ count. (past : List ℕ) → HasReadBytes self.old past → HasReadBytes self.new (past ++ take count bytes.now)) }
         ensures within { IfOk result (λ count. count ≤ length bytes.now) }
         ensures nothing { result ≡ Ok 0 → HasNothingFor self.old bytes.now }
     {
@@ -124,8 +124,8 @@ impl AnswerReader {
 
     /// The answer, where it is whole.
     pub fn into_answer(self) -> Option<Answer>
-        ensures answer { IfSome result (λ answer. (past : List ℕ) → HasRead self past → IsAnswer past answer.status answer.body.items) }
-        ensures whole { IsSome result ↔ IsWhole self }
+        ensures answer { IfSome result (λ answer. (past : List ℕ) → HasReadBytes self past → IsHttpAnswer past answer.status answer.body.items) }
+        ensures whole { IsSome result ↔ IsReadWhole self }
     {
         match self.stage {
             Stage::Whole => Some(Answer {
@@ -138,7 +138,7 @@ impl AnswerReader {
 
     /// Checks whether the answer is whole.
     pub fn is_whole(&self) -> bool
-        ensures { IsTrue result ↔ IsWhole self.now }
+        ensures { IsTrue result ↔ IsReadWhole self.now }
     {
         self.stage == Stage::Whole
     }

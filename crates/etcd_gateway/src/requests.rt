@@ -3,7 +3,7 @@ ghost use Rattle.std.specs.Prelude.{◌≡◌, ◌++◌, ◌∷◌, [], IfOk, On
 ghost use Rattle.std.specs.List.{fold};
 ghost use Rattle.serde_json.specs.Data.{array, item, member, no_items, no_members, object, put};
 ghost use Rattle.serde_json.specs.View.{members_view, view};
-ghost use Rattle.etcd_gateway.specs.Posts.{Asks};
+ghost use Rattle.etcd_gateway.specs.Posts.{SpellsPost};
 ghost use Rattle.etcd_gateway.specs.Trees.{absent_tree, base64_text, change_items, change_tree, commit_tree, compare_tree, equal_tree, grant_tree, lease_tree, leaf_tree, put_tree, range_tree, read_tree, remove_tree};
 
 use crate::host::Host;
@@ -50,7 +50,7 @@ pub fn ask_range(
     keys_only: bool,
     revision: u64,
 ) -> Result<Vec<u8>, AllocError>
-    ensures { IfOk result (λ bytes. Asks bytes.items (string_bytes host.now.text) GatewayCall.Range (range_tree keys.now.from.items keys.now.to.items limit keys_only revision)) }
+    ensures { IfOk result (λ bytes. SpellsPost bytes.items (string_bytes host.now.text) GatewayCall.Range (range_tree keys.now.from.items keys.now.to.items limit keys_only revision)) }
 {
     let tree = range_tree(alloc, keys, limit, keys_only, revision)?;
     post_tree(alloc, host, GatewayCall::Range, tree)
@@ -67,7 +67,7 @@ pub fn ask_commit(
     expected: Expected<'_>,
     changes: &[KeyChange<'_>],
 ) -> Result<Vec<u8>, AllocError>
-    ensures { IfOk result (λ bytes. Asks bytes.items (string_bytes host.now.text) GatewayCall.Commit (commit_tree key.now expected.entry changes.now)) }
+    ensures { IfOk result (λ bytes. SpellsPost bytes.items (string_bytes host.now.text) GatewayCall.Commit (commit_tree key.now expected.entry changes.now)) }
 {
     let tree = commit_tree(alloc, key, expected, changes)?;
     post_tree(alloc, host, GatewayCall::Commit, tree)
@@ -77,7 +77,7 @@ pub fn ask_commit(
 ///
 /// Errors: out of memory.
 pub fn ask_grant(alloc: Global, host: &Host, seconds: u64) -> Result<Vec<u8>, AllocError>
-    ensures { IfOk result (λ bytes. Asks bytes.items (string_bytes host.now.text) GatewayCall.Grant (grant_tree seconds)) }
+    ensures { IfOk result (λ bytes. SpellsPost bytes.items (string_bytes host.now.text) GatewayCall.Grant (grant_tree seconds)) }
 {
     let tree = grant_tree(alloc, seconds)?;
     post_tree(alloc, host, GatewayCall::Grant, tree)
@@ -87,7 +87,7 @@ pub fn ask_grant(alloc: Global, host: &Host, seconds: u64) -> Result<Vec<u8>, Al
 ///
 /// Errors: out of memory.
 pub fn ask_keep_alive(alloc: Global, host: &Host, lease: u64) -> Result<Vec<u8>, AllocError>
-    ensures { IfOk result (λ bytes. Asks bytes.items (string_bytes host.now.text) GatewayCall.KeepAlive (lease_tree lease)) }
+    ensures { IfOk result (λ bytes. SpellsPost bytes.items (string_bytes host.now.text) GatewayCall.KeepAlive (lease_tree lease)) }
 {
     let tree = lease_tree(alloc, lease)?;
     post_tree(alloc, host, GatewayCall::KeepAlive, tree)
@@ -97,7 +97,7 @@ pub fn ask_keep_alive(alloc: Global, host: &Host, lease: u64) -> Result<Vec<u8>,
 ///
 /// Errors: out of memory.
 pub fn ask_revoke(alloc: Global, host: &Host, lease: u64) -> Result<Vec<u8>, AllocError>
-    ensures { IfOk result (λ bytes. Asks bytes.items (string_bytes host.now.text) GatewayCall.Revoke (lease_tree lease)) }
+    ensures { IfOk result (λ bytes. SpellsPost bytes.items (string_bytes host.now.text) GatewayCall.Revoke (lease_tree lease)) }
 {
     let tree = lease_tree(alloc, lease)?;
     post_tree(alloc, host, GatewayCall::Revoke, tree)

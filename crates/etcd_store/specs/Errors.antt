@@ -6,21 +6,21 @@ use Rattle.etcd_store.specs.declared.error.StoreError.{StoreError}
 use Rattle.etcd_store.specs.declared.error.StoreError.TheVariants.{Unreachable, Unanswered, Refused, TlsWanted, NoSpace, Damaged, Lost, Memory}
 
 -- the number of an error, from 1, in the order of refusal
-abbrev pub code_of : StoreError → ℕ
-code_of Unreachable = 1
-code_of Unanswered = 2
-code_of Refused = 3
-code_of TlsWanted = 4
-code_of NoSpace = 5
-code_of Damaged = 6
-code_of Lost = 7
-code_of Memory = 8
+abbrev pub error_code : StoreError → ℕ
+error_code Unreachable = 1
+error_code Unanswered = 2
+error_code Refused = 3
+error_code TlsWanted = 4
+error_code NoSpace = 5
+error_code Damaged = 6
+error_code Lost = 7
+error_code Memory = 8
 
 -- the error that a refusal is
-abbrev pub error_of : GatewayRefusal → StoreError
-error_of Rights = Refused
-error_of Space = NoSpace
-error_of Other = Unanswered
+abbrev pub error_of_refusal : GatewayRefusal → StoreError
+error_of_refusal Rights = Refused
+error_of_refusal Space = NoSpace
+error_of_refusal Other = Unanswered
 
 -- after these errors no other endpoint is asked
 abbrev pub is_final : StoreError → Bool
@@ -35,4 +35,4 @@ is_final Lost = false
 
 -- of two errors the one that is later in the order of refusal
 abbrev pub more_telling : StoreError → StoreError → StoreError
-more_telling a b = if nat_lt (code_of a) (code_of b) then b else a
+more_telling a b = if nat_lt (error_code a) (error_code b) then b else a

@@ -1,6 +1,6 @@
 // Why a store's call has no answer.
 ghost use Rattle.std.specs.Prelude.{◌≡◌, MatchOption};
-ghost use Rattle.etcd_store.specs.Errors.{code_of, error_of, is_final, more_telling};
+ghost use Rattle.etcd_store.specs.Errors.{error_code, error_of_refusal, is_final, more_telling};
 
 use etcd_gateway::{GatewayError, GatewayRefusal};
 use std::alloc::{AllocError, AllocFailed};
@@ -40,7 +40,7 @@ pub enum StoreError {
 impl StoreError {
     // Which error it is, as a number from 1.
     pub(crate) fn code(self) -> u64
-        ensures { result ≡ code_of self }
+        ensures { result ≡ error_code self }
     {
         match self {
             StoreError::Unreachable => 1,
@@ -56,7 +56,7 @@ impl StoreError {
 
     // The error of this code. None where no error has it.
     pub(crate) fn of_code(code: u64) -> Option<StoreError>
-        ensures { MatchOption result ((error : StoreError) → code_of error ≡ code → ⊥) (λ error. code_of error ≡ code) }
+        ensures { MatchOption result ((error : StoreError) → error_code error ≡ code → ⊥) (λ error. error_code error ≡ code) }
     {
         match code {
             1 => Some(StoreError::Unreachable),
@@ -74,7 +74,7 @@ impl StoreError {
 
 // The error that a refusal is.
 pub(crate) fn error_of(refusal: GatewayRefusal) -> StoreError
-    ensures { result ≡ error_of refusal }
+    ensures { result ≡ error_of_refusal refusal }
 {
     match refusal {
         GatewayRefusal::Rights => StoreError::Refused,

@@ -5,7 +5,7 @@ use Rattle.app_admin.specs.Checks.{WritesCheck, WritesShelf}
 use Rattle.app_admin.specs.Logs.{WritesLog}
 use Rattle.app_admin.specs.Shown.{WritesRows}
 use Rattle.app_admin.specs.declared.writing_rows.Layout.{Layout}
-use Rattle.app_faults.specs.Told.{Ends, IsTold}
+use Rattle.app_faults.specs.Told.{EndsCommand, IsFaultTold}
 use Rattle.app_faults.specs.declared.subject.Subject.{Subject}
 use Rattle.app_faults.specs.declared.subject.Subject.TheVariants as subject
 use Rattle.canvas_lines.specs.Reports.{WritesReport}
@@ -15,7 +15,7 @@ use Rattle.app_args.specs.declared.asked.DocumentPlace.{DocumentPlace}
 use Rattle.app_args.specs.declared.asked.DocumentPlace.TheVariants.{Folder, Document}
 use Rattle.app_args.specs.declared.error.WordError.{WordError}
 use Rattle.app_args.specs.Wrong.{fault_of_word}
-use Rattle.app_storage.specs.Faults.{IsServed}
+use Rattle.app_storage.specs.Faults.{IsServedUntilFault}
 
 -- the folder of a document, or its name in an etcd
 abbrev pub place_bytes : DocumentPlace → List ℕ
@@ -29,8 +29,8 @@ served_of (Document address) = subject.ServedDocument
 
 -- the command did this to the document there, and the status is 0; or a fault ended it, which was told
 abbrev pub EndsAt : DocumentPlace → Type 0 → ℕ → (faults told : Option (List ℕ)) → Type 0
-EndsAt (Folder dir) did status faults told = Ends did subject.Folder (string_bytes dir) status faults told
-EndsAt (Document address) did status faults told = Ends did subject.Document (string_bytes address.name) status faults told
+EndsAt (Folder dir) did status faults told = EndsCommand did subject.Folder (string_bytes dir) status faults told
+EndsAt (Document address) did status faults told = EndsCommand did subject.Document (string_bytes address.name) status faults told
 
 -- the tree of some document was written, or its rows, laid out so
 abbrev pub WritesShown : Option Layout → (written after : Option (List ℕ)) → Type 0
@@ -48,31 +48,31 @@ WritesChecked (Document address) written after = WritesShelf written after
 
 -- What was asked for was done to its end, and the status is 0; or a fault ended it, which was told. A server is ended by one, or by its file to stop
 -- at, and writes no output. Only an import reads its input.
-abbrev pub Does : Invocation → ℕ → (read left written after faults told : Option (List ℕ)) → Type 0
-Does (Serve options) status read left written after faults told =
-    (left ≡ read) × (after ≡ written) × IsServed (served_of options.place) (place_bytes options.place) options.serving.port options.serving.clients options.serving.stop_file status faults told
-Does (Show place layout) status read left written after faults told =
+abbrev pub CarriesOut : Invocation → ℕ → (read left written after faults told : Option (List ℕ)) → Type 0
+CarriesOut (Serve options) status read left written after faults told =
+    (left ≡ read) × (after ≡ written) × IsServedUntilFault (served_of options.place) (place_bytes options.place) options.serving.port options.serving.clients options.serving.stop_file status faults told
+CarriesOut (Show place layout) status read left written after faults told =
     (left ≡ read) × Shows place layout status written after faults told
-Does (Import place) status read left written after faults told =
+CarriesOut (Import place) status read left written after faults told =
     EndsAt place (WritesImported read left written after) status faults told
-Does (Restore backup dir accept_loss) status read left written after faults told =
+CarriesOut (Restore backup dir accept_loss) status read left written after faults told =
     (left ≡ read)
-    × (Ends (WritesBegun written after) subject.Folder (string_bytes dir) status faults told ⊎ Ends ⊥ subject.Folder (string_bytes backup) status faults told)
-Does (Move dir address is_back) status read left written after faults told =
+    × (EndsCommand (WritesBegun written after) subject.Folder (string_bytes dir) status faults told ⊎ EndsCommand ⊥ subject.Folder (string_bytes backup) status faults told)
+CarriesOut (Move dir address is_back) status read left written after faults told =
     (left ≡ read)
-    × (Ends (WritesBegun written after) subject.Folder (string_bytes dir) status faults told ⊎ Ends ⊥ subject.Document (string_bytes address.name) status faults told)
-Does (Check place) status read left written after faults told =
+    × (EndsCommand (WritesBegun written after) subject.Folder (string_bytes dir) status faults told ⊎ EndsCommand ⊥ subject.Document (string_bytes address.name) status faults told)
+CarriesOut (Check place) status read left written after faults told =
     (left ≡ read) × EndsAt place (WritesChecked place written after) status faults told
-Does (Log place) status read left written after faults told =
+CarriesOut (Log place) status read left written after faults told =
     (left ≡ read) × EndsAt place (WritesLog written after) status faults told
 
 -- the status of a word that isn't as it has to be, where it was told in a line of its own, or 4
-abbrev pub IsRefused : WordError → ℕ → (faults told : Option (List ℕ)) → Type 0
-IsRefused error status faults told = IsTold (fault_of_word error) subject.Folder [] 0 status faults told
+abbrev pub IsWordRefused : WordError → ℕ → (faults told : Option (List ℕ)) → Type 0
+IsWordRefused error status faults told = IsFaultTold (fault_of_word error) subject.Folder [] 0 status faults told
 
 -- what some words ask for was done; or they ask for nothing, or for help, and then nothing was read or written, and at most it was told which
 -- of them isn't as it has to be
-abbrev pub IsRun : ℕ → (read left written after faults told : Option (List ℕ)) → Type 0
-IsRun status read left written after faults told =
-    ((asked : Invocation) × Does asked status read left written after faults told)
-    ⊎ ((left ≡ read) × (after ≡ written) × ((told ≡ faults) ⊎ ((error : WordError) × IsRefused error status faults told)))
+abbrev pub IsCommandRun : ℕ → (read left written after faults told : Option (List ℕ)) → Type 0
+IsCommandRun status read left written after faults told =
+    ((asked : Invocation) × CarriesOut asked status read left written after faults told)
+    ⊎ ((left ≡ read) × (after ≡ written) × ((told ≡ faults) ⊎ ((error : WordError) × IsWordRefused error status faults told)))

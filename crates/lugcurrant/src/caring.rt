@@ -4,7 +4,7 @@ ghost use Rattle.app_admin.specs.Begun.{WritesBegun, WritesImported};
 ghost use Rattle.app_admin.specs.Checks.{WritesCheck};
 ghost use Rattle.app_admin.specs.Logs.{WritesLog};
 ghost use Rattle.app_admin.specs.Shown.{WritesRows};
-ghost use Rattle.app_faults.specs.Told.{Ends};
+ghost use Rattle.app_faults.specs.Told.{EndsCommand};
 ghost use Rattle.app_faults.specs.declared.subject.Subject.TheVariants.{Folder};
 ghost use Rattle.canvas_lines.specs.Reports.{WritesReport};
 
@@ -25,7 +25,7 @@ pub(crate) fn run_tree<S: Shelf + Drop, H: Home<S>, W: Write, F: Write>(
     output: &mut W,
     faults: &mut F,
 ) -> u8
-    ensures { Ends (WritesReport (W.contents output.old) (W.contents output.new)) subject name.now result (F.contents faults.old) (F.contents faults.new) }
+    ensures { EndsCommand (WritesReport (W.contents output.old) (W.contents output.new)) subject name.now result (F.contents faults.old) (F.contents faults.new) }
 {
     finish(show_tree(alloc, home, output), subject, name, faults)
 }
@@ -40,7 +40,7 @@ pub(crate) fn run_rows<S: Shelf + Drop, H: Home<S>, W: Write, F: Write>(
     output: &mut W,
     faults: &mut F,
 ) -> u8
-    ensures { Ends (WritesRows layout (W.contents output.old) (W.contents output.new)) subject name.now result (F.contents faults.old) (F.contents faults.new) }
+    ensures { EndsCommand (WritesRows layout (W.contents output.old) (W.contents output.new)) subject name.now result (F.contents faults.old) (F.contents faults.new) }
 {
     finish(
         show_rows(alloc, home, layout, output),
@@ -59,7 +59,7 @@ pub(crate) fn run_log<S: Shelf + Drop, H: Home<S>, W: Write, F: Write>(
     output: &mut W,
     faults: &mut F,
 ) -> u8
-    ensures { Ends (WritesLog (W.contents output.old) (W.contents output.new)) subject name.now result (F.contents faults.old) (F.contents faults.new) }
+    ensures { EndsCommand (WritesLog (W.contents output.old) (W.contents output.new)) subject name.now result (F.contents faults.old) (F.contents faults.new) }
 {
     finish(log(alloc, home, output), subject, name, faults)
 }
@@ -74,7 +74,7 @@ pub(crate) fn run_import<G: Ground, I: Read, W: Write, F: Write>(
     output: &mut W,
     faults: &mut F,
 ) -> u8
-    ensures { Ends (WritesImported (I.remaining input.old) (I.remaining input.new) (W.contents output.old) (W.contents output.new)) subject name.now result (F.contents faults.old) (F.contents faults.new) }
+    ensures { EndsCommand (WritesImported (I.remaining input.old) (I.remaining input.new) (W.contents output.old) (W.contents output.new)) subject name.now result (F.contents faults.old) (F.contents faults.new) }
 {
     finish(
         import_on(alloc, ground, input, output),
@@ -94,8 +94,8 @@ pub(crate) fn run_restore<W: Write, F: Write>(
     output: &mut W,
     faults: &mut F,
 ) -> u8
-    ensures { Ends (WritesBegun (W.contents output.old) (W.contents output.new)) Folder dir.now result (F.contents faults.old) (F.contents faults.new)
-        ⊎ Ends ⊥ Folder backup.now result (F.contents faults.old) (F.contents faults.new) }
+    ensures { EndsCommand (WritesBegun (W.contents output.old) (W.contents output.new)) Folder dir.now result (F.contents faults.old) (F.contents faults.new)
+        ⊎ EndsCommand ⊥ Folder backup.now result (F.contents faults.old) (F.contents faults.new) }
 {
     match read_backup(files, backup, accept_loss) {
         Ok((state, version)) => {
@@ -113,7 +113,7 @@ pub(crate) fn run_check<W: Write, F: Write>(
     output: &mut W,
     faults: &mut F,
 ) -> u8
-    ensures { Ends (WritesCheck (W.contents output.old) (W.contents output.new)) Folder dir.now result (F.contents faults.old) (F.contents faults.new) }
+    ensures { EndsCommand (WritesCheck (W.contents output.old) (W.contents output.new)) Folder dir.now result (F.contents faults.old) (F.contents faults.new) }
 {
     finish(check(files, dir, output), Subject::Folder, dir, faults)
 }

@@ -2,7 +2,7 @@
 ghost use Rattle.std.specs.Prelude.{◌⊎◌, OnOk, string_bytes};
 ghost use Rattle.app_admin.specs.Begun.{WritesBegun, WritesImported};
 ghost use Rattle.app_admin.specs.Checks.{WritesShelf};
-ghost use Rattle.app_faults.specs.Told.{Ends};
+ghost use Rattle.app_faults.specs.Told.{EndsCommand};
 ghost use Rattle.app_faults.specs.declared.subject.Subject.TheVariants.{Document, Folder};
 
 use app_admin_etcd::{MoveFault, check, import_document, move_in, move_out};
@@ -37,7 +37,7 @@ where
     I: Read,
     W: Write,
     F: Write,
-    ensures { Ends (WritesImported (I.remaining input.old) (I.remaining input.new) (W.contents output.old) (W.contents output.new)) Document (string_bytes address.now.name) result (F.contents faults.old) (F.contents faults.new) }
+    ensures { EndsCommand (WritesImported (I.remaining input.old) (I.remaining input.new) (W.contents output.old) (W.contents output.new)) Document (string_bytes address.now.name) result (F.contents faults.old) (F.contents faults.new) }
 {
     finish(
         import_document(rt, address, input, output),
@@ -53,7 +53,7 @@ where
     R: Net<Stream = TcpStream> + Clock + RandomSource + AllocGlobal + Clone + Drop,
     W: Write,
     F: Write,
-    ensures { Ends (WritesShelf (W.contents output.old) (W.contents output.new)) Document (string_bytes address.now.name) result (F.contents faults.old) (F.contents faults.new) }
+    ensures { EndsCommand (WritesShelf (W.contents output.old) (W.contents output.new)) Document (string_bytes address.now.name) result (F.contents faults.old) (F.contents faults.new) }
 {
     finish(
         check(rt, address, output),
@@ -86,8 +86,8 @@ where
         + 'static,
     W: Write,
     F: Write,
-    ensures { Ends (WritesBegun (W.contents output.old) (W.contents output.new)) Folder dir.now result (F.contents faults.old) (F.contents faults.new)
-        ⊎ Ends ⊥ Document (string_bytes address.now.name) result (F.contents faults.old) (F.contents faults.new) }
+    ensures { EndsCommand (WritesBegun (W.contents output.old) (W.contents output.new)) Folder dir.now result (F.contents faults.old) (F.contents faults.new)
+        ⊎ EndsCommand ⊥ Document (string_bytes address.now.name) result (F.contents faults.old) (F.contents faults.new) }
 {
     match moved(rt, files, dir, address, is_back, output) {
         Ok(()) => 0,

@@ -2,9 +2,9 @@
 ghost use Rattle.std.specs.Prelude.{◌≡◌, IfOk, string_bytes};
 ghost use Rattle.app_admin.specs.Begun.{WritesImported};
 ghost use Rattle.app_admin.specs.Logs.{WritesLog};
-ghost use Rattle.app_faults.specs.Told.{Ends};
-ghost use Rattle.app_storage.specs.Faults.{IsServed};
-ghost use Rattle.lugcurrant.specs.Runs.{Does, EndsAt, IsRefused, IsRun, Shows, WritesShown, place_bytes, served_of};
+ghost use Rattle.app_faults.specs.Told.{EndsCommand};
+ghost use Rattle.app_storage.specs.Faults.{IsServedUntilFault};
+ghost use Rattle.lugcurrant.specs.Runs.{CarriesOut, EndsAt, IsWordRefused, IsCommandRun, Shows, WritesShown, place_bytes, served_of};
 
 use crate::caring::{run_check, run_import, run_log, run_restore, run_rows, run_tree};
 use crate::remote::{check_remote, import_remote, run_move};
@@ -49,7 +49,7 @@ where
     I: Read,
     W: Write,
     F: Write,
-    ensures { IsRun result
+    ensures { IsCommandRun result
         (I.remaining input.old) (I.remaining input.new)
         (W.contents output.old) (W.contents output.new)
         (F.contents faults.old) (F.contents faults.new) }
@@ -66,7 +66,7 @@ where
 
 // Tells which word isn't as it has to be. Its sentence names no folder.
 fn refuse<F: Write>(error: WordError, faults: &mut F) -> u8
-    ensures { IsRefused error result (F.contents faults.old) (F.contents faults.new) }
+    ensures { IsWordRefused error result (F.contents faults.old) (F.contents faults.new) }
 {
     let told = Told {
         fault: Fault::from(error),
@@ -102,7 +102,7 @@ where
     I: Read,
     W: Write,
     F: Write,
-    ensures { Does asked result
+    ensures { CarriesOut asked result
         (I.remaining input.old) (I.remaining input.new)
         (W.contents output.old) (W.contents output.new)
         (F.contents faults.old) (F.contents faults.new) }
@@ -177,7 +177,7 @@ fn show_home<S: Shelf + Drop, H: Home<S>, W: Write, F: Write>(
     output: &mut W,
     faults: &mut F,
 ) -> u8
-    ensures { Ends (WritesShown layout (W.contents output.old) (W.contents output.new)) subject name.now result (F.contents faults.old) (F.contents faults.new) }
+    ensures { EndsCommand (WritesShown layout (W.contents output.old) (W.contents output.new)) subject name.now result (F.contents faults.old) (F.contents faults.new) }
 {
     match layout {
         None => run_tree(alloc, home, subject, name, output, faults),
@@ -275,7 +275,7 @@ where
         + Drop
         + 'static,
     F: Write,
-    ensures { IsServed (served_of options.place) (place_bytes options.place) options.serving.port options.serving.clients options.serving.stop_file result (F.contents faults.old) (F.contents faults.new) }
+    ensures { IsServedUntilFault (served_of options.place) (place_bytes options.place) options.serving.port options.serving.clients options.serving.stop_file result (F.contents faults.old) (F.contents faults.new) }
 {
     let port = options.serving.port;
     let subject = served_of(&options.place);

@@ -6,7 +6,7 @@ use Rattle.std.specs.List.{AllByRecursion}
 use Rattle.std.proofs.lemmas.List.{take_all}
 use Rattle.std.proofs.lemmas.Bool.{cases_Bool, cases_lt, true≢false}
 use Rattle.canvas_folder.specs.Names.{same}
-use Rattle.canvas_folder.specs.Files.{File, stands, bytes_at, changed, made_in, fresh, remade, as_sure}
+use Rattle.canvas_folder.specs.Files.{File, has_file, bytes_at, changed, made_in, fresh, remade, as_sure}
 use Rattle.canvas_folder.specs.Sound.{same_is, same_self}
 use Rattle.memory_folder.specs.Held.{file_of, held_files}
 use Rattle.memory_folder.specs.declared.held.Held.{Held}
@@ -44,10 +44,10 @@ misses_on f fs N i misses k d less = misses (suc k) d (omega arith)
 stands_on : (N : List ℕ) (f : Held) (rest : Bool) → same f.name.items N ≡ false → (if same f.name.items N then f.there else rest) ≡ rest
 stands_on N f rest apart = ap (λ (b : Bool). if b then f.there else rest) apart
 
-pub stands_at : (N : List ℕ) (fs : List Held) (i : ℕ) (d : Held) → i < length fs → Misses fs N i → same (get_or fs i d).name.items N ≡ true → stands N (held_files fs) ≡ (get_or fs i d).there
+pub stands_at : (N : List ℕ) (fs : List Held) (i : ℕ) (d : Held) → i < length fs → Misses fs N i → same (get_or fs i d).name.items N ≡ true → has_file N (held_files fs) ≡ (get_or fs i d).there
 stands_at N [] i d less misses found = absurd (omega arith)
-stands_at N (f ∷ fs) zero d less misses found = ap (λ (b : Bool). if b then f.there else stands N (held_files fs)) found
-stands_at N (f ∷ fs) (suc i) d less misses found = stands_on N f (stands N (held_files fs)) (misses 0 f (omega arith)) ∙ stands_at N fs i d (omega arith) (misses_on f fs N i misses) found
+stands_at N (f ∷ fs) zero d less misses found = ap (λ (b : Bool). if b then f.there else has_file N (held_files fs)) found
+stands_at N (f ∷ fs) (suc i) d less misses found = stands_on N f (has_file N (held_files fs)) (misses 0 f (omega arith)) ∙ stands_at N fs i d (omega arith) (misses_on f fs N i misses) found
 
 pub bytes_are_at : (N : List ℕ) (fs : List Held) (i : ℕ) (d : Held) → i < length fs → Misses fs N i → same (get_or fs i d).name.items N ≡ true → bytes_at N (held_files fs) ≡ (get_or fs i d).bytes.items
 bytes_are_at N [] i d less misses found = absurd (omega arith)
@@ -55,11 +55,11 @@ bytes_are_at N (f ∷ fs) zero d less misses found = ap (λ (b : Bool). if b the
 bytes_are_at N (f ∷ fs) (suc i) d less misses found =
     ap (λ (b : Bool). if b then f.bytes.items else bytes_at N (held_files fs)) (misses 0 f (omega arith)) ∙ bytes_are_at N fs i d (omega arith) (misses_on f fs N i misses) found
 
-none_stands : (N : List ℕ) (fs : List Held) → Misses fs N (length fs) → stands N (held_files fs) ≡ false
+none_stands : (N : List ℕ) (fs : List Held) → Misses fs N (length fs) → has_file N (held_files fs) ≡ false
 none_stands N [] misses = refl
-none_stands N (f ∷ fs) misses = stands_on N f (stands N (held_files fs)) (misses 0 f (omega arith)) ∙ none_stands N fs (misses_on f fs N (length fs) misses)
+none_stands N (f ∷ fs) misses = stands_on N f (has_file N (held_files fs)) (misses 0 f (omega arith)) ∙ none_stands N fs (misses_on f fs N (length fs) misses)
 
-pub stands_within : (N : List ℕ) (fs : List Held) (i : ℕ) → stands N (held_files fs) ≡ true → i ≤ length fs → Misses fs N i → i < length fs
+pub stands_within : (N : List ℕ) (fs : List Held) (i : ℕ) → has_file N (held_files fs) ≡ true → i ≤ length fs → Misses fs N i → i < length fs
 stands_within N fs i stood within misses = elim (cases_lt i (length fs)) [
   | inl l ↦ l
   | inr g ↦ (let e : i ≡ length fs = omega (arith, within, g) in absurd (true≢false (sym stood ∙ none_stands N fs (subst (Misses fs N) e misses))))

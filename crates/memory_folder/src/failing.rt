@@ -13,12 +13,12 @@ pub(crate) enum Failing {
 }
 
 impl Failing {
-    ghost use Rattle.memory_folder.specs.Failing.{fails};
+    ghost use Rattle.memory_folder.specs.Failing.{folder_call_fails};
 
     // Takes the next call, and tells whether it fails.
     pub(crate) fn next_fails(&mut self) -> bool
-        ensures next { result ≡ fails self.old 0 }
-        ensures later { (n : ℕ) → fails self.new n ≡ fails self.old (n + 1) }
+        ensures next { result ≡ folder_call_fails self.old 0 }
+        ensures later { (n : ℕ) → folder_call_fails self.new n ≡ folder_call_fails self.old (n + 1) }
     {
         match *self {
             Failing::Never => false,

@@ -1,9 +1,9 @@
 // Files in memory, and what a folder's calls make of them.
 ghost use Rattle.std.specs.Prelude.{◌≡◌, ◌<◌, ◌≤◌, ◌∷◌, [], ℕ, true, false, length, get_or, map, IfOk, OnOk, OnErr, string_bytes};
-ghost use Rattle.canvas_folder.specs.Files.{stands, standing, bytes_at, made_in, changed, with_more, as_synced, as_removed, as_sure};
+ghost use Rattle.canvas_folder.specs.Files.{has_file, names_there, bytes_at, made_in, changed, file_with_more, file_as_synced, as_removed, as_sure};
 ghost use Rattle.canvas_folder.specs.Names.{same};
 ghost use Rattle.memory_folder.specs.Held.{held_files};
-ghost use Rattle.memory_folder.specs.Left.{asked_of};
+ghost use Rattle.memory_folder.specs.Left.{asked_to_stay};
 ghost use Rattle.memory_folder.specs.declared.held.Held.{Held};
 
 use crate::held::Held;
@@ -38,7 +38,7 @@ fn find(files: &[Held], name: &[u8]) -> usize
 
 // Where the file of this name is that stands.
 fn find_standing(files: &[Held], name: &[u8]) -> usize
-    requires { stands name.now (held_files files.now) ≡ true }
+    requires { has_file name.now (held_files files.now) ≡ true }
     ensures within { result < length files.now }
     ensures other { (k : ℕ) (d : Held) → k < result → same (get_or files.now k d).name.items name.now ≡ false }
     ensures found { (d : Held) → same (get_or files.now result d).name.items name.now ≡ true }
@@ -59,7 +59,7 @@ fn text_of(alloc: Global, name: &[u8]) -> Result<String, ShelfError>
 
 // The names that stand.
 pub(crate) fn names(alloc: Global, files: &[Held]) -> Result<Vec<String>, ShelfError>
-    ensures { IfOk result (λ v. map string_bytes v.items ≡ standing (held_files files.now)) }
+    ensures { IfOk result (λ v. map string_bytes v.items ≡ names_there (held_files files.now)) }
 {
     let mut names = Vec::new(alloc);
     for f in files {
@@ -72,7 +72,7 @@ pub(crate) fn names(alloc: Global, files: &[Held]) -> Result<Vec<String>, ShelfE
 
 // The bytes of a file that stands.
 pub(crate) fn bytes<'a>(files: &'a [Held], name: &[u8]) -> &'a [u8]
-    requires { stands name.now (held_files files.now) ≡ true }
+    requires { has_file name.now (held_files files.now) ≡ true }
     ensures { result.now ≡ bytes_at name.now (held_files files.now) }
 {
     let i = find_standing(files, name);
@@ -104,8 +104,8 @@ pub(crate) fn make(alloc: Global, files: &mut Vec<Held>, name: &[u8]) -> Result<
 
 // Adds bytes at the end of a file that stands.
 pub(crate) fn append(files: &mut [Held], name: &[u8], bytes: &[u8]) -> Result<(), AllocError>
-    requires { stands name.now (held_files files.old) ≡ true }
-    ensures ok { OnOk result (held_files files.new ≡ changed name.now (with_more bytes.now) (held_files files.old)) }
+    requires { has_file name.now (held_files files.old) ≡ true }
+    ensures ok { OnOk result (held_files files.new ≡ changed name.now (file_with_more bytes.now) (held_files files.old)) }
     ensures err { OnErr result (held_files files.new ≡ held_files files.old) }
 {
     let i = find_standing(files, name);
@@ -115,8 +115,8 @@ pub(crate) fn append(files: &mut [Held], name: &[u8], bytes: &[u8]) -> Result<()
 
 // Makes sure of the bytes of a file that stands.
 pub(crate) fn sync(alloc: Global, files: &mut [Held], name: &[u8]) -> Result<(), AllocError>
-    requires { stands name.now (held_files files.old) ≡ true }
-    ensures ok { OnOk result (held_files files.new ≡ changed name.now as_synced (held_files files.old)) }
+    requires { has_file name.now (held_files files.old) ≡ true }
+    ensures ok { OnOk result (held_files files.new ≡ changed name.now file_as_synced (held_files files.old)) }
     ensures err { OnErr result (held_files files.new ≡ held_files files.old) }
 {
     let i = find_standing(files, name);
@@ -127,7 +127,7 @@ pub(crate) fn sync(alloc: Global, files: &mut [Held], name: &[u8]) -> Result<(),
 
 // Removes a name that stands.
 pub(crate) fn remove(files: &mut [Held], name: &[u8])
-    requires { stands name.now (held_files files.old) ≡ true }
+    requires { has_file name.now (held_files files.old) ≡ true }
     ensures { held_files files.new ≡ changed name.now as_removed (held_files files.old) }
 {
     let i = find_standing(files, name);
@@ -147,7 +147,7 @@ pub(crate) fn make_sure(files: &mut [Held])
 
 // How many unsynced bytes of a file are to stay, if it is named.
 pub(crate) fn asked_of(keep: &[(&[u8], u64)], name: &[u8]) -> Option<u64>
-    ensures { result ≡ asked_of name.now (map (λ k. (k.0.now, k.1)) keep.now) }
+    ensures { result ≡ asked_to_stay name.now (map (λ k. (k.0.now, k.1)) keep.now) }
 {
     for (named, bytes) in keep {
         if *named == name {

@@ -28,7 +28,7 @@ pub(crate) struct Moment {
 
 impl Held {
     ghost use Rattle.memory_folder.specs.Held.{file_of, synced_of};
-    ghost use Rattle.memory_folder.specs.Left.{stays, synced_size, certain_file};
+    ghost use Rattle.memory_folder.specs.Left.{size_staying, synced_size, certain_file};
     ghost use Rattle.memory_folder.specs.Sound.{has_synced};
 
     // What was synced, once more.
@@ -68,7 +68,7 @@ impl Held {
     // How many bytes a crash leaves that keeps so many unsynced ones, or none where the file is missing.
     pub(crate) fn stays(&self, asked: Option<u64>) -> Option<usize>
         requires { has_synced (synced_of self.now.synced) self.now.bytes.items ≡ true }
-        ensures stays { result ≡ stays self.now.there self.now.sure (synced_of self.now.synced) self.now.bytes.items asked }
+        ensures stays { result ≡ size_staying self.now.there self.now.sure (synced_of self.now.synced) self.now.bytes.items asked }
         ensures within { IfSome result (λ size. size ≤ length self.now.bytes.items) }
     {
         if !self.there {

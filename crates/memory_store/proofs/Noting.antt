@@ -6,21 +6,21 @@ use Rattle.canvas_shelf.specs.Memory.{synced_disk}
 use Rattle.std.specs.Prelude.{nat_le, nat_lt, true}
 use Rattle.std.proofs.lemmas.Bool.{and_parts, and_from, leb-true, le-leb, lt-ltb}
 use Rattle.canvas_etcd.specs.Stores.{Stored, NumbersFall, may_be, changed_by}
-use Rattle.memory_store.specs.Held.{content_of, lost_of, after, stored_at, stored_each, HaveNotes}
+use Rattle.memory_store.specs.Held.{held_content, lost_of, disk_after, stored_at, stored_each, HaveNotes}
 use Rattle.memory_store.specs.Sound.{numbers_fall, are_legal, have_notes}
 use Rattle.memory_store.specs.declared.notes.Note.{Note}
 use Rattle.memory_store.specs.declared.notes.Moment.{Moment}
 
-pub after_push : (notes : List Note) (n : Note) (d : List Segment) → after (notes ++ n ∷ []) d ≡ changed_by n.change n.number n.bytes.items (after notes d)
+pub after_push : (notes : List Note) (n : Note) (d : List Segment) → disk_after (notes ++ n ∷ []) d ≡ changed_by n.change n.number n.bytes.items (disk_after notes d)
 after_push [] n d = refl
 after_push (m ∷ notes) n d = after_push notes n (changed_by m.change m.number m.bytes.items d)
 
-pub after_all : (notes : List Note) (count : ℕ) (d : List Segment) → count ≡ length notes → after (take count notes) d ≡ after notes d
-after_all notes count d is = ap (λ (l : List Note). after l d) (take_all count notes (omega (arith, is)))
+pub after_all : (notes : List Note) (count : ℕ) (d : List Segment) → count ≡ length notes → disk_after (take count notes) d ≡ disk_after notes d
+after_all notes count d is = ap (λ (l : List Note). disk_after l d) (take_all count notes (omega (arith, is)))
 
 at_stays : (notes : List Note) (n : Note) (base : Content) (m : Moment) → m.notes ≤ length notes → stored_at (notes ++ n ∷ []) base m ≡ stored_at notes base m
 at_stays notes n base m within =
-    ap (λ (l : List Note). let w : Stored = record { held = content_of m.held.items; unanswered = lost_of m.lost; disk = after l (synced_disk base) } in w) (take-append-le m.notes notes (n ∷ []) within)
+    ap (λ (l : List Note). let w : Stored = record { held = held_content m.held.items; unanswered = lost_of m.lost; disk = disk_after l (synced_disk base) } in w) (take-append-le m.notes notes (n ∷ []) within)
 
 -- no earlier moment is another by it
 pub each_stays : (notes : List Note) (n : Note) (base : Content) (past : List Moment) → HaveNotes (length notes) past → stored_each (notes ++ n ∷ []) base past ≡ stored_each notes base past
@@ -46,7 +46,7 @@ pub notes_back : (count : ℕ) (past : List Moment) → HaveNotes count past →
 notes_back count [] all = refl
 notes_back count (m ∷ past) all = and_from (nat_le m.notes count) (have_notes count past) (le-leb m.notes count all.0) (notes_back count past all.1)
 
-pub legal_push : (notes : List Note) (n : Note) (d : List Segment) → are_legal notes d ≡ true → may_be n.change n.number (after notes d) ≡ true → are_legal (notes ++ n ∷ []) d ≡ true
+pub legal_push : (notes : List Note) (n : Note) (d : List Segment) → are_legal notes d ≡ true → may_be n.change n.number (disk_after notes d) ≡ true → are_legal (notes ++ n ∷ []) d ≡ true
 legal_push [] n d legal may = and_from (may_be n.change n.number d) true may refl
 legal_push (m ∷ notes) n d legal may =
     let both = and_parts (may_be m.change m.number d) (are_legal notes (changed_by m.change m.number m.bytes.items d)) legal in
@@ -62,7 +62,7 @@ pub have_kept : (count : ℕ) (past new : List Moment) (m : Moment) → new ≡ 
 have_kept count past new m is within fit = ap (have_notes count) is ∙ notes_back count (past ++ m ∷ []) (have_push count past m within (notes_of count past fit))
 
 -- a note is added
-pub legal_added : (notes new : List Note) (n : Note) (d : List Segment) → new ≡ notes ++ n ∷ [] → are_legal notes d ≡ true → may_be n.change n.number (after notes d) ≡ true → are_legal new d ≡ true
+pub legal_added : (notes new : List Note) (n : Note) (d : List Segment) → new ≡ notes ++ n ∷ [] → are_legal notes d ≡ true → may_be n.change n.number (disk_after notes d) ≡ true → are_legal new d ≡ true
 legal_added notes new n d is legal may = ap (λ (l : List Note). are_legal l d) is ∙ legal_push notes n d legal may
 
 pub fits_added : (notes new : List Note) (n : Note) (past : List Moment) → new ≡ notes ++ n ∷ [] → have_notes (length notes) past ≡ true → have_notes (length new) past ≡ true

@@ -10,12 +10,12 @@ use Rattle.memory_store.specs.declared.lost.Lost.TheVariants.{Put, Remove}
 use Rattle.memory_store.specs.declared.notes.Note.{Note}
 use Rattle.memory_store.specs.declared.notes.Moment.{Moment}
 
-abbrev pub segment_of : Held → ℕ × List ℕ
-segment_of h = (h.number, h.bytes.items)
+abbrev pub held_segment : Held → ℕ × List ℕ
+held_segment h = (h.number, h.bytes.items)
 
 -- the segments that stand
-abbrev pub content_of : List Held → Content
-content_of = map segment_of
+abbrev pub held_content : List Held → Content
+held_content = map held_segment
 
 abbrev pub transaction : Lost → Transaction
 transaction (Put n bytes) = Puts n bytes.items
@@ -27,13 +27,13 @@ lost_of None = None
 lost_of (Some lost) = Some (transaction lost)
 
 -- the disk that this one became, note by note
-abbrev pub after : List Note → List Segment → List Segment
-after [] disk = disk
-after (n ∷ notes) disk = after notes (changed_by n.change n.number n.bytes.items disk)
+abbrev pub disk_after : List Note → List Segment → List Segment
+disk_after [] disk = disk
+disk_after (n ∷ notes) disk = disk_after notes (changed_by n.change n.number n.bytes.items disk)
 
 -- what the store was at a moment
 abbrev pub stored_at : List Note → Content → Moment → Stored
-stored_at notes base m = record { held = content_of m.held.items; unanswered = lost_of m.lost; disk = after (take m.notes notes) (synced_disk base) }
+stored_at notes base m = record { held = held_content m.held.items; unanswered = lost_of m.lost; disk = disk_after (take m.notes notes) (synced_disk base) }
 
 abbrev pub stored_each : List Note → Content → List Moment → List Stored
 stored_each notes base = map (stored_at notes base)

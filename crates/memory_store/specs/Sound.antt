@@ -6,7 +6,7 @@ use Rattle.canvas_shelf.specs.Disk.{Segment, Content, IsSound}
 use Rattle.canvas_shelf.specs.Memory.{synced_disk}
 use Rattle.canvas_etcd.specs.Stores.{NumbersFall, may_be, changed_by}
 use Rattle.canvas_etcd.proofs.Sounds.{sound_fresh, sound_noted}
-use Rattle.memory_store.specs.Held.{after}
+use Rattle.memory_store.specs.Held.{disk_after}
 use Rattle.memory_store.specs.declared.notes.Note.{Note}
 use Rattle.memory_store.specs.declared.notes.Moment.{Moment}
 
@@ -33,11 +33,11 @@ falls_of (p ∷ q ∷ held) fit =
     let both = and_parts (nat_lt q.0 p.0) (numbers_fall (q ∷ held)) fit in
     (ltb-true q.0 p.0 both.0, falls_of (q ∷ held) both.1)
 
-sound_after : (notes : List Note) (disk : List Segment) → IsSound disk → are_legal notes disk ≡ true → IsSound (after notes disk)
+sound_after : (notes : List Note) (disk : List Segment) → IsSound disk → are_legal notes disk ≡ true → IsSound (disk_after notes disk)
 sound_after [] disk sound legal = sound
 sound_after (n ∷ notes) disk sound legal =
     let both = and_parts (may_be n.change n.number disk) (are_legal notes (changed_by n.change n.number n.bytes.items disk)) legal in
     sound_after notes (changed_by n.change n.number n.bytes.items disk) (sound_noted n.change n.number n.bytes.items disk sound both.0) both.1
 
-pub sound_of : (notes : List Note) (base : Content) → numbers_fall base ≡ true → are_legal notes (synced_disk base) ≡ true → IsSound (after notes (synced_disk base))
-sound_of notes base fit legal = sound_after notes (synced_disk base) (sound_fresh base (falls_of base fit)) legal
+pub sound_of_notes : (notes : List Note) (base : Content) → numbers_fall base ≡ true → are_legal notes (synced_disk base) ≡ true → IsSound (disk_after notes (synced_disk base))
+sound_of_notes notes base fit legal = sound_after notes (synced_disk base) (sound_fresh base (falls_of base fit)) legal

@@ -13,12 +13,12 @@ pub(crate) enum Failing {
 }
 
 impl Failing {
-    ghost use Rattle.memory_store.specs.Failing.{fails};
+    ghost use Rattle.memory_store.specs.Failing.{store_call_fails};
 
     // Takes the next call, and tells whether it fails.
     pub(crate) fn next_fails(&mut self) -> bool
-        ensures next { result ≡ fails self.old 0 }
-        ensures later { (n : ℕ) → fails self.new n ≡ fails self.old (n + 1) }
+        ensures next { result ≡ store_call_fails self.old 0 }
+        ensures later { (n : ℕ) → store_call_fails self.new n ≡ store_call_fails self.old (n + 1) }
     {
         match *self {
             Failing::Never => false,

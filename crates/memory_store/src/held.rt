@@ -1,8 +1,8 @@
 // Segments that stand, in memory.
 ghost use Rattle.std.specs.Prelude.{◌≡◌, true, ◌<◌, ◌≤◌, ℕ, None, length, get_or, IfOk, IfSome, OnOk, OnErr};
 ghost use Rattle.canvas_etcd.specs.Listed.{listed_in};
-ghost use Rattle.canvas_etcd.specs.Stores.{bytes_at, size_at, put, without};
-ghost use Rattle.memory_store.specs.Held.{content_of};
+ghost use Rattle.canvas_etcd.specs.Stores.{segment_bytes, size_at, put_behind, without_segment};
+ghost use Rattle.memory_store.specs.Held.{held_content};
 ghost use Rattle.memory_store.specs.Sound.{numbers_fall};
 
 use canvas_etcd::Standing;
@@ -17,7 +17,7 @@ pub(crate) struct Held {
 
 // The same segments once more.
 pub(crate) fn copy_all(alloc: Global, held: &[Held]) -> Result<Vec<Held>, AllocError>
-    ensures { IfOk result (λ v. content_of v.items ≡ content_of held.now) }
+    ensures { IfOk result (λ v. held_content v.items ≡ held_content held.now) }
 {
     let mut copy = Vec::new(alloc);
     for segment in held {
@@ -31,7 +31,7 @@ pub(crate) fn copy_all(alloc: Global, held: &[Held]) -> Result<Vec<Held>, AllocE
 
 // Each segment's number and size.
 pub(crate) fn list(alloc: Global, held: &[Held]) -> Result<Vec<Standing>, AllocError>
-    ensures { IfOk result (λ v. v.items ≡ listed_in (content_of held.now)) }
+    ensures { IfOk result (λ v. v.items ≡ listed_in (held_content held.now)) }
 {
     let mut listed = Vec::new(alloc);
     for segment in held {
@@ -63,8 +63,8 @@ pub(crate) fn read<A: Allocator>(
     held: &[Held],
     number: u32,
 ) -> Result<Vec<u8, A>, AllocError>
-    requires { size_at number (content_of held.now) ≡ None → ⊥ }
-    ensures { IfOk result (λ v. v.items ≡ bytes_at number (content_of held.now)) }
+    requires { size_at number (held_content held.now) ≡ None → ⊥ }
+    ensures { IfOk result (λ v. v.items ≡ segment_bytes number (held_content held.now)) }
 {
     let i = find(held, number);
     Vec::from_slice(alloc, &held[i].bytes)
@@ -72,9 +72,9 @@ pub(crate) fn read<A: Allocator>(
 
 // Where a segment is that stands.
 fn find(held: &[Held], number: u32) -> usize
-    requires { size_at number (content_of held.now) ≡ None → ⊥ }
+    requires { size_at number (held_content held.now) ≡ None → ⊥ }
     ensures within { result < length held.now }
-    ensures bytes { (h : Held) → bytes_at number (content_of held.now) ≡ (get_or held.now result h).bytes.items }
+    ensures bytes { (h : Held) → segment_bytes number (held_content held.now) ≡ (get_or held.now result h).bytes.items }
 {
     for (i, segment) in held.iter().enumerate() {
         if segment.number == number {
@@ -86,8 +86,8 @@ fn find(held: &[Held], number: u32) -> usize
 
 // Puts bytes behind those of a segment, in its place.
 fn put_in(alloc: Global, held: &mut Vec<Held>, number: u32, bytes: &[u8]) -> Result<(), AllocError>
-    ensures ok { OnOk result (content_of held.new.items ≡ put number bytes.now (content_of held.old.items)) }
-    ensures err { OnErr result (content_of held.new.items ≡ content_of held.old.items) }
+    ensures ok { OnOk result (held_content held.new.items ≡ put_behind number bytes.now (held_content held.old.items)) }
+    ensures err { OnErr result (held_content held.new.items ≡ held_content held.old.items) }
 {
     let i = place(held, number);
     if i < held.len() && held[i].number == number {
@@ -106,17 +106,17 @@ pub(crate) fn put(
     number: u32,
     bytes: &[u8],
 ) -> Result<(), AllocError>
-    ensures ok { OnOk result (content_of held.new.items ≡ put number bytes.now (content_of held.old.items)) }
-    ensures err { OnErr result (content_of held.new.items ≡ content_of held.old.items) }
-    ensures falls { numbers_fall (content_of held.old.items) ≡ true → numbers_fall (content_of held.new.items) ≡ true }
+    ensures ok { OnOk result (held_content held.new.items ≡ put_behind number bytes.now (held_content held.old.items)) }
+    ensures err { OnErr result (held_content held.new.items ≡ held_content held.old.items) }
+    ensures falls { numbers_fall (held_content held.old.items) ≡ true → numbers_fall (held_content held.new.items) ≡ true }
 {
     put_in(alloc, held, number, bytes)
 }
 
 // Deletes a segment from its place, if it stands.
 fn remove_in(held: &mut Vec<Held>, number: u32)
-    requires { numbers_fall (content_of held.old.items) ≡ true }
-    ensures { content_of held.new.items ≡ without number (content_of held.old.items) }
+    requires { numbers_fall (held_content held.old.items) ≡ true }
+    ensures { held_content held.new.items ≡ without_segment number (held_content held.old.items) }
 {
     let i = place(held, number);
     if i < held.len() && held[i].number == number {
@@ -126,9 +126,9 @@ fn remove_in(held: &mut Vec<Held>, number: u32)
 
 // Deletes a segment, if it stands.
 pub(crate) fn remove(held: &mut Vec<Held>, number: u32)
-    requires { numbers_fall (content_of held.old.items) ≡ true }
-    ensures content { content_of held.new.items ≡ without number (content_of held.old.items) }
-    ensures falls { numbers_fall (content_of held.new.items) ≡ true }
+    requires { numbers_fall (held_content held.old.items) ≡ true }
+    ensures content { held_content held.new.items ≡ without_segment number (held_content held.old.items) }
+    ensures falls { numbers_fall (held_content held.new.items) ≡ true }
 {
     remove_in(held, number);
 }

@@ -1,7 +1,7 @@
 // A transaction whose answer was lost.
 ghost use Rattle.std.specs.Prelude.{◌≡◌, [], true, IfOk, OnOk};
 ghost use Rattle.canvas_etcd.specs.Stores.{MayFind};
-ghost use Rattle.memory_store.specs.Held.{content_of, lost_of};
+ghost use Rattle.memory_store.specs.Held.{held_content, lost_of};
 ghost use Rattle.memory_store.specs.Sound.{numbers_fall};
 
 use crate::held::{Held, put, remove};
@@ -46,9 +46,9 @@ pub(crate) fn finish(
     lost: &Option<Lost>,
     held: &mut Vec<Held>,
 ) -> Result<(), AllocError>
-    requires { numbers_fall (content_of held.old.items) ≡ true }
-    ensures found { OnOk result (MayFind (record { held = content_of held.old.items; unanswered = lost_of lost.now; disk = [] }) (content_of held.new.items)) }
-    ensures falls { numbers_fall (content_of held.new.items) ≡ true }
+    requires { numbers_fall (held_content held.old.items) ≡ true }
+    ensures found { OnOk result (MayFind (record { held = held_content held.old.items; unanswered = lost_of lost.now; disk = [] }) (held_content held.new.items)) }
+    ensures falls { numbers_fall (held_content held.new.items) ≡ true }
 {
     match lost {
         Some(Lost::Put(number, bytes)) => put(alloc, held, *number, bytes),

@@ -2,7 +2,7 @@
 ghost use Rattle.std.specs.Prelude.{◌≡◌, ◌++◌, ◌∷◌, [], true, List, length, OnOk, OnErr};
 ghost use Rattle.canvas_shelf.specs.Disk.{Segment, Content};
 ghost use Rattle.canvas_etcd.specs.Stores.{changed_by, may_be};
-ghost use Rattle.memory_store.specs.Held.{after, stored_each};
+ghost use Rattle.memory_store.specs.Held.{disk_after, stored_each};
 ghost use Rattle.memory_store.specs.Sound.{are_legal, have_notes};
 ghost use Rattle.memory_store.specs.declared.notes.Moment.{Moment};
 
@@ -49,9 +49,9 @@ pub(crate) fn keep(
 
 // Adds a note.
 pub(crate) fn add(notes: &mut Vec<Note>, note: Note) -> Result<(), AllocError>
-    ensures ok { OnOk result ((disk : List Segment) → after notes.new.items disk ≡ changed_by note.change note.number note.bytes.items (after notes.old.items disk)) }
+    ensures ok { OnOk result ((disk : List Segment) → disk_after notes.new.items disk ≡ changed_by note.change note.number note.bytes.items (disk_after notes.old.items disk)) }
     ensures err { OnErr result (notes.new.items ≡ notes.old.items) }
-    ensures legal { (disk : List Segment) → are_legal notes.old.items disk ≡ true → may_be note.change note.number (after notes.old.items disk) ≡ true → are_legal notes.new.items disk ≡ true }
+    ensures legal { (disk : List Segment) → are_legal notes.old.items disk ≡ true → may_be note.change note.number (disk_after notes.old.items disk) ≡ true → are_legal notes.new.items disk ≡ true }
     ensures fits { (past : List Moment) → have_notes (length notes.old.items) past ≡ true → have_notes (length notes.new.items) past ≡ true }
     ensures past { (base : Content) (past : List Moment) → have_notes (length notes.old.items) past ≡ true → stored_each notes.new.items base past ≡ stored_each notes.old.items base past }
 {

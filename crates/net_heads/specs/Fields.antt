@@ -27,7 +27,7 @@ abbrev pub seen_fields : declared.Fields → NamesAndValues
 seen_fields fields = map (header_bytes fields.bytes.now) fields.spans.now
 
 -- what was found under a name, of its values
-abbrev pub IsFound : values.Values → List (List ℕ) → Type 0
-IsFound Nothing found = found ≡ []
-IsFound (One value) found = found ≡ value.now ∷ []
-IsFound Several found = 1 < length found
+abbrev pub IsFoundUnderName : values.Values → List (List ℕ) → Type 0
+IsFoundUnderName Nothing found = found ≡ []
+IsFoundUnderName (One value) found = found ≡ value.now ∷ []
+IsFoundUnderName Several found = 1 < length found

@@ -3,7 +3,7 @@
 
 ghost use Rattle.std.specs.Prelude.{◌≡◌, ℕ, List, [], ◌∷◌, ◌++◌, length, All};
 ghost use Rattle.httparse.specs.Spans.{IsHeaderWithin};
-ghost use Rattle.net_heads.specs.Fields.{IsFound, is_same_word, seen_fields, values_named};
+ghost use Rattle.net_heads.specs.Fields.{IsFoundUnderName, is_same_word, seen_fields, values_named};
 
 use httparse::spans::HeaderSpan;
 
@@ -30,7 +30,7 @@ pub enum Values<'a> {
 impl<'a> Values<'a> {
     // What stands there with one value more.
     fn with(self, value: &'a [u8]) -> Values<'a>
-        ensures { (values : List (List ℕ)) → IsFound self.entry values → IsFound result (values ++ value.now ∷ []) }
+        ensures { (values : List (List ℕ)) → IsFoundUnderName self.entry values → IsFoundUnderName result (values ++ value.now ∷ []) }
     {
         match self {
             Values::Nothing => Values::One(value),
@@ -43,7 +43,7 @@ impl<'a> Fields<'a> {
     /// What stands under this name.
     pub fn find(&self, name: &[u8]) -> Values<'a>
         requires { All (IsHeaderWithin (length self.now.bytes.now)) self.now.spans.now }
-        ensures { IsFound result (values_named name.now (seen_fields self.now)) }
+        ensures { IsFoundUnderName result (values_named name.now (seen_fields self.now)) }
     {
         let mut found = Values::Nothing;
         for span in self.spans {

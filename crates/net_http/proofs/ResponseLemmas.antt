@@ -13,16 +13,16 @@ use Rattle.net_http.specs.declared.texts.ContentType.{ContentType}
 use Rattle.net_http.specs.declared.texts.ContentType.TheVariants as kind
 use Rattle.net_http.specs.declared.texts.Status.{Status}
 use Rattle.net_http.specs.declared.texts.Status.TheVariants as status
-use Rattle.net_http.specs.Answers.{head_text, page_policy}
+use Rattle.net_http.specs.Answers.{answer_head_text, page_policy}
 use Rattle.net_http.specs.Identities.{IsIdentity, is_hex_digit}
 use Rattle.net_http.specs.Responses.{digits_of, fields_of_answer, own_fields, phrase_of, response_of}
 use Rattle.net_http.specs.Sites.{SiteValue}
-use Rattle.net_http.specs.Texts.{fields_of, reason_of, type_of}
+use Rattle.net_http.specs.Texts.{fields_of, status_text, type_of}
 
 -- ---- the text
 
 -- the first line
-start_is : (s : Status) → codes "HTTP/1.1 " ++ reason_of s ++ crlf_bytes
+start_is : (s : Status) → codes "HTTP/1.1 " ++ status_text s ++ crlf_bytes
     ≡ print_blank [] ++ print_version 1 ++ space ∷ digits_of s ++ print_reason (Some (phrase_of s)) ++ print_end crlf
 start_is status.Ok = refl
 start_is status.BadRequest = refl
@@ -46,10 +46,10 @@ lines_regroup : (a l m c d f g p x e : List ℕ)
 lines_regroup a l m c d f g p x e = simp append_assoc
 
 -- the text of an answer's head is that of its tree
-pub head_text_is : (site : SiteValue) (s : Status) (k : ContentType) (size : ℕ) → head_text site s k size ≡ print_response (response_of site s k size)
+pub head_text_is : (site : SiteValue) (s : Status) (k : ContentType) (size : ℕ) → answer_head_text site s k size ≡ print_response (response_of site s k size)
 unfolding print_response
 head_text_is site s k size =
-    lines_regroup (codes "HTTP/1.1 " ++ reason_of s ++ crlf_bytes) (field_line (codes "Content-Type") (type_of k))
+    lines_regroup (codes "HTTP/1.1 " ++ status_text s ++ crlf_bytes) (field_line (codes "Content-Type") (type_of k))
     (field_line (codes "Content-Length") (decimal size)) (field_line (codes "Connection") (codes "close"))
     (field_line (codes "Cache-Control") (codes "no-store")) (field_line (codes "X-Content-Type-Options") (codes "nosniff"))
     (field_line (codes "Content-Security-Policy") page_policy) (field_line (codes "Lugcurrant-Document") site.identity)
@@ -143,7 +143,7 @@ phrase_passes status.Unavailable = literal (codes "Service Unavailable") refl
 
 -- the head of an answer is read as its tree, and nothing is left
 pub head_text_reads : (site : SiteValue) (s : Status) (k : ContentType) (size : ℕ) → IsIdentity site.identity → size < 2 ^ 64
-    → ReadsResponse (head_text site s k size) (response_of site s k size) []
+    → ReadsResponse (answer_head_text site s k size) (response_of site s k size) []
 head_text_reads site s k size named small = (
   record {
     minor = omega arith;

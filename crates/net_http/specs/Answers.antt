@@ -7,7 +7,7 @@ use Rattle.net_http.specs.declared.texts.ContentType.{ContentType}
 use Rattle.net_http.specs.declared.texts.ContentType.TheVariants as kind
 use Rattle.net_http.specs.declared.texts.Status.{Status}
 use Rattle.net_http.specs.Sites.{SiteValue}
-use Rattle.net_http.specs.Texts.{reason_of, sentence_of, fields_of, type_of}
+use Rattle.net_http.specs.Texts.{status_text, sentence_of, fields_of, type_of}
 
 -- a page may run its own scripts and WebAssembly, connect to its host, and stand in no frame
 abbrev pub page_policy : List ℕ
@@ -16,9 +16,9 @@ page_policy =
     ++ codes "base-uri 'none'; form-action 'none'; frame-ancestors 'none'"
 
 -- the head of an answer: its status, what follows it and how much, that the connection ends, what a browser may do, and which document this is
-abbrev pub head_text : SiteValue → Status → ContentType → ℕ → List ℕ
-head_text site status kind size =
-    codes "HTTP/1.1 " ++ reason_of status ++ crlf_bytes
+abbrev pub answer_head_text : SiteValue → Status → ContentType → ℕ → List ℕ
+answer_head_text site status kind size =
+    codes "HTTP/1.1 " ++ status_text status ++ crlf_bytes
     ++ field_line (codes "Content-Type") (type_of kind)
     ++ field_line (codes "Content-Length") (decimal size)
     ++ field_line (codes "Connection") (codes "close")
@@ -31,7 +31,7 @@ head_text site status kind size =
 
 -- an answer is its head and, where it is wanted, its body
 abbrev pub answer_text : SiteValue → Status → ContentType → List ℕ → Bool → List ℕ
-answer_text site status kind body wants = head_text site status kind (length body) ++ (if wants then body else [])
+answer_text site status kind body wants = answer_head_text site status kind (length body) ++ (if wants then body else [])
 
 -- an answer whose body is its status in a sentence
 abbrev pub sentence_text : SiteValue → Status → Bool → List ℕ

@@ -4,7 +4,7 @@ use Rattle.std.specs.Str.{bytes_eq}
 use Rattle.httparse.specs.Grammar.{RequestHead, print_request, ReadsRequest}
 use Rattle.net_http.specs.declared.head.HttpRequest as declared
 use Rattle.net_http.specs.Sites.{SiteValue}
-use Rattle.net_http.specs.Table.{asked_of}
+use Rattle.net_http.specs.Table.{endpoint_of}
 
 -- the answer to HEAD has no body, and every other answer has one
 abbrev pub wants_body : List ℕ → Bool
@@ -13,7 +13,7 @@ wants_body method = not (bytes_eq method (codes "HEAD"))
 -- what the request of a head is
 abbrev pub request_of : SiteValue → RequestHead → declared.HttpRequest
 request_of site head = record {
-  asked = asked_of site head;
+  asked = endpoint_of site head;
   wants_body = wants_body head.method;
   length = length (print_request head);
 }

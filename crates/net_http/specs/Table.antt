@@ -105,5 +105,5 @@ asked_for site method target fields =
     else asked_by_page site method (path_of target)
 
 -- what a request of this head asks for
-abbrev pub asked_of : SiteValue → RequestHead → Endpoint
-asked_of site head = asked_for site head.method head.target (map name_and_value head.fields)
+abbrev pub endpoint_of : SiteValue → RequestHead → Endpoint
+endpoint_of site head = asked_for site head.method head.target (map name_and_value head.fields)

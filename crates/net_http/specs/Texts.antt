@@ -11,13 +11,13 @@ use Rattle.net_http.specs.declared.texts.Status.{Status}
 use Rattle.net_http.specs.declared.texts.Status.TheVariants as status
 
 -- a status as a number with its phrase
-abbrev pub reason_of : Status → List ℕ
-reason_of status.Ok = codes "200 OK"
-reason_of status.BadRequest = codes "400 Bad Request"
-reason_of status.Forbidden = codes "403 Forbidden"
-reason_of status.NotFound = codes "404 Not Found"
-reason_of status.NotAllowed = codes "405 Method Not Allowed"
-reason_of status.Unavailable = codes "503 Service Unavailable"
+abbrev pub status_text : Status → List ℕ
+status_text status.Ok = codes "200 OK"
+status_text status.BadRequest = codes "400 Bad Request"
+status_text status.Forbidden = codes "403 Forbidden"
+status_text status.NotFound = codes "404 Not Found"
+status_text status.NotAllowed = codes "405 Method Not Allowed"
+status_text status.Unavailable = codes "503 Service Unavailable"
 
 -- a status in a sentence
 abbrev pub sentence_of : Status → List ℕ
@@ -65,11 +65,11 @@ name_of file.Style = codes "page.css"
 name_of file.Icon = codes "favicon.svg"
 
 -- the type of a file of the page
-abbrev pub kind_of : PageFile → ContentType
-kind_of file.Index = kind.Html
-kind_of file.Script = kind.Script
-kind_of file.Worker = kind.Script
-kind_of file.Library = kind.Script
-kind_of file.Module = kind.Wasm
-kind_of file.Style = kind.Style
-kind_of file.Icon = kind.Svg
+abbrev pub content_type_of : PageFile → ContentType
+content_type_of file.Index = kind.Html
+content_type_of file.Script = kind.Script
+content_type_of file.Worker = kind.Script
+content_type_of file.Library = kind.Script
+content_type_of file.Module = kind.Wasm
+content_type_of file.Style = kind.Style
+content_type_of file.Icon = kind.Svg

@@ -1,7 +1,7 @@
 // The bytes of answers.
 ghost use Rattle.std.specs.Prelude.{◌≡◌, [], IfOk, string_bytes};
 ghost use Rattle.httparse.specs.Grammar.{ReadsResponse};
-ghost use Rattle.net_http.specs.Answers.{answer_text, head_text, sentence_text};
+ghost use Rattle.net_http.specs.Answers.{answer_text, answer_head_text, sentence_text};
 ghost use Rattle.net_http.specs.Responses.{response_of};
 ghost use Rattle.net_http.specs.Sites.{seen_site};
 
@@ -19,7 +19,7 @@ pub fn write_head(
     kind: ContentType,
     length: usize,
 ) -> Result<Vec<u8>, AllocError>
-    ensures text { IfOk result (λ head. head.items ≡ head_text (seen_site site.now) status kind length) }
+    ensures text { IfOk result (λ head. head.items ≡ answer_head_text (seen_site site.now) status kind length) }
 
     // A head of HTTP's grammar, with this status and these fields.
     ensures response { IfOk result (λ head. ReadsResponse head.items (response_of (seen_site site.now) status kind length) []) }
@@ -36,7 +36,7 @@ fn head_text(
     kind: ContentType,
     length: usize,
 ) -> Result<String, AllocError>
-    ensures { IfOk result (λ head. string_bytes head ≡ head_text (seen_site site.now) status kind length) }
+    ensures { IfOk result (λ head. string_bytes head ≡ answer_head_text (seen_site site.now) status kind length) }
 {
     let reason = status.reason();
     let kind = kind.value();

@@ -1,6 +1,6 @@
 // What a request asks for.
 ghost use Rattle.std.specs.Prelude.{◌≡◌};
-ghost use Rattle.net_http.specs.Texts.{kind_of, name_of, status_of};
+ghost use Rattle.net_http.specs.Texts.{content_type_of, name_of, status_of};
 
 use crate::texts::{ContentType, Status};
 
@@ -85,7 +85,7 @@ impl PageFile {
 
     /// What the file is, as the answer says it.
     pub fn content_type(self) -> ContentType
-        ensures { result ≡ kind_of self }
+        ensures { result ≡ content_type_of self }
     {
         match self {
             PageFile::Index => ContentType::Html,

@@ -6,8 +6,8 @@ ghost use Rattle.net_http.specs.Heads.{Begins, request_of};
 ghost use Rattle.net_http.specs.Sites.{seen_site};
 
 use crate::asked::Endpoint;
+use crate::routes::{asked, is_equal};
 use crate::site::Site;
-use crate::table::{asked, is_equal};
 use httparse::spans::{EMPTY_HEADER_SPAN, HeaderSpan, RequestSpans, parse_request};
 use httparse::{Error as ParseError, Status as Parsed};
 use net_heads::Fields;

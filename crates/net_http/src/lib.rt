@@ -6,8 +6,8 @@ mod asked;
 mod fields;
 mod head;
 mod origin;
+mod routes;
 mod site;
-mod table;
 mod texts;
 
 pub use answers::{write_answer, write_head, write_sentence};

@@ -1,6 +1,6 @@
 // The statuses of answers and what their bodies are, in the words of HTTP.
 ghost use Rattle.std.specs.Prelude.{◌≡◌};
-ghost use Rattle.net_http.specs.Texts.{fields_of, reason_of, sentence_of, type_of};
+ghost use Rattle.net_http.specs.Texts.{fields_of, status_text, sentence_of, type_of};
 
 /// The status of an answer.
 #[derive(Clone, Copy, Debug, PartialEq, Eq)]
@@ -22,7 +22,7 @@ pub enum Status {
 impl Status {
     /// The status as the first line of the answer says it.
     pub fn reason(self) -> &'static str
-        ensures { result.now ≡ reason_of self }
+        ensures { result.now ≡ status_text self }
     {
         match self {
             Status::Ok => "200 OK",

@@ -7,7 +7,7 @@ use Rattle.websocket.specs.FrameHeader.{IsHeader, IsCutHeader, StartsWithHeader,
 use Rattle.websocket.proofs.CutHeaderLemmas.{IsCutHeader_from_decode}
 use Rattle.websocket.proofs.FrameHeaderLemmas.{decode_header-encode_header, same_decoded}
 use Rattle.net_idle.specs.declared.frames.Frames.{Frames}
-use Rattle.net_idle.specs.Frames.{AreFrames, none, one_more, Stands, Follows, AreWhole, entered}
+use Rattle.net_idle.specs.Frames.{AreFrames, none, one_more, AreFramesSoFar, HasFollowedBytes, AreWhole, entered}
 
 -- ---- headers
 
@@ -59,7 +59,7 @@ ends_here cut byte h n (g, m, b, more, good, whole) (valid, (x ∷ xs, is)) =
 -- ---- what passes
 
 -- nothing has passed
-pub stands_at_begin : (frames : Frames) → frames.filled ≡ 0 → frames.left ≡ 0 → frames.is_split ≡ false → Stands frames []
+pub stands_at_begin : (frames : Frames) → frames.filled ≡ 0 → frames.left ≡ 0 → frames.is_split ≡ false → AreFramesSoFar frames []
 stands_at_begin frames empty whole together =
     record {
       front = [];
@@ -70,15 +70,15 @@ stands_at_begin frames empty whole together =
     }
 
 -- between two messages all that passed is whole messages
-pub whole_messages : (frames : Frames) (bytes : List ℕ) → AreWhole frames → Follows frames bytes → AreFrames bytes false
+pub whole_messages : (frames : Frames) (bytes : List ℕ) → AreWhole frames → HasFollowedBytes frames bytes → AreFrames bytes false
 whole_messages frames bytes whole follows =
     let stands = follows whole.3 in
     let are : bytes ≡ stands.front ++ [] = rw whole.0 at stands.bytes_are in
     rw are (rw whole.2 at (stands.gets_whole [] (sym whole.1)))
 
 -- a byte of a payload
-pub stands_in_payload : (frames : Frames) (bytes : List ℕ) (byte left : ℕ) → frames.left ≡ left + 1 → Stands frames bytes
-    → Stands (record frames { left = left }) (bytes ++ byte ∷ [])
+pub stands_in_payload : (frames : Frames) (bytes : List ℕ) (byte left : ℕ) → frames.left ≡ left + 1 → AreFramesSoFar frames bytes
+    → AreFramesSoFar (record frames { left = left }) (bytes ++ byte ∷ [])
 stands_in_payload frames bytes byte left one stands =
     let no_header : frames.filled ≡ 0 = stands.one_of_both (omega arith) in
     let are : bytes ≡ stands.front ++ [] = rw no_header at stands.bytes_are in
@@ -96,8 +96,8 @@ with_byte frames byte = record frames { head = set frames.head frames.filled byt
 
 -- a byte of a header that isn't its last
 pub stands_in_header : (frames : Frames) (bytes : List ℕ) (byte : ℕ) → frames.left ≡ 0 → frames.filled < length frames.head
-    → IsCutHeader (take (frames.filled + 1) (set frames.head frames.filled byte)) → Stands frames bytes
-    → Stands (with_byte frames byte) (bytes ++ byte ∷ [])
+    → IsCutHeader (take (frames.filled + 1) (set frames.head frames.filled byte)) → AreFramesSoFar frames bytes
+    → AreFramesSoFar (with_byte frames byte) (bytes ++ byte ∷ [])
 stands_in_header frames bytes byte none_left room cut stands =
     record {
       front = stands.front;
@@ -109,8 +109,8 @@ stands_in_header frames bytes byte none_left room cut stands =
 
 -- the last byte of a header
 pub stands_behind_header : (frames : Frames) (bytes : List ℕ) (byte : ℕ) (h : FrameHeader) (n : ℕ) → frames.left ≡ 0 → frames.filled < length frames.head
-    → StartsWithHeader (take (frames.filled + 1) (set frames.head frames.filled byte)) h n → Stands frames bytes
-    → Stands (entered h n (with_byte frames byte)) (bytes ++ byte ∷ [])
+    → StartsWithHeader (take (frames.filled + 1) (set frames.head frames.filled byte)) h n → AreFramesSoFar frames bytes
+    → AreFramesSoFar (entered h n (with_byte frames byte)) (bytes ++ byte ∷ [])
 stands_behind_header frames bytes byte h n none_left room starts stands =
     let cut = take frames.filled frames.head in
     let now : StartsWithHeader (cut ++ byte ∷ []) h n = rw (take_more_set frames.head frames.filled byte room) at starts in

@@ -28,7 +28,7 @@ AreMessages bytes = AreFrames bytes false
 
 -- where the bytes lead to that were frames so far: to what is kept of a header, which isn't whole, behind a front. With as many bytes
 -- as are left, whatever they are, the front is whole frames.
-pub record Stands (frames : Frames) (bytes : List ℕ) : Type 0 where
+pub record AreFramesSoFar (frames : Frames) (bytes : List ℕ) : Type 0 where
   pub front : List ℕ
   pub bytes_are : bytes ≡ front ++ take frames.filled frames.head
   pub is_cut : IsCutHeader (take frames.filled frames.head)
@@ -36,8 +36,8 @@ pub record Stands (frames : Frames) (bytes : List ℕ) : Type 0 where
   pub one_of_both : 0 < frames.left → frames.filled ≡ 0
 
 -- these are the bytes that passed so far, unless some were no header
-abbrev pub Follows : Frames → List ℕ → Type 0
-Follows frames bytes = frames.is_lost ≡ false → Stands frames bytes
+abbrev pub HasFollowedBytes : Frames → List ℕ → Type 0
+HasFollowedBytes frames bytes = frames.is_lost ≡ false → AreFramesSoFar frames bytes
 
 -- no header and no payload is begun, no frame of a message is still to come, and all bytes were frames
 abbrev pub AreWhole : Frames → Type 0

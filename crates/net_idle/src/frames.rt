@@ -1,6 +1,6 @@
 // Where the frames of a WebSocket end in the bytes of a stream.
 ghost use Rattle.std.specs.Prelude.{◌≡◌, ◌↔◌, ℕ, List, [], ◌∷◌, ◌++◌, IsTrue};
-ghost use Rattle.net_idle.specs.Frames.{AreWhole, Follows, entered};
+ghost use Rattle.net_idle.specs.Frames.{AreWhole, HasFollowedBytes, entered};
 
 use websocket::protocol::frame::FrameHeader;
 use websocket::protocol::frame::coding::OpCode;
@@ -22,7 +22,7 @@ pub(crate) struct Frames {
 impl Frames {
     /// Of no bytes yet.
     pub(crate) fn new() -> Frames
-        ensures { Follows result [] }
+        ensures { HasFollowedBytes result [] }
     {
         Frames {
             head: [0; FrameHeader::MAX_SIZE],
@@ -42,7 +42,7 @@ impl Frames {
 
     /// Goes on by these bytes.
     pub(crate) fn pass(&mut self, bytes: &[u8])
-        ensures { (before : List ℕ) → Follows self.old before → Follows self.new (before ++ bytes.now) }
+        ensures { (before : List ℕ) → HasFollowedBytes self.old before → HasFollowedBytes self.new (before ++ bytes.now) }
     {
         for byte in bytes {
             self.pass_one(*byte);
@@ -51,7 +51,7 @@ impl Frames {
 
     // Goes on by a byte.
     fn pass_one(&mut self, byte: u8)
-        ensures { (before : List ℕ) → Follows self.old before → Follows self.new (before ++ byte ∷ []) }
+        ensures { (before : List ℕ) → HasFollowedBytes self.old before → HasFollowedBytes self.new (before ++ byte ∷ []) }
     {
         if self.left > 0 {
             self.left -= 1;
@@ -63,7 +63,7 @@ impl Frames {
     // Goes on by a byte of a header. Once bytes were no header, no byte is one.
     fn begin(&mut self, byte: u8)
         requires { self.old.left ≡ 0 }
-        ensures { (before : List ℕ) → Follows self.old before → Follows self.new (before ++ byte ∷ []) }
+        ensures { (before : List ℕ) → HasFollowedBytes self.old before → HasFollowedBytes self.new (before ++ byte ∷ []) }
     {
         if self.is_lost || self.filled >= FrameHeader::MAX_SIZE {
             self.is_lost = true;

@@ -9,7 +9,7 @@ ghost use Rattle.std.specs.Prelude.{◌≡◌, ◌↔◌, ℕ, List, [], ◌++�
 ghost use Rattle.std.specs.Io.KnownBytes.{Keeps, ReadConsumes, WriteAppends};
 ghost use Rattle.std.specs.Io.{ReadsAtMost, WritesAtMost};
 ghost use Rattle.std.specs.IoError.{error_kind};
-ghost use Rattle.net_idle.specs.Frames.{AreMessages, AreWhole, Follows};
+ghost use Rattle.net_idle.specs.Frames.{AreMessages, AreWhole, HasFollowedBytes};
 ghost use Rattle.net_idle.specs.Pausing.{IsDue, MayPause, counted};
 
 mod frames;
@@ -44,7 +44,7 @@ pub struct Pausing<S> {
 impl<S> Pausing<S> {
     /// A stream, no byte of which was read since the handshake.
     pub fn new(stream: S) -> Pausing<S>
-        ensures frames { Follows result.frames [] }
+        ensures frames { HasFollowedBytes result.frames [] }
         ensures paused { result.has_paused ≡ false }
         ensures stream { result.stream ≡ stream }
         ensures passed { result.passed ≡ 0 }
@@ -62,7 +62,7 @@ impl<S> Pausing<S> {
     /// Checks whether it has paused. Then the bytes that it gave are whole messages, all of them.
     pub fn has_paused(&self) -> bool
         ensures value { result ≡ self.now.has_paused }
-        ensures messages { IsTrue result → (bytes : List ℕ) → Follows self.now.frames bytes → AreMessages bytes }
+        ensures messages { IsTrue result → (bytes : List ℕ) → HasFollowedBytes self.now.frames bytes → AreMessages bytes }
     {
         self.has_paused
     }
@@ -109,9 +109,9 @@ impl<S: Read> Read for Pausing<S> {
     fn read(&mut self, buf: &mut [u8]) -> io::Result<usize>
         ensures bound { ReadsAtMost result buf.new }
         ensures bytes { ReadConsumes (S.remaining self.old.stream) (S.remaining self.new.stream) result buf.new }
-        ensures frames { (before : List ℕ) → Follows self.old.frames before →
-            MatchResult result (λ count. Follows self.new.frames (before ++ take count buf.new))
-            (λ _. Follows self.new.frames before) }
+        ensures frames { (before : List ℕ) → HasFollowedBytes self.old.frames before →
+            MatchResult result (λ count. HasFollowedBytes self.new.frames (before ++ take count buf.new))
+            (λ _. HasFollowedBytes self.new.frames before) }
         ensures paused { IfOk result (λ _. self.new.has_paused ≡ false) }
         ensures due { self.new.has_paused ≡ true ↔ IsDue self.old.frames self.old.has_failed self.old.passed }
         ensures pauses { IsDue self.old.frames self.old.has_failed self.old.passed → MatchResult result (λ _. ⊥) (λ e. error_kind e ≡ ErrorKind.WouldBlock) }

@@ -9,9 +9,9 @@ use Rattle.canvas_model.specs.Local.{EditRequest}
 use Rattle.canvas_daemon.specs.declared.fault.DaemonFault.{DaemonFault}
 use Rattle.canvas_daemon.specs.declared.fault.DaemonFault.TheVariants.{Usage, BadLine, Memory, Device, Damaged, TooLarge}
 use Rattle.canvas_daemon.specs.Faults as daemon
-use Rattle.canvas_daemon.specs.Faults.{IsFaultStatus, fault_line}
+use Rattle.canvas_daemon.specs.Faults.{IsDaemonStatus, daemon_fault_line}
 use Rattle.canvas_threads.specs.Worked.{Beside}
-use Rattle.rally.specs.Faults.{IsEnd, line_of}
+use Rattle.rally.specs.Faults.{IsRallyEnd, line_of}
 use Rattle.rally.specs.Pages.{AsksForPage, IsSetOf, first_of_client}
 use Rattle.rally.specs.Rallied.{AgreeWith, AreEqual}
 
@@ -41,7 +41,7 @@ asks_more c n (first ∷ rest) more request is set asks =
     (asks.0, (let count = length-append rest (request ∷ []) in let before = asks.1 in omega (arith, count, before)), all_more (IsSetOf (first_of_client c)) rest request asks.2 set)
 
 -- the line of a fault that isn't the usage is that of `canvasd`
-same_line : (fault : DaemonFault) → (fault ≡ Usage → ⊥) → fault_line fault ≡ line_of fault
+same_line : (fault : DaemonFault) → (fault ≡ Usage → ⊥) → daemon_fault_line fault ≡ line_of fault
 same_line Usage other = absurd (other refl)
 same_line (BadLine n) other = refl
 same_line Memory other = refl
@@ -49,7 +49,7 @@ same_line Device other = refl
 same_line (Damaged segment offset) other = refl
 same_line TooLarge other = refl
 
-pub told_so : (fault : DaemonFault) (status : ℕ) (faults told : Option (List ℕ)) → (fault ≡ Usage → ⊥) → daemon.IsEnd fault status faults told → IsEnd fault status faults told
+pub told_so : (fault : DaemonFault) (status : ℕ) (faults told : Option (List ℕ)) → (fault ≡ Usage → ⊥) → daemon.IsDaemonEnd fault status faults told → IsRallyEnd fault status faults told
 told_so fault status faults told other (inl is) = inl (is.0, subst (Appends faults told) (same_line fault other) is.1)
 told_so fault status faults told other (inr is) = inr is
 

@@ -23,13 +23,13 @@ abbrev pub AreEqual : List Client → Type 0
 AreEqual clients = (first : Client) → slice_get clients 0 ≡ Some first → All (AgreeWith first) clients
 
 -- whether the clients agree, in a word
-abbrev pub equal_word : Bool → List ℕ
-equal_word true = codes "yes"
-equal_word false = codes "no"
+abbrev pub agreement_word : Bool → List ℕ
+agreement_word true = codes "yes"
+agreement_word false = codes "no"
 
 -- the line of a rally whose first client is at this version
 abbrev pub rally_line : ℕ → Bool → List ℕ
-rally_line version equal = codes "rally version " ++ decimal version ++ codes " equal " ++ equal_word equal ++ 10 ∷ []
+rally_line version equal = codes "rally version " ++ decimal version ++ codes " equal " ++ agreement_word equal ++ 10 ∷ []
 
 -- the line of some version was written
 abbrev pub WritesRally : Bool → Option (List ℕ) → Option (List ℕ) → Type 0

@@ -1,7 +1,7 @@
 // What ends the program early.
 ghost use Rattle.std.specs.Prelude.{◌≡◌};
 ghost use Rattle.canvas_daemon.specs.Faults.{IsMemoryOrDevice};
-ghost use Rattle.rally.specs.Faults.{IsEnd};
+ghost use Rattle.rally.specs.Faults.{IsRallyEnd};
 
 use canvas_daemon::DaemonFault;
 use canvas_desk::SubmitError;
@@ -11,7 +11,7 @@ use std::io::Write;
 
 /// Tells of a fault on `faults`, as `canvasd` does, but for its own usage. The program's status: the fault's, or 4 where it can't be told.
 pub fn end<F: Write>(fault: &DaemonFault, faults: &mut F) -> u8
-    ensures { IsEnd fault.now result (F.contents faults.old) (F.contents faults.new) }
+    ensures { IsRallyEnd fault.now result (F.contents faults.old) (F.contents faults.new) }
 {
     match fault {
         DaemonFault::Usage => tell_usage(faults),
@@ -21,7 +21,7 @@ pub fn end<F: Write>(fault: &DaemonFault, faults: &mut F) -> u8
 
 // Tells how the program is called. The program's status.
 fn tell_usage<F: Write>(faults: &mut F) -> u8
-    ensures { IsEnd DaemonFault.Usage result (F.contents faults.old) (F.contents faults.new) }
+    ensures { IsRallyEnd DaemonFault.Usage result (F.contents faults.old) (F.contents faults.new) }
 {
     match write_out(faults, b"usage: rally DIR CLIENTS EDITS\n") {
         Ok(()) => 2,

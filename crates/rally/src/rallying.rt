@@ -2,7 +2,7 @@
 ghost use Rattle.std.specs.Prelude.{◌≡◌, ◌↔◌, ℕ, All, IfErr, IfOk, IsTrue, length, string_bytes};
 ghost use Rattle.canvas_daemon.specs.Faults.{IsMemoryOrDevice};
 ghost use Rattle.canvas_daemon.specs.Served.{IsServeFault};
-ghost use Rattle.rally.specs.Rallied.{AgreeWith, AreEqual, HasRallied, WritesRally, equal_word, rally_line};
+ghost use Rattle.rally.specs.Rallied.{AgreeWith, AreEqual, HasRallied, WritesRally, agreement_word, rally_line};
 
 use crate::fault::fault_of;
 use crate::page::Page;
@@ -58,7 +58,7 @@ fn rally_line(alloc: Global, version: u64, equal: bool) -> Result<String, AllocE
 
 // Checks whether the clients agree, in a word.
 fn equal_word(equal: bool) -> &'static str
-    ensures { result.now ≡ equal_word equal }
+    ensures { result.now ≡ agreement_word equal }
 {
     if equal { "yes" } else { "no" }
 }

@@ -1,6 +1,6 @@
 // The program: its words, and the status that it ends with.
 ghost use Rattle.std.specs.Prelude.{IfErr, IfOk, map, string_bytes};
-ghost use Rattle.rally.specs.Runs.{Does, Fails, IsRun};
+ghost use Rattle.rally.specs.Runs.{DoesRally, FailsRally, IsRallyRun};
 
 use crate::args::read_words;
 use crate::fault::end;
@@ -24,7 +24,7 @@ where
     R: Threads + Wait + AllocGlobal + Clone + Send + Sync + Drop,
     W: Write,
     F: Write,
-    ensures { IsRun (map string_bytes words.now) result
+    ensures { IsRallyRun (map string_bytes words.now) result
         (W.contents output.old) (W.contents output.new)
         (F.contents faults.old) (F.contents faults.new) }
 {
@@ -45,8 +45,8 @@ fn perform<R, W>(
 where
     R: Threads + Wait + AllocGlobal + Clone + Send + Sync + Drop,
     W: Write,
-    ensures done { IfOk result (λ equal. Does (map string_bytes words.now) equal (W.contents output.old) (W.contents output.new)) }
-    ensures failed { IfErr result (Fails (map string_bytes words.now) (W.contents output.old) (W.contents output.new)) }
+    ensures done { IfOk result (λ equal. DoesRally (map string_bytes words.now) equal (W.contents output.old) (W.contents output.new)) }
+    ensures failed { IfErr result (FailsRally (map string_bytes words.now) (W.contents output.old) (W.contents output.new)) }
 {
     let Some(asked) = read_words(words) else {
         return Err(DaemonFault::Usage);

@@ -5,7 +5,7 @@ use Rattle.canvas_model.specs.Log.{Entry, last_version}
 use Rattle.canvas_model.proofs.Tests.{lt_false}
 use Rattle.canvas_server.specs.Served.{Served, tail_of}
 use Rattle.canvas_journal.proofs.Entries.{take-least}
-use Rattle.canvas_board.specs.Marks.{Failed, Floor, IsLegal, LegalFrom, Logged, Mark, MayFollow, Opening, board, board_from, start, step}
+use Rattle.canvas_board.specs.Marks.{Failed, Floor, IsLegalHistory, LegalFrom, Logged, Mark, MarkMayFollow, Opening, board, board_from, start, step}
 
 -- ---- floors and counts
 
@@ -22,7 +22,7 @@ filled_logged b e f l = record {
   few = inr (omega (arith, l));
 }
 
-filled_floor : (b : Served) (v : ℕ) → IsFilled b → MayFollow b (Floor v) → IsFilled (step b (Floor v))
+filled_floor : (b : Served) (v : ℕ) → IsFilled b → MarkMayFollow b (Floor v) → IsFilled (step b (Floor v))
 filled_floor b v f l = record {
   whole = omega (arith, l.0, l.1, f.whole, length-drop (v - b.floor) b.kept);
   shown = f.shown;
@@ -35,7 +35,7 @@ filled b (Logged e ∷ xs) f l = filled (step b (Logged e)) xs (filled_logged b 
 filled b (Floor v ∷ xs) f l = filled (step b (Floor v)) xs (filled_floor b v f l.0) l.1
 filled b (Failed ∷ xs) f l = filled b xs f l.1
 
-filled_board : (o : Opening) (xs : List Mark) → IsLegal o xs → IsFilled (board o xs)
+filled_board : (o : Opening) (xs : List Mark) → IsLegalHistory o xs → IsFilled (board o xs)
 filled_board o xs l = filled (start o) xs (record { whole = omega arith; shown = refl; few = inl refl }) l
 
 -- ---- tails
@@ -53,5 +53,5 @@ few_by false b from es f small is told =
     ⊎_elim (λ (none : length b.kept ≡ 0). omega (arith, size, first, rest, all, small, none)) (λ (few : b.version ≤ last_version). omega (arith, size, first, rest, all, small, above, f.whole, few)) f.few
 
 -- a version and the entries told after it are numbers of 64 bits
-pub few_told : (o : Opening) (h : List Mark) (from : ℕ) (es : List Entry) → IsLegal o h → from < 2 ^ 64 → Some es ≡ tail_of (board o h) from 64 → from + length es < 2 ^ 64
+pub few_told : (o : Opening) (h : List Mark) (from : ℕ) (es : List Entry) → IsLegalHistory o h → from < 2 ^ 64 → Some es ≡ tail_of (board o h) from 64 → from + length es < 2 ^ 64
 few_told o h from es legal small told = few_by (nat_lt from (board o h).floor) (board o h) from es (filled_board o h legal) small refl told

@@ -11,15 +11,15 @@ use Rattle.canvas_board.specs.Marks.{Mark, Opening}
 use Rattle.canvas_desk.specs.declared.faults.Refusal.TheVariants.{Stranger, Repeat, Gap, Full}
 use Rattle.canvas_desk.specs.declared.faults.SubmitError.{SubmitError}
 use Rattle.canvas_desk.specs.declared.faults.SubmitError.TheVariants.{Refused, NotKept, Owed}
-use Rattle.canvas_nodes.specs.Answers.{IsAnswer, IsEnd, refused}
+use Rattle.canvas_nodes.specs.Answers.{IsAnswer, EndsAnswer, refusal_alone}
 use Rattle.room_handler.specs.News.{tells, tells_or_copies}
-use Rattle.room_handler.specs.Table.{AnswersAsk, AnswersRequest, IsJudged, IsToldAs, SaysOf, TellsNews, TellsRefusal, answer_of}
+use Rattle.room_handler.specs.Table.{AnswersAsk, AnswersRequest, IsJudgedSince, IsToldAs, SaysOf, TellsNews, TellsRefusal, answer_of}
 
-told_ends : (w : What) (outcome : Outcome) (m : Message) → IsToldAs w outcome m → IsEnd m
-told_ends Join outcome m told = subst IsEnd (sym told.2) tt
-told_ends (Edit change) outcome m told = subst IsEnd (sym told) tt
+told_ends : (w : What) (outcome : Outcome) (m : Message) → IsToldAs w outcome m → EndsAnswer m
+told_ends Join outcome m told = subst EndsAnswer (sym told.2) tt
+told_ends (Edit change) outcome m told = subst EndsAnswer (sym told) tt
 
-refused_ends : (e : SubmitError) → IsEnd (answer_of e)
+refused_ends : (e : SubmitError) → EndsAnswer (answer_of e)
 refused_ends (Refused Stranger) = tt
 refused_ends (Refused (Repeat done)) = tt
 refused_ends (Refused (Gap done)) = tt
@@ -27,10 +27,10 @@ refused_ends (Refused Full) = tt
 refused_ends (NotKept error) = tt
 refused_ends (Owed v) = tt
 
-pub says_ends : (o : Opening) (q : Asked) (old : List Mark) (m : Message) (new : List Mark) → SaysOf o q old m new → IsEnd m
+pub says_ends : (o : Opening) (q : Asked) (old : List Mark) (m : Message) (new : List Mark) → SaysOf o q old m new → EndsAnswer m
 says_ends o q old m new says = ⊎_elim
-    (λ (j : IsJudged q old m new). told_ends j.entry.what j.entry.outcome m j.told)
-    (λ (r : TellsRefusal o q old m new). subst IsEnd (sym r.told) (refused_ends r.error))
+    (λ (j : IsJudgedSince q old m new). told_ends j.entry.what j.entry.outcome m j.told)
+    (λ (r : TellsRefusal o q old m new). subst EndsAnswer (sym r.told) (refused_ends r.error))
     says
 
 request_whole : (o : Opening) (q : Asked) (old : List Mark) (answer : List Message) (new : List Mark) → AnswersRequest o q old answer new → IsAnswer answer
@@ -45,7 +45,7 @@ news_whole : (b : Served) (client from : ℕ) (t : Option (List Entry)) → IsAn
 news_whole b client from None = ((λ end. end), tt)
 news_whole b client from (Some es) = entries_whole from es
 
-refused_whole : (reason : NoReason) (answer : List Message) → answer ≡ refused reason → IsAnswer answer
+refused_whole : (reason : NoReason) (answer : List Message) → answer ≡ refusal_alone reason → IsAnswer answer
 refused_whole reason answer is = subst IsAnswer (sym is) tt
 
 pub ask_whole : (b : Served) (client from : ℕ) (answer : List Message) → AnswersAsk b client from answer → IsAnswer answer

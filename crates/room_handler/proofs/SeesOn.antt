@@ -3,7 +3,7 @@ use Rattle.std.proofs.Common.{ℕ, zero, suc, ◌+◌, List, ◌++◌, ap, sym, 
 use mathlib.Core.Logic.{inl, inr}
 use Rattle.canvas_model.specs.Client.{Client}
 use Rattle.canvas_model.specs.Messages.{Message, Ask}
-use Rattle.canvas_board.specs.Marks.{Mark, Opening, Sees}
+use Rattle.canvas_board.specs.Marks.{Mark, Opening, SeesHistory}
 use Rattle.canvas_nodes.specs.declared.link.LinkError.{LinkError}
 use Rattle.canvas_nodes.specs.declared.link.LinkError.TheVariants as link
 use Rattle.canvas_nodes.specs.Hears.{Breaks, BreaksAtEdit, BreaksCatching, BreaksOff, BreaksSending, CatchesUp, Climbs, Exchanges, SendsEdit, SendsEach}
@@ -13,8 +13,8 @@ use Rattle.room_handler.specs.Exchanges.{ExchangesSeeOn}
 
 pub sees_further : (o : Opening) (a b c : List Mark) → SeesOn o a b → SeesOn o b c → SeesOn o a c
 sees_further o a b c (inl h) (inl i) = inl (i ∙ h)
-sees_further o a b c (inl h) (inr i) = inr (subst (λ (x : List Mark). Sees o x c) h i)
-sees_further o a b c (inr h) (inl i) = inr (subst (λ (x : List Mark). Sees o a x) (sym i) h)
+sees_further o a b c (inl h) (inr i) = inr (subst (λ (x : List Mark). SeesHistory o x c) h i)
+sees_further o a b c (inr h) (inl i) = inr (subst (λ (x : List Mark). SeesHistory o a x) (sym i) h)
 sees_further o a b c (inr h) (inr i) = inr ((h.0.0 ++ i.0.0, sym (append_assoc a h.0.0 i.0.0) ∙ ap (λ (x : List Mark). x ++ i.0.0) h.0.1 ∙ i.0.1), i.1)
 
 pub refused_sees : (o : Opening) (a : List Mark) (m : Message) (e : LinkError) (b : List Mark) → RefusesRound o a m e b → SeesOn o a b

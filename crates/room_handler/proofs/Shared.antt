@@ -9,8 +9,8 @@ use Rattle.canvas_model.specs.Messages as messages
 use Rattle.canvas_model.specs.Messages.{Idle}
 use Rattle.canvas_server.specs.Served.{Served}
 use Rattle.canvas_wire.specs.Text.{EncodesMessage}
-use Rattle.canvas_board.specs.Marks.{Mark, Opening, Sees, board}
-use Rattle.canvas_nodes.specs.Answers.{AreTexts, GivesTexts}
+use Rattle.canvas_board.specs.Marks.{Mark, Opening, SeesHistory, board}
+use Rattle.canvas_nodes.specs.Answers.{AreMessageTexts, GivesTexts}
 use Rattle.room_handler.specs.News.{tells_or_copies}
 use Rattle.room_handler.specs.Table.{AnswersAsk, Gives, SeesOn, TellsTexts}
 use Rattle.room_handler.proofs.Ends.{ask_whole}
@@ -35,7 +35,7 @@ module _ (o : Opening) (client version : ℕ) (texts : List (List ℕ)) where
   told_on old new sees (answer, tells, are) = (answer, (sees, inl tells), ask_whole (board o new) client version answer (inl tells), are)
 
   -- what is written anew of an answer by the table
-  pub told_anew : (old new : List Mark) (answer : List messages.Message) → SeesOn o old new → AnswersAsk (board o new) client version answer → AreTexts texts answer → GivesTexts (Gives o) old (messages.Ask client version) texts new
+  pub told_anew : (old new : List Mark) (answer : List messages.Message) → SeesOn o old new → AnswersAsk (board o new) client version answer → AreMessageTexts texts answer → GivesTexts (Gives o) old (messages.Ask client version) texts new
   told_anew old new answer sees answers are = (answer, (sees, answers), ask_whole (board o new) client version answer answers, are)
 
   -- what is answered after one look more

@@ -5,7 +5,7 @@ use Rattle.canvas_server.specs.Served.{Served}
 use Rattle.canvas_wire.specs.Text.{EncodesRows}
 
 -- What is kept of a board, so that each client can be sent the copy that it has for it: all but its document, of which the rows' text is kept.
-pub record Keeps (b : Served) (version floor : ℕ) (clients : List Counts) (rows : List ℕ) : Type 0 where
+pub record IsKeptForCopies (b : Served) (version floor : ℕ) (clients : List Counts) (rows : List ℕ) : Type 0 where
   pub at_version : version ≡ b.version
   pub from_floor : floor ≡ b.floor
   pub of_clients : clients ≡ b.state.clients

@@ -12,17 +12,17 @@ use Rattle.canvas_journal.specs.declared.fault.KeepError.{KeepError}
 use Rattle.canvas_journal.specs.declared.fault.KeepError.TheVariants as keep
 use Rattle.canvas_server.specs.Asked.{Asked}
 use Rattle.canvas_server.specs.Served.{Served}
-use Rattle.canvas_board.specs.Marks.{Logged, Mark, Opening, Sees, board}
+use Rattle.canvas_board.specs.Marks.{Logged, Mark, Opening, SeesHistory, board}
 use Rattle.canvas_desk.specs.declared.faults.Refusal.TheVariants as refusal
 use Rattle.canvas_desk.specs.declared.faults.SubmitError.{SubmitError}
 use Rattle.canvas_desk.specs.declared.faults.SubmitError.TheVariants as submit
-use Rattle.canvas_room.specs.Seats.{Answers, IsRefused, RefusesEdit}
-use Rattle.canvas_nodes.specs.Answers.{AreTexts, refused}
+use Rattle.canvas_room.specs.Seats.{Answers, IsRefusedSince, RefusesEdit}
+use Rattle.canvas_nodes.specs.Answers.{AreMessageTexts, refusal_alone}
 use Rattle.room_handler.specs.News.{news_of}
 
 -- no more was seen, or a legal history that begins with what was seen
 abbrev pub SeesOn : Opening → List Mark → List Mark → Type 0
-SeesOn o old new = (new ≡ old) ⊎ Sees o old new
+SeesOn o old new = (new ≡ old) ⊎ SeesHistory o old new
 
 -- The entry stands in what has been seen since: it is one of the marks by which the new history is longer than the old.
 pub record IsSince (old new : List Mark) (e : Entry) : Type 0 where
@@ -36,11 +36,11 @@ IsToldAs Join outcome m = (client : ℕ) × (outcome ≡ Joined client) × (m �
 IsToldAs (Edit change) outcome m = m ≡ Idle
 
 -- the reason of the No where a request isn't kept
-abbrev pub reason_of : KeepError → NoReason
-reason_of keep.Device = no.Device
-reason_of keep.Failed = no.Failed
-reason_of keep.Memory = no.Memory
-reason_of keep.TooLarge = no.TooLarge
+abbrev pub reason_not_kept : KeepError → NoReason
+reason_not_kept keep.Device = no.Device
+reason_not_kept keep.Failed = no.Failed
+reason_not_kept keep.Memory = no.Memory
+reason_not_kept keep.TooLarge = no.TooLarge
 
 -- the answer where a submit refuses a request: a No with the error's number, but Idle where the edit was judged before
 abbrev pub answer_of : SubmitError → Message
@@ -48,11 +48,11 @@ answer_of (submit.Refused refusal.Stranger) = No (number_of no.Stranger)
 answer_of (submit.Refused (refusal.Repeat done)) = Idle
 answer_of (submit.Refused (refusal.Gap done)) = No (number_of no.Gap)
 answer_of (submit.Refused refusal.Full) = No (number_of no.Full)
-answer_of (submit.NotKept error) = No (number_of (reason_of error))
+answer_of (submit.NotKept error) = No (number_of (reason_not_kept error))
 answer_of (submit.Owed v) = No (number_of no.Memory)
 
 -- An entry that answers the request stands in what has been seen since, and the message tells what became of it.
-pub record IsJudged (q : Asked) (old : List Mark) (m : Message) (new : List Mark) : Type 0 where
+pub record IsJudgedSince (q : Asked) (old : List Mark) (m : Message) (new : List Mark) : Type 0 where
   pub entry : Entry
   pub answers : Answers q entry
   pub since : IsSince old new entry
@@ -62,12 +62,12 @@ pub record IsJudged (q : Asked) (old : List Mark) (m : Message) (new : List Mark
 pub record TellsRefusal (o : Opening) (q : Asked) (old : List Mark) (m : Message) (new : List Mark) : Type 0 where
   pub error : SubmitError
   pub refuses : RefusesEdit q error
-  pub judged : IsRefused o old new q error
+  pub judged : IsRefusedSince o old new q error
   pub told : m ≡ answer_of error
 
 -- the message says of a request that it was judged, or why not
 abbrev pub SaysOf : Opening → Asked → List Mark → Message → List Mark → Type 0
-SaysOf o q old m new = IsJudged q old m new ⊎ TellsRefusal o q old m new
+SaysOf o q old m new = IsJudgedSince q old m new ⊎ TellsRefusal o q old m new
 
 -- what is answered a request: one message that says of it what it became
 abbrev pub AnswersRequest : Opening → Asked → List Mark → List Message → List Mark → Type 0
@@ -79,19 +79,19 @@ TellsNews b client from answer = (joined b.state client ≡ true) × (answer ≡
 
 -- the same, as texts
 abbrev pub TellsTexts : Served → ℕ → ℕ → List (List ℕ) → Type 0
-TellsTexts b client from texts = (answer : List Message) × TellsNews b client from answer × AreTexts texts answer
+TellsTexts b client from texts = (answer : List Message) × TellsNews b client from answer × AreMessageTexts texts answer
 
 -- what is answered an Ask: the news of the board that was seen, or a No to a client that hasn't joined by then
 abbrev pub AnswersAsk : Served → ℕ → ℕ → List Message → Type 0
-AnswersAsk b client from answer = TellsNews b client from answer ⊎ ((joined b.state client ≡ false) × (answer ≡ refused no.Stranger))
+AnswersAsk b client from answer = TellsNews b client from answer ⊎ ((joined b.state client ≡ false) × (answer ≡ refusal_alone no.Stranger))
 
 -- what is answered a message, and what has been seen then: by the kind of the message
-abbrev pub IsAnswerTo : Opening → List Mark → Message → List Message → List Mark → Type 0
-IsAnswerTo o old messages.Join answer new = AnswersRequest o (record { author = 0; seq = 0; what = Join }) old answer new
-IsAnswerTo o old (messages.Edit client seq change) answer new = AnswersRequest o (record { author = client; seq = seq; what = Edit change }) old answer new
-IsAnswerTo o old (messages.Ask client version) answer new = AnswersAsk (board o new) client version answer
-IsAnswerTo o old _ answer new = (answer ≡ refused no.NotRead) × (new ≡ old)
+abbrev pub IsAnswerToMessage : Opening → List Mark → Message → List Message → List Mark → Type 0
+IsAnswerToMessage o old messages.Join answer new = AnswersRequest o (record { author = 0; seq = 0; what = Join }) old answer new
+IsAnswerToMessage o old (messages.Edit client seq change) answer new = AnswersRequest o (record { author = client; seq = seq; what = Edit change }) old answer new
+IsAnswerToMessage o old (messages.Ask client version) answer new = AnswersAsk (board o new) client version answer
+IsAnswerToMessage o old _ answer new = (answer ≡ refusal_alone no.NotRead) × (new ≡ old)
 
 -- an answer by the table, and no more was seen than goes on from what was
 abbrev pub Gives : Opening → List Mark → Message → List Message → List Mark → Type 0
-Gives o old m answer new = SeesOn o old new × IsAnswerTo o old m answer new
+Gives o old m answer new = SeesOn o old new × IsAnswerToMessage o old m answer new

@@ -2,7 +2,7 @@
 ghost use Rattle.std.specs.Prelude.{◌≡◌, ◌∷◌, [], IfOk, map};
 ghost use Rattle.canvas_judge.specs.Seen.{seen_message};
 ghost use Rattle.canvas_nodes.specs.Answers.{IsAnswer};
-ghost use Rattle.room_handler.specs.Table.{IsAnswerTo, SeesOn};
+ghost use Rattle.room_handler.specs.Table.{IsAnswerToMessage, SeesOn};
 
 use crate::asking::answer_ask;
 use crate::requests::answer_request;
@@ -32,7 +32,7 @@ pub fn answer<K: Keeper + Drop, N: RoomName, R: Wait + Drop, W: Wait, P: Pace>(
     message: &Message,
     pace: &P,
 ) -> Result<Vec<Message>, AllocError>
-    ensures table { IfOk result (λ answer. IsAnswerTo N.opening seat.old (seen_message message.now) (map seen_message answer.items) seat.new) }
+    ensures table { IfOk result (λ answer. IsAnswerToMessage N.opening seat.old (seen_message message.now) (map seen_message answer.items) seat.new) }
     ensures whole { IfOk result (λ answer. IsAnswer (map seen_message answer.items)) }
     ensures sees { SeesOn N.opening seat.old seat.new }
 {

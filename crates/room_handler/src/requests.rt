@@ -3,9 +3,9 @@ ghost use Rattle.std.specs.Prelude.{◌≡◌, IfOk, map};
 ghost use mathlib.Core.List.{IsPrefix};
 ghost use Rattle.canvas_judge.specs.Seen.{seen_message};
 ghost use Rattle.canvas_server.specs.Asked.{seen_request};
-ghost use Rattle.canvas_board.specs.Marks.{Sees};
+ghost use Rattle.canvas_board.specs.Marks.{SeesHistory};
 ghost use Rattle.canvas_room.specs.Seats.{IsOutcomeOf};
-ghost use Rattle.room_handler.specs.Table.{AnswersRequest, IsToldAs, SaysOf, SeesOn, answer_of, reason_of};
+ghost use Rattle.room_handler.specs.Table.{AnswersRequest, IsToldAs, SaysOf, SeesOn, answer_of, reason_not_kept};
 
 use canvas_board::{Receipt, RoomName};
 use canvas_desk::{Refusal, SubmitError};
@@ -63,7 +63,7 @@ fn take_in<K: Keeper + Drop, N: RoomName, R: Wait + Drop, W: Wait, P: Pace>(
     pace: &P,
 )
     ensures learned { IsPrefix receipt.history seat.new }
-    ensures sees { Sees N.opening seat.old seat.new }
+    ensures sees { SeesHistory N.opening seat.old seat.new }
 {
     seat.learn(receipt);
     let _ = seat.tidy_at(rt, pace);
@@ -97,7 +97,7 @@ fn refused(error: SubmitError) -> Message
 
 // The reason of the No where a request isn't kept.
 fn not_kept(error: KeepError) -> NoReason
-    ensures { result ≡ reason_of error }
+    ensures { result ≡ reason_not_kept error }
 {
     match error {
         KeepError::Device => NoReason::Device,

@@ -1,7 +1,7 @@
 // A client's link to a seat in the same process.
 ghost use Rattle.std.specs.Prelude.{◌≡◌, IfErr, IfNone, IfOk, IfSome, map};
 ghost use Rattle.canvas_judge.specs.Seen.{seen_message};
-ghost use Rattle.canvas_nodes.specs.Answers.{IsAnswer, refused};
+ghost use Rattle.canvas_nodes.specs.Answers.{IsAnswer, refusal_alone};
 ghost use Rattle.room_handler.specs.Links.{Grants, IsNo, RefusesRound};
 
 use crate::SeatAnswerer;
@@ -79,7 +79,7 @@ impl<K: Keeper + Drop, N: RoomName, R: Wait + Drop, W: Wait + Drop> Link
 
 // The reason of an answer that is a No, which stands alone.
 fn refusal(answer: &[Message]) -> Option<NoReason>
-    ensures some { IfSome result (λ reason. map seen_message answer.now ≡ refused reason) }
+    ensures some { IfSome result (λ reason. map seen_message answer.now ≡ refusal_alone reason) }
     ensures none { IfNone result (IsNo (map seen_message answer.now) → ⊥) }
 {
     let [message] = answer else {

@@ -38,7 +38,7 @@ impl<N: RoomName> Model for SharedCopy<N> {
     ghost use Rattle.std.specs.Coded.{codes};
     ghost use Rattle.canvas_model.specs.Codes.{value_code};
     ghost use Rattle.canvas_board.specs.Marks.{Mark, board};
-    ghost use Rattle.room_handler.specs.Copies.{Keeps};
+    ghost use Rattle.room_handler.specs.Copies.{IsKeptForCopies};
 
     ghost Value = { List Mark };
 
@@ -46,7 +46,7 @@ impl<N: RoomName> Model for SharedCopy<N> {
 
     ghost view = { λ c. c.front };
 
-    ghost invariant = { λ c. Keeps (board N.opening c.front) c.version c.floor c.clients.items c.rows.items };
+    ghost invariant = { λ c. IsKeptForCopies (board N.opening c.front) c.version c.floor c.clients.items c.rows.items };
 }
 
 impl<N: RoomName> SharedCopy<N> {

@@ -1,7 +1,7 @@
 //! A server in memory, as an answerer: it tells an Ask one entry at most.
 ghost use Rattle.std.specs.Prelude.{IfOk, map};
 ghost use Rattle.canvas_judge.specs.Seen.{seen_message};
-ghost use Rattle.canvas_nodes.specs.Answers.{IsAnswer, IsEnd};
+ghost use Rattle.canvas_nodes.specs.Answers.{IsAnswer, EndsAnswer};
 
 use canvas_doc::Change;
 use canvas_judge::{Entry, Message, NoReason};
@@ -98,7 +98,7 @@ impl Room {
 
 // An answer of one message.
 fn alone(alloc: Global, message: Message) -> Result<Vec<Message>, AllocError>
-    requires { IsEnd (seen_message message) }
+    requires { EndsAnswer (seen_message message) }
     ensures { IfOk result (λ answer. IsAnswer (map seen_message answer.items)) }
 {
     let mut answer = Vec::new(alloc);

@@ -1,6 +1,6 @@
 // Rooms over shelves, and what is found of those later.
 ghost use Rattle.std.specs.Prelude.{◌≡◌, true, IsTrue, IfErr};
-ghost use Rattle.canvas_journal.specs.Meaning.{IsCounted};
+ghost use Rattle.canvas_journal.specs.Meaning.{IsCountedByEntries};
 ghost use Rattle.canvas_shelf.specs.Disk.{top_is_listed};
 
 use crate::fragile::Fragile;
@@ -18,7 +18,7 @@ const SEATS: usize = 2;
 
 // Checks whether no client has more judged edits than there are entries.
 fn is_counted(state: &State, version: u64) -> bool
-    ensures { IsTrue result → IsCounted (state.now, version) }
+    ensures { IsTrue result → IsCountedByEntries (state.now, version) }
 {
     state.clients().iter().all(|counts| counts.done <= version)
 }

@@ -9,7 +9,7 @@ use Rattle.disk_integrity.specs.declared.listed.Listed.{Listed}
 use Rattle.disk_integrity.specs.declared.loss.Loss.{Loss}
 use Rattle.disk_integrity.specs.declared.trace.Trace.{Trace}
 use Rattle.app_admin.specs.Checkpoints.{checkpoint_bytes}
-use Rattle.app_admin.specs.Losing.{content_of, number_of}
+use Rattle.app_admin.specs.Losing.{content_of, number_taken}
 use Rattle.app_admin.specs.Taken.{TakesFrom, source_of}
 use Rattle.app_admin.proofs.finding_loss.find_loss.Goals as goal
 
@@ -44,7 +44,7 @@ returns-clause-found g c = λ h.
       content,
       takes,
       finds,
-      same_told c.loss_of.result c.args.trace c.taken_number.result (number_of source) c.deref-3.result.now (checkpoint_bytes s) c.deref-2.result.now c.in_ok-listed.listed.items
+      same_told c.loss_of.result c.args.trace c.taken_number.result (number_taken source) c.deref-3.result.now (checkpoint_bytes s) c.deref-2.result.now c.in_ok-listed.listed.items
           c.taken_number.ensures
           (c.deref-3.ensures.value ∙ c.in_ok-checkpoint.ensures)
           c.deref-2.ensures.value

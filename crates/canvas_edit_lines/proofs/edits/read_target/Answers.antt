@@ -1,4 +1,4 @@
-use Rattle.canvas_edit_lines.specs.Words.{SpellsAfter}
+use Rattle.canvas_edit_lines.specs.Words.{SpellsChildBefore}
 use Rattle.canvas_edit_lines.proofs.Shapes.{target_shape}
 use Rattle.canvas_edit_lines.proofs.Pairs.{no_cut, no_first, no_second, spaced_of}
 use Rattle.canvas_edit_lines.proofs.edits.read_target.Goals as goal
@@ -12,7 +12,7 @@ returns-in_err-parent-2-clause-err c =
 
 pub returns-in_err-after-clause-err : goal.returns-in_err-after-clause-err
 returns-in_err-after-clause-err c =
-    no_second (target_shape c.args.text.now) c.from_residual-in_err-after.result _ c.from_residual-in_err-after.ensures.1 _ _ c.in_ok-parent.ensures.ok (SpellsAfter c.in_ok-parent.after.now) (λ x y a b. b) c.in_err-after.ensures.err
+    no_second (target_shape c.args.text.now) c.from_residual-in_err-after.result _ c.from_residual-in_err-after.ensures.1 _ _ c.in_ok-parent.ensures.ok (SpellsChildBefore c.in_ok-parent.after.now) (λ x y a b. b) c.in_err-after.ensures.err
 
 pub returns-clause-ok : goal.returns-clause-ok
 returns-clause-ok c = spaced_of _ _ _ _ _ c.in_ok-parent.ensures.ok c.in_ok-parent-2.ensures.ok c.in_ok-after.ensures.ok

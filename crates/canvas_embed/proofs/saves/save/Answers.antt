@@ -5,7 +5,7 @@ use Rattle.serde_json.specs.Written.{has_float, compact_text}
 use Rattle.canvas_model.specs.Document.{Doc}
 use Rattle.canvas_forms.specs.Rows.{rows_form}
 use Rattle.canvas_forms.specs.RowOrder.{are_in_order}
-use Rattle.canvas_embed.specs.Saves.{saved_form, parts_of}
+use Rattle.canvas_embed.specs.Saves.{saved_form, saved_parts_of}
 use Rattle.canvas_embed.proofs.Saved.{saved_no_float, saved_nests, each_shallow, stands_written}
 use Rattle.canvas_embed.proofs.saves.save.Goals as goal
 
@@ -18,7 +18,7 @@ returns c =
     record {
       text = c.in_ok-text.ensures.text (ap has_float same ∙ saved_no_float client) ∙ ap compact_text same;
       back = λ shallow. (
-        saved_form.write (parts_of client),
+        saved_form.write (saved_parts_of client),
         (c.in_ok-text.ensures.utf8, c.in_ok-text.ensures.reads_back (subst (λ d. D.depth d ≤ 127) (sym same) (saved_nests client (all, shallow))) ∙ ap Some same),
         (stands_written client c.know_waiting.ensures c.know_numbers.ensures sound fits ordered, (all, shallow)),
       );

@@ -1,4 +1,4 @@
-use Rattle.canvas_script.specs.Lines.{SpellsLong, SpellsRest, seen_said}
+use Rattle.canvas_script.specs.Lines.{SpellsLong, SpellsAfterWord, seen_said}
 use Rattle.canvas_edit_lines.proofs.Pairs.{no_cut, no_first, no_rest, ok_of, spaced_of}
 use Rattle.canvas_script.proofs.Shapes.{long_shape, head_rest}
 use Rattle.canvas_script.proofs.said.read_long.Goals as goal
@@ -12,10 +12,10 @@ returns-in_err-head-2-clause-err c =
 
 pub returns-clause-ok : goal.returns-clause-ok
 returns-clause-ok c =
-    ok_of c.read_rest.result (λ said. SpellsRest c.in_ok-head-2.head c.in_ok-head.rest.now (seen_said said)) (λ said. SpellsLong c.args.line.now (seen_said said))
+    ok_of c.read_rest.result (λ said. SpellsAfterWord c.in_ok-head-2.head c.in_ok-head.rest.now (seen_said said)) (λ said. SpellsLong c.args.line.now (seen_said said))
     (λ said spelled. (c.in_ok-head-2.head, spaced_of _ _ _ _ _ c.in_ok-head.ensures.ok c.in_ok-head-2.ensures.ok spelled)) c.read_rest.ensures.ok
 
 pub returns-clause-err : goal.returns-clause-err
 returns-clause-err c =
-    no_rest (long_shape c.args.line.now) _ _ c.in_ok-head.ensures.ok (SpellsRest c.in_ok-head-2.head c.in_ok-head.rest.now)
+    no_rest (long_shape c.args.line.now) _ _ c.in_ok-head.ensures.ok (SpellsAfterWord c.in_ok-head-2.head c.in_ok-head.rest.now)
     (head_rest c.in_ok-head.head.now c.in_ok-head.rest.now c.in_ok-head-2.head c.in_ok-head-2.ensures.ok) c.read_rest.result c.read_rest.ensures.err

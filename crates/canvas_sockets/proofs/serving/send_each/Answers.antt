@@ -3,13 +3,13 @@ use mathlib.Core.Logic.{inl, inr}
 use Rattle.std.proofs.Common.{ℕ, List, Vec, Global, map, subst}
 use Rattle.tungstenite.specs.Failure.{IsIo}
 use Rattle.tungstenite.specs.declared.error.Error.{Error}
-use Rattle.canvas_sockets.specs.Served.{SendsEach, StopsSending}
+use Rattle.canvas_sockets.specs.Served.{SendsEachText, StopsSending}
 use Rattle.canvas_sockets.proofs.serving.send_each.Goals as goal
 
 pub returns-clause-sends : goal.returns-clause-sends
 returns-clause-sends g c =
     on_ok_weaker c.flush.result
-    (λ empty. subst (λ (vs : List (Vec ℕ Global)). SendsEach g.S.Write.contents c.args.socket.now (map (λ (v : Vec ℕ Global). v.items) vs) c.flush.new.self) c.deref.ensures.value
+    (λ empty. subst (λ (vs : List (Vec ℕ Global)). SendsEachText g.S.Write.contents c.args.socket.now (map (λ (v : Vec ℕ Global). v.items) vs) c.flush.new.self) c.deref.ensures.value
     (c.write_each.new.socket, c.in_ok-write_each.ensures.writes, (c.flush.ensures.sent, empty)))
     c.flush.ensures.empty
 

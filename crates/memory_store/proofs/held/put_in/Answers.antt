@@ -2,7 +2,7 @@ use Rattle.std.proofs.Common.{◌≡◌, ◌<◌, ◌≤◌, ◌++◌, ◌∷◌
 use Rattle.std.proofs.lemmas.Grind.{common_steps}
 use Rattle.std.proofs.lemmas.List.{get_or_default}
 use Rattle.canvas_shelf.proofs.Results.{always_err}
-use Rattle.memory_store.specs.Held.{content_of}
+use Rattle.memory_store.specs.Held.{held_content}
 use Rattle.memory_store.specs.declared.held.Held.{Held}
 use Rattle.memory_store.proofs.Holding.{put_new, put_more, put_same}
 use Rattle.memory_store.proofs.held.put_in.Goals as goal
@@ -48,4 +48,4 @@ returns-clause-ok c =
     let y : Held = record { number = n; bytes = c.in_ok-bytes.bytes } in
     let copied : c.in_ok-bytes.bytes.items ≡ c.args.bytes.now = grind (arith, common_steps) in
     let into : c.insert.new.self.items ≡ take i xs ++ y ∷ drop i xs = c.in_ok-insert.ensures.items in
-    ap content_of into ∙ put_new n c.args.bytes.now xs i y (ap (λ (l : List ℕ). (n, l)) copied) within above next
+    ap held_content into ∙ put_new n c.args.bytes.now xs i y (ap (λ (l : List ℕ). (n, l)) copied) within above next

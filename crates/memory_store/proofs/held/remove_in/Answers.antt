@@ -1,6 +1,6 @@
 use Rattle.std.proofs.Common.{◌≡◌, ◌<◌, ◌≤◌, ◌+◌, ◌++◌, ℕ, suc, List, get_or, length, take, drop, arith, sym, ◌∙◌, ap, subst}
 use Rattle.std.proofs.lemmas.List.{get_or_default}
-use Rattle.memory_store.specs.Held.{content_of}
+use Rattle.memory_store.specs.Held.{held_content}
 use Rattle.memory_store.specs.Sound.{falls_of}
 use Rattle.memory_store.specs.declared.held.Held.{Held}
 use Rattle.memory_store.proofs.Holding.{taken_out, not_there}
@@ -16,7 +16,7 @@ returns-then-index-number c =
     let above = subst (λ (l : List Held). (k : ℕ) (h : Held) → k < i → n < (get_or l k h).number) c.deref.ensures.value c.place-i.ensures.above in
     let within : i < length xs = omega (arith, c.if-i-len.true, c.len.ensures, c.args.held.now.ok.0) in
     let e : i + 1 ≡ suc i = omega arith in
-    ap content_of (c.remove.ensures.by_index.2 ∙ ap (λ (k : ℕ). take i xs ++ drop k xs) e) ∙ taken_out n xs i x c.index.ensures c.if-index-number.true within above
+    ap held_content (c.remove.ensures.by_index.2 ∙ ap (λ (k : ℕ). take i xs ++ drop k xs) e) ∙ taken_out n xs i x c.index.ensures c.if-index-number.true within above
 
 pub returns-else-i-len : goal.returns-else-i-len
 returns-else-i-len c =
@@ -34,4 +34,4 @@ returns-else-i-len c =
           omega (arith, low h less, same, apart)
       | else-i-len-via-else-i-len w ↦ absurd (omega (arith, less, w.if-i-len.false, c.len.ensures, c.args.held.now.ok.0))
     ] in
-    sym (not_there n xs i (falls_of (content_of xs) c.requires) above next within)
+    sym (not_there n xs i (falls_of (held_content xs) c.requires) above next within)

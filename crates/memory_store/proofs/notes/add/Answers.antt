@@ -1,11 +1,11 @@
 use Rattle.std.proofs.Common.{List, ◌∙◌, ap}
-use Rattle.memory_store.specs.Held.{after}
+use Rattle.memory_store.specs.Held.{disk_after}
 use Rattle.memory_store.specs.declared.notes.Note.{Note}
 use Rattle.memory_store.proofs.Noting.{after_push, legal_added, fits_added, stays_added}
 use Rattle.memory_store.proofs.notes.add.Goals as goal
 
 pub returns-clause-ok : goal.returns-clause-ok
-returns-clause-ok c disk = ap (λ (l : List Note). after l disk) c.in_ok-push.ensures.items ∙ after_push c.args.notes.now.items c.args.note disk
+returns-clause-ok c disk = ap (λ (l : List Note). disk_after l disk) c.in_ok-push.ensures.items ∙ after_push c.args.notes.now.items c.args.note disk
 
 pub returns-clause-legal : goal.returns-clause-legal
 returns-clause-legal c disk legal may = legal_added c.args.notes.now.items _ c.args.note disk c.in_ok-push.ensures.items legal may

@@ -3,7 +3,7 @@ use Rattle.std.proofs.lemmas.Result.{IfOk-weaker}
 use Rattle.httparse.specs.Ascii.{crlf_bytes}
 use Rattle.net_http.specs.Answers.{page_policy}
 use Rattle.net_heads.specs.Written.{field_line}
-use Rattle.net_http.specs.Texts.{fields_of, reason_of, type_of}
+use Rattle.net_http.specs.Texts.{fields_of, status_text, type_of}
 use Rattle.net_http.proofs.HeadLines.{head_regroup}
 use Rattle.net_http.proofs.answers.head_text.Goals as goal
 
@@ -12,7 +12,7 @@ returns c =
     IfOk-weaker c.format.result _ _
     (λ s h. h
     ∙ rw (c.reason-reason.ensures, c.value-kind.ensures, c.as_str-identity.ensures.value, c.fields-fields.ensures)
-    (sym (head_regroup (codes "HTTP/1.1 ") (reason_of c.args.status) crlf_bytes
+    (sym (head_regroup (codes "HTTP/1.1 ") (status_text c.args.status) crlf_bytes
     (codes "Content-Type") (codes ": ") (type_of c.args.kind) (codes "Content-Length") (decimal c.args.length)
     (field_line (codes "Connection") (codes "close"))
     (field_line (codes "Cache-Control") (codes "no-store"))

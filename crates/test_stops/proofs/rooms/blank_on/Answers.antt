@@ -1,9 +1,9 @@
 use Rattle.std.proofs.Common.{IsTrue, rules, subst}
-use Rattle.canvas_journal.specs.Meaning.{IsCounted}
+use Rattle.canvas_journal.specs.Meaning.{IsCountedByEntries}
 use Rattle.test_stops.proofs.rooms.blank_on.Goals as goal
 
 pub blank_room-requires-clause-kept : goal.blank_room-requires-clause-kept
 blank_room-requires-clause-kept g c honest =
-    let counted : IsCounted (c.in-Ok.opened.1, c.in-Ok.opened.2) = search rules in
+    let counted : IsCountedByEntries (c.in-Ok.opened.1, c.in-Ok.opened.2) = search rules in
     let was = subst IsTrue c.in-Ok.ensures.honest honest in
     record { keeps_is = record { at = c.in-Ok.ensures.keeps was counted; ready = c.in-Ok.ensures.staged; next = search rules }; found = c.in-Ok.ensures.kept was counted }

@@ -2,7 +2,7 @@ use Rattle.std.proofs.Common.{◌≡◌, ◌∙◌, ◌<◌, ◌++◌, ◌∷◌
 use Rattle.std.proofs.lemmas.Bool.{cases_Bool}
 use Rattle.disk_integrity.specs.Losses.{IsLoss, down_to, is_taken}
 use Rattle.disk_integrity.specs.declared.listed.Listed.{Listed}
-use Rattle.disk_integrity.proofs.losses.loss_in_segments.Goals as goal
+use Rattle.disk_integrity.proofs.first_loss.loss_in_segments.Goals as goal
 
 -- a segment, whatever stands below it
 below_one : (taken : Option ℕ) (s : Listed) (older : List Listed) → (below : List Listed) × (down_to taken (s ∷ older) ≡ s ∷ below)

@@ -1,7 +1,7 @@
 // Whether segments are what a crash leaves.
 ghost use Rattle.std.specs.Prelude.{◌≡◌, MatchOption};
 ghost use Rattle.std.specs.List.{AllByRecursion};
-ghost use Rattle.disk_integrity.specs.Losses.{FirstLoss, IsLoss, IsLost, NothingLost, Stands, StandsFor, down_to, gone, is_taken};
+ghost use Rattle.disk_integrity.specs.Losses.{FirstLoss, IsLoss, IsLost, NothingLost, MayBeLeft, MayBeLeftIfTaken, down_to, gone, is_taken};
 
 use crate::check_sums;
 use crate::listed::Listed;
@@ -52,7 +52,7 @@ fn gone(taken: Option<u32>, trace: Option<Trace>) -> Option<Loss>
 // The first loss in these segments, down to the one that recovery takes.
 fn loss_in_segments(listed: &[Listed], taken: Option<u32>, checkpoint: &[u8]) -> Option<Loss>
     ensures { MatchOption result
-        (AllByRecursion (StandsFor taken checkpoint.now) (down_to taken listed.now))
+        (AllByRecursion (MayBeLeftIfTaken taken checkpoint.now) (down_to taken listed.now))
         (λ loss. FirstLoss taken checkpoint.now (down_to taken listed.now) loss) }
 {
     for one in listed {
@@ -79,7 +79,7 @@ pub fn is_taken(taken: Option<u32>, number: u32) -> bool
 
 // What a segment holds that no crash leaves.
 fn loss_in(one: &Listed, is_taken: bool, checkpoint: &[u8]) -> Option<Loss>
-    ensures { MatchOption result (Stands is_taken checkpoint.now one.now) (λ loss. IsLoss is_taken checkpoint.now one.now loss) }
+    ensures { MatchOption result (MayBeLeft is_taken checkpoint.now one.now) (λ loss. IsLoss is_taken checkpoint.now one.now loss) }
 {
     let segment = one.number;
     if let Err(fault) = check_sums(&one.bytes, &one.sums) {

@@ -1,6 +1,6 @@
 use Rattle.std.proofs.Common.{rules}
 use Rattle.net_http.proofs.Paths.{cut_at, no_cut}
-use Rattle.net_http.proofs.table.path_of.Goals as goal
+use Rattle.net_http.proofs.routes.path_of.Goals as goal
 
 pub returns-in-Some : goal.returns-in-Some
 returns-in-Some c = search (rules, cut_at)

@@ -4,7 +4,7 @@ use Rattle.disk_integrity.specs.Checked.{SumsHold}
 use Rattle.disk_integrity.specs.Parts.{IsCutRecord, records_end}
 use Rattle.disk_integrity.specs.Losses.{IsLoss}
 use Rattle.disk_integrity.specs.declared.loss.Loss.TheVariants.{NoCutRecord}
-use Rattle.disk_integrity.proofs.losses.loss_in.Goals as goal
+use Rattle.disk_integrity.proofs.first_loss.loss_in.Goals as goal
 
 pub returns-else-is_cut_record : goal.returns-else-is_cut_record
 returns-else-is_cut_record c =

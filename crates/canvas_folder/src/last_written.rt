@@ -1,7 +1,7 @@
 // The files that were written last.
 use crate::fault::OsFault;
-use crate::opened::{sync, write};
 use crate::path::FolderPath;
+use crate::system_calls::{sync, write};
 use std::alloc::{AllocError, Global};
 use std::fs::{File, OpenOptions};
 use std::rt::Files;
