@@ -14,26 +14,19 @@ use Rattle.canvas_model.specs.Log.{last_version}
 use Rattle.canvas_model.specs.Standing.{AreOwn}
 use Rattle.canvas_model.specs.View.{creates_it}
 use Rattle.canvas_model.proofs.Ids.{id_total}
+use Rattle.canvas_value.proofs.Tests.{both_hold, both_true}
 use Rattle.canvas_client.specs.Kept.{IsKept}
 use Rattle.canvas_client.specs.Parts.{CreatesNew}
 
 -- ---- one edit more, from the last one on
 
-both : (a b : Bool) → (a && b) ≡ true → (a ≡ true) × (b ≡ true)
-both true true e = (refl, refl)
-both true false e = cc
-both false b e = cc
-
-and_both : (a b : Bool) → a ≡ true → b ≡ true → (a && b) ≡ true
-and_both a b p q = ap (λ x. x && b) p ∙ q
-
 pub own_more : (c counter : ℕ) (noted : BTreeSet ObjId) (change : Change) (rest : List Change) (a b : Bool) → (IsTrue a ↔ AreOwn c counter rest) → ((q : ObjId) → contains id_cmp noted q ≡ list_any (creates_it q) rest)
     → (IsTrue b ↔ CreatesNew c counter noted change) → IsTrue (a && b) ↔ AreOwn c counter (change ∷ rest)
 own_more c counter noted (Create id kind place) rest a b own tells new =
-    (λ t. let s = both a b t in let n = new.0 s.1 in (n.1, n.2, sym (tells id) ∙ n.0, own.0 s.0), λ is. and_both a b (own.1 is.3) (new.1 (tells id ∙ is.2, is.0, is.1)))
-own_more c counter noted (Set id name value) rest a b own tells new = (λ t. own.0 (both a b t).0, λ is. and_both a b (own.1 is) (new.1 tt))
-own_more c counter noted (Move id place) rest a b own tells new = (λ t. own.0 (both a b t).0, λ is. and_both a b (own.1 is) (new.1 tt))
-own_more c counter noted (Delete id) rest a b own tells new = (λ t. own.0 (both a b t).0, λ is. and_both a b (own.1 is) (new.1 tt))
+    (λ t. let s = both_hold a b t in let n = new.0 s.1 in (n.1, n.2, sym (tells id) ∙ n.0, own.0 s.0), λ is. both_true a b (own.1 is.3) (new.1 (tells id ∙ is.2, is.0, is.1)))
+own_more c counter noted (Set id name value) rest a b own tells new = (λ t. own.0 (both_hold a b t).0, λ is. both_true a b (own.1 is) (new.1 tt))
+own_more c counter noted (Move id place) rest a b own tells new = (λ t. own.0 (both_hold a b t).0, λ is. both_true a b (own.1 is) (new.1 tt))
+own_more c counter noted (Delete id) rest a b own tells new = (λ t. own.0 (both_hold a b t).0, λ is. both_true a b (own.1 is) (new.1 tt))
 
 pub tells_more : (old new : BTreeSet ObjId) (change : Change) (rest : List Change) → ((q : ObjId) → contains id_cmp old q ≡ list_any (creates_it q) rest) → ((q : ObjId) → contains id_cmp new q ≡ (creates_it q change || contains id_cmp old q))
     → (q : ObjId) → contains id_cmp new q ≡ list_any (creates_it q) (change ∷ rest)
@@ -54,13 +47,13 @@ note_own c counter noted change id kind place b is new = subst (λ x. IsTrue ((b
 
     to : ((b && nat_eq id.client c) && nat_le id.counter counter) ≡ true → CreatesNew c counter noted (Create id kind place)
     to t =
-        let p = both (b && nat_eq id.client c) (nat_le id.counter counter) t in let q = both b (nat_eq id.client c) p.0 in let same = q.1 in let low = p.1 in
+        let p = both_hold (b && nat_eq id.client c) (nat_le id.counter counter) t in let q = both_hold b (nat_eq id.client c) p.0 in let same = q.1 in let low = p.1 in
         (hidden (contains id_cmp noted id) new q.0, grind (arith, same), grind (arith, low))
 
     fro : CreatesNew c counter noted (Create id kind place) → ((b && nat_eq id.client c) && nat_le id.counter counter) ≡ true
     fro n =
         let same = n.1 in let low = n.2 in
-        and_both (b && nat_eq id.client c) (nat_le id.counter counter) (and_both b (nat_eq id.client c) (shown (contains id_cmp noted id) new n.0) (grind (arith, same))) (grind (arith, low))
+        both_true (b && nat_eq id.client c) (nat_le id.counter counter) (both_true b (nat_eq id.client c) (shown (contains id_cmp noted id) new n.0) (grind (arith, same))) (grind (arith, low))
 
 pub note_tells : (old new : BTreeSet ObjId) (change : Change) (id : ObjId) (kind : Kind) (place : Place) → change ≡ Create id kind place → Updates id_cmp old new id true → (q : ObjId) → contains id_cmp new q ≡ (creates_it q change || contains id_cmp old q)
 note_tells old new change id kind place is up q = up.0 q ∙ ap (λ b. cond b true (contains id_cmp old q)) ((eq_by_cmp_equiv id_total).symm id q) ∙ turned (same_id q id) ∙ ap (λ x. creates_it q x || contains id_cmp old q) (sym is)

@@ -9,17 +9,14 @@ use Rattle.std.proofs.lemmas.Grind.{flat_map-append}
 use Rattle.canvas_model.specs.declared.ObjId.{ObjId}
 use Rattle.canvas_model.specs.Ids.{root}
 use Rattle.canvas_model.specs.Document.{Doc, Object, IsDocument, live}
-use Rattle.canvas_model.specs.Chain.{Below, itself, through}
-use Rattle.canvas_model.specs.Children.{AreChildren, child_cmp}
-use Rattle.canvas_model.proofs.Children.{child_cmp_total}
+use Rattle.canvas_model.specs.Children.{AreChildren}
+use Rattle.canvas_model.proofs.Trees.{below_live}
 use Rattle.canvas_judge.proofs.Gathered.{few}
 use Rattle.canvas_tree.specs.Laws.{SizesCount, TreesHoldInTree, TreesHoldOnce}
 use Rattle.canvas_tree.specs.Shapes.{Label, Forest, none, tree, Branch, tops, forest_size, branch_ids, branch_size}
 use Rattle.canvas_tree.specs.Texts.{label_text, forest_text, tree_text}
 use Rattle.canvas_tree.specs.Trees.{label_of, label_in, AreVertices, IsTreeAt, IsTreeOf}
-use Rattle.canvas_tree.proofs.Members.{in_from, in_to}
-use Rattle.canvas_tree.proofs.Ordered.{sorted_one}
-use Rattle.canvas_tree.proofs.Rows.{child_live}
+use Rattle.canvas_tree.proofs.One.{children_one}
 use Rattle.canvas_embed.specs.declared.trees.Pending.{Pending}
 use Rattle.canvas_embed.specs.Trees.{IsTextOfTree, ListsBelow, pending_at}
 
@@ -144,11 +141,6 @@ popped d i old left next text r e = go r.trees refl
           count = ap (λ v. i + total v) (sym f) ∙ r.count;
         }
 
--- two lists of the children of one object are one
-same_children : (d : Doc) (p : ObjId) (cs es : List ObjId) → AreChildren d p cs → AreChildren d p es → cs ≡ es
-same_children d p cs es a b = sorted_one (child_cmp d) (child_cmp_total d) cs es a.in_order b.in_order
-    (λ q h. in_from es q ((b.each q).1 ((a.each q).0 (in_to cs q h)))) (λ q h. in_from cs q ((a.each q).1 ((b.each q).0 (in_to es q h))))
-
 shown : (d : Doc) (l : Label) → label_in d l.id ≡ Some l → (o : Object) × (finmap.get d l.id ≡ Some o) × (label_of l.id o ≡ l)
 shown d l h = go (finmap.get d l.id) refl
   where
@@ -174,7 +166,7 @@ steps d i left new next text out o p is e b =
     let label : label_of next.id o ≡ l = ap (label_of next.id) same ∙ s.2 in
     let level : next.level ≡ n = ap (λ v. v.level) p.top in
     let deeper : next.level + 1 ≡ suc n = omega (arith, level) in
-    let ids : b.ids ≡ tops k = same_children d l.id b.ids (tops k) (subst (λ v. AreChildren d v b.ids) (ap (λ v. v.id) p.top) b.children) p.here.top.children in
+    let ids : b.ids ≡ tops k = children_one d l.id b.ids (tops k) (subst (λ v. AreChildren d v b.ids) (ap (λ v. v.id) p.top) b.children) p.here.top.children in
     let below : List (ℕ × Branch) = at_level (suc n) k in
     record {
       whole = p.whole;
@@ -200,10 +192,6 @@ ends d i pending text empty r = go r.trees refl
     go : (ps : List (ℕ × Branch)) → r.trees ≡ ps → IsTextOfTree d text
     go [] f = record { tree = r.whole; shown = r.fits; text = sym (r.written ∙ ap (λ v. text ++ flat_map text_at v) f ∙ append-nil text) }
     go (p ∷ ps) f = absurd (let g : reverse pending ≡ top_of p ∷ map top_of ps = r.stack ∙ ap (map top_of) f in omega (arith, empty, ap length g, length-reverse pending))
-
-below_live : {d : Doc} {q o : ObjId} → Below d q o → live d q ≡ true
-below_live (itself h) = h
-below_live {d} {q} (through place is up) = child_live d q place.parent (ap (option_map (λ p. p.parent)) is)
 
 -- and so it is after as many objects as the document has
 pub all_written : (d : Doc) (i : ℕ) (pending : List Pending) (text : List ℕ) → IsDocument d → TreesHoldInTree → TreesHoldOnce → SizesCount → length (finmap.entries d) ≤ i → Rests d i pending text → IsTextOfTree d text

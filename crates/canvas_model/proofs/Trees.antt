@@ -1,11 +1,11 @@
 -- Chains of parents.
 use Rattle.std.proofs.Common.{◌≡◌, refl, ap, subst}
-use Rattle.std.specs.Prelude.{true, Option, Some, None, is_some}
+use Rattle.std.specs.Prelude.{◌≢◌, true, Option, Some, None, is_some}
 use Rattle.std.specs.Option.{option_and_then}
 use Rattle.std.specs.FinMap as map
 use Rattle.canvas_model.specs.declared.ObjId.{ObjId}
 use Rattle.canvas_model.specs.Ids.{root}
-use Rattle.canvas_model.specs.Document.{Doc, Object, live, place_of, Place}
+use Rattle.canvas_model.specs.Document.{Doc, Object, IsDocument, live, place_of, Place}
 use Rattle.canvas_model.specs.Chain.{Below, itself, through, IsCycle}
 use Rattle.canvas_model.specs.State.{State, IsSound}
 
@@ -46,3 +46,12 @@ root_place s sound = (sound.at_root).1
 pub no_cycle : (s : State) → IsSound s → (q r : ObjId) → Below s.doc q r → r ≡ root → IsCycle s.doc q → ⊥
 no_cycle s sound q r (itself h) e c = let a = root_place s sound in let b = subst (λ x. place_of s.doc x ≡ Some c.0) e c.1 in cc
 no_cycle s sound q r (through place is up) e c = no_cycle s sound place.parent r up e (turn s.doc q place is (below_live up) c)
+
+-- what is in the tree and isn't the root has a place
+placed : {d : Doc} {q o : ObjId} → Below d q o → o ≡ root → q ≢ root → (place : Place) × (place_of d q ≡ Some place)
+placed (itself h) e apart = absurd (apart e)
+placed (through place is up) e apart = (place, is)
+
+-- a sound state's document is one
+pub document_of : (s : State) → IsSound s → IsDocument s.doc
+document_of s h = record { root_kind = h.at_root.0; root_place = h.at_root.1; others = λ q apart here. placed (h.in_tree q here) refl apart }

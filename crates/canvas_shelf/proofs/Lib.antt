@@ -5,3 +5,4 @@ pub mod Beginnings
 pub mod Moments
 pub mod InMemory
 pub mod Left
+pub mod Changed

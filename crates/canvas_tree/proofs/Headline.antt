@@ -17,16 +17,8 @@ use Rattle.canvas_tree.specs.Chains.{LeadTo}
 use Rattle.canvas_tree.specs.Laws.{EachHasTree, NoneHasTwo, ChainsAreBelow}
 use Rattle.canvas_tree.specs.Headline.{HaveOneTree, HoldOneDocument}
 use Rattle.canvas_model.proofs.Children.{child_place}
+use Rattle.canvas_model.proofs.Trees.{document_of}
 use Rattle.canvas_tree.proofs.Rows.{child_live}
-
--- ---- the states of a log
-
-placed : {d : Doc} {q o : ObjId} → Below d q o → o ≡ root → q ≢ root → (place : Place) × (place_of d q ≡ Some place)
-placed (itself h) e apart = absurd (apart e)
-placed (through place is up) e apart = (place, is)
-
-document_of : (s : State) → IsSound s → IsDocument s.doc
-document_of s h = record { root_kind = h.at_root.0; root_place = h.at_root.1; others = λ q apart here. placed (h.in_tree q here) refl apart }
 
 -- ---- the headline
 

@@ -9,7 +9,8 @@ use Rattle.canvas_tree.specs.Trees.{AreVertices, IsTreeAt}
 use Rattle.canvas_tree.proofs.Members.{in_from, in_to}
 use Rattle.canvas_tree.proofs.Ordered.{sorted_one}
 
-children_one : (d : Doc) (p : ObjId) (cs es : List ObjId) → AreChildren d p cs → AreChildren d p es → cs ≡ es
+-- two lists of the children of one object are one
+pub children_one : (d : Doc) (p : ObjId) (cs es : List ObjId) → AreChildren d p cs → AreChildren d p es → cs ≡ es
 children_one d p cs es a b =
     sorted_one (child_cmp d) (child_cmp_total d) cs es a.in_order b.in_order
     (λ z h. in_from es z ((b.each z).1 ((a.each z).0 (in_to cs z h))))

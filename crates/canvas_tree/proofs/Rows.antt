@@ -12,6 +12,7 @@ use Rattle.canvas_model.specs.Chain.{Below, itself, through, InTree}
 use Rattle.canvas_model.specs.Children.{parent_of}
 use Rattle.canvas_model.proofs.Children.{child_place}
 use Rattle.canvas_model.proofs.Ids.{id_apart}
+use Rattle.canvas_doc.proofs.Levels.{root_alive}
 use Rattle.canvas_tree.proofs.Members.{IsIn}
 use Rattle.canvas_tree.proofs.Climbs.{IsClimb, climb, climb_is, climb_short}
 
@@ -32,12 +33,6 @@ object_of_child d q p e = elim (some_or_none (finmap.get d q)) [
 
 pub child_live : (d : Doc) (q p : ObjId) → parent_of d q ≡ Some p → live d q ≡ true
 child_live d q p e = ap is_some (object_of_child d q p e).1
-
-pub root_live : (d : Doc) → IsDocument d → live d root ≡ true
-root_live d h = elim (some_or_none (finmap.get d root)) [
-  | inl s ↦ ap is_some s.1
-  | inr n ↦ absurd (let k = h.root_kind in let e : kind_of d root ≡ None = ap (option_map (λ o. o.kind)) n in cc)
-]
 
 pub root_top : (d : Doc) → IsDocument d → parent_of d root ≡ None
 root_top d h = ap (option_map (λ p. p.parent)) h.root_place
@@ -80,7 +75,7 @@ room_falls d p q is h e =
     let c = climb_of h in
     let n = length_everyone (finmap.entries d) in
     let top = root_top d is in
-    let s : length (p ∷ c.0) < length (everyone d) = climb_short (parent_of d) root top (everyone d) (λ q p f. live_listed d q (child_live d q p f)) (live_listed d root (root_live d is)) q (p ∷ c.0) (e, c.1) in
+    let s : length (p ∷ c.0) < length (everyone d) = climb_short (parent_of d) root top (everyone d) (λ q p f. live_listed d q (child_live d q p f)) (live_listed d root (root_alive d is)) q (p ∷ c.0) (e, c.1) in
     let up : climb (parent_of d) (length (finmap.entries d)) (parent_of d p) ≡ c.0 = climb_is (parent_of d) root top (length (finmap.entries d)) p c.0 c.1 (omega (arith, s, n)) in
     let on : climb (parent_of d) (length (finmap.entries d)) (parent_of d q) ≡ p ∷ c.0 = climb_is (parent_of d) root top (length (finmap.entries d)) q (p ∷ c.0) (e, c.1) (omega (arith, s, n)) in
     omega (arith, s, n, ap length up, ap length on)

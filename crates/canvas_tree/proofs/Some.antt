@@ -18,7 +18,8 @@ use Rattle.canvas_tree.specs.Trees.{label_of, AreVertices, IsTreeAt, IsTreeOf}
 use Rattle.canvas_tree.proofs.Members.{IsIn, in_from, in_to}
 use Rattle.canvas_tree.proofs.Ordered.{put, put_sorted, put_in, put_keeps, put_there, sorted_none}
 use Rattle.canvas_doc.proofs.Standing.{some_is}
-use Rattle.canvas_tree.proofs.Rows.{object_there, everyone, live_listed, child_live, root_live, child_below, room_below, room_falls}
+use Rattle.canvas_doc.proofs.Levels.{root_alive}
+use Rattle.canvas_tree.proofs.Rows.{object_there, everyone, live_listed, child_live, child_below, room_below, room_falls}
 
 -- ---- the children of an object
 
@@ -86,4 +87,4 @@ module _ (d : Doc) (is : IsDocument d) where
       )
 
   pub tree_there : (t : Branch) × IsTreeOf d t
-  tree_there = grown (suc (room_below d root)) root (itself (root_live d is)) (omega arith)
+  tree_there = grown (suc (room_below d root)) root (itself (root_alive d is)) (omega arith)
