@@ -1,7 +1,7 @@
 // The rule over the published board: two kinds of step, to publish and to enter.
-ghost use Rattle.std.specs.Prelude.{◌≡◌, [], MatchResult, drop};
+ghost use Rattle.std.specs.Prelude.{drop};
 ghost use mathlib.Core.List.{IsPrefix};
-ghost use Rattle.canvas_board.specs.Publishing.{last_of};
+ghost use Rattle.canvas_board.specs.Publishing.{ShowsPending, last_of};
 
 use crate::{Board, Mark, RoomName, Step};
 use core::mem::replace_with;
@@ -45,7 +45,7 @@ fn show_all<N: RoomName, W: Wait>(
     rt: &W,
 ) -> (BoardWriter<N>, Result<(), AllocError>)
     requires { IsPrefix writer.desk.shown.value (last_of writer.desk.shown.value (drop writer.behind writer.log.items)) }
-    ensures { MatchResult result.1 (λ _. (result.0.desk.shown.value ≡ last_of writer.desk.shown.value (drop writer.behind writer.log.items)) × (drop result.0.behind result.0.log.items ≡ [])) (λ _. (result.0.desk.shown.value ≡ writer.desk.shown.value) × (drop result.0.behind result.0.log.items ≡ drop writer.behind writer.log.items)) }
+    ensures { ShowsPending result.1 writer.desk.shown.value (drop writer.behind writer.log.items) result.0.desk.shown.value (drop result.0.behind result.0.log.items) }
 {
     writer.publish_as::<SeesAll, W>(rt)
 }
@@ -53,7 +53,7 @@ fn show_all<N: RoomName, W: Wait>(
 /// Publishes what is pending. If memory runs out, readers see what they saw, and the same is pending.
 pub fn publish<N: RoomName, W: Wait>(writer: &mut BoardWriter<N>, rt: &W) -> Result<(), AllocError>
     requires { IsPrefix writer.old.desk.shown.value (last_of writer.old.desk.shown.value (drop writer.old.behind writer.old.log.items)) }
-    ensures { MatchResult result (λ _. (writer.new.desk.shown.value ≡ last_of writer.old.desk.shown.value (drop writer.old.behind writer.old.log.items)) × (drop writer.new.behind writer.new.log.items ≡ [])) (λ _. (writer.new.desk.shown.value ≡ writer.old.desk.shown.value) × (drop writer.new.behind writer.new.log.items ≡ drop writer.old.behind writer.old.log.items)) }
+    ensures { ShowsPending result writer.old.desk.shown.value (drop writer.old.behind writer.old.log.items) writer.new.desk.shown.value (drop writer.new.behind writer.new.log.items) }
 {
     replace_with(writer, rt, show_all::<N, W>)
 }

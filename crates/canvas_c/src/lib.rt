@@ -12,7 +12,7 @@ ghost use Rattle.canvas_client.specs.Kept.{IsKept};
 ghost use Rattle.canvas_embed.specs.Saves.{IsLoadError, SpellsClient};
 ghost use Rattle.canvas_embed.specs.declared.fault.LoadError.TheVariants as load;
 ghost use Rattle.canvas_c.specs.Answers.{AskAnswer, ChildrenAnswer, ClearAnswer, CreateAnswer, CreateAtAnswer, CreateThereAnswer, DeleteAnswer, FreeAnswer, InTreeAnswer, IsLoaded, IsNewSession, JoinAnswer, LoadAnswer, MoveAnswer, MoveAtAnswer, MoveThereAnswer, NewAnswer, ObjectAnswer, ReadAnswer, ReceiveAnswer, SaveAnswer, SetAnswer, TellAnswer, TreeAnswer, WaitingAnswer};
-ghost use Rattle.canvas_c.specs.Held.{OnHeld};
+ghost use Rattle.canvas_c.specs.Held.{OnHeld, OnHeldMaking};
 ghost use Rattle.canvas_c.specs.Ids.{object, target_of};
 ghost use Rattle.canvas_c.specs.Numbers.{no_client};
 
@@ -201,7 +201,7 @@ pub extern "C" fn lugcurrant_create(
     after_counter: u32,
     made: &mut ObjectId,
 ) -> u32
-    ensures { OnHeld (CreateAnswer kind (target_of parent_client parent_counter after_client after_counter) made.old made.new result) ((result ≡ no_client) × (made.new ≡ made.old)) handle.old.kept.session handle.new.kept.session }
+    ensures { OnHeldMaking (CreateAnswer kind (target_of parent_client parent_counter after_client after_counter) made.old made.new result) result made.old made.new handle.old.kept.session handle.new.kept.session }
 {
     let Some(mut session) = handle.take(alloc) else {
         return NO_CLIENT;
@@ -226,7 +226,7 @@ pub extern "C" fn lugcurrant_create_at(
     position: &[u8],
     made: &mut ObjectId,
 ) -> u32
-    ensures { OnHeld (CreateAtAnswer kind (object parent_client parent_counter) position.now made.old made.new result) ((result ≡ no_client) × (made.new ≡ made.old)) handle.old.kept.session handle.new.kept.session }
+    ensures { OnHeldMaking (CreateAtAnswer kind (object parent_client parent_counter) position.now made.old made.new result) result made.old made.new handle.old.kept.session handle.new.kept.session }
 {
     let Some(mut session) = handle.take(alloc) else {
         return NO_CLIENT;
@@ -250,7 +250,7 @@ pub extern "C" fn lugcurrant_create_last(
     parent_counter: u32,
     made: &mut ObjectId,
 ) -> u32
-    ensures { OnHeld (CreateThereAnswer LiesLast kind (object parent_client parent_counter) made.old made.new result) ((result ≡ no_client) × (made.new ≡ made.old)) handle.old.kept.session handle.new.kept.session }
+    ensures { OnHeldMaking (CreateThereAnswer LiesLast kind (object parent_client parent_counter) made.old made.new result) result made.old made.new handle.old.kept.session handle.new.kept.session }
 {
     let Some(mut session) = handle.take(alloc) else {
         return NO_CLIENT;
@@ -274,7 +274,7 @@ pub extern "C" fn lugcurrant_create_first(
     parent_counter: u32,
     made: &mut ObjectId,
 ) -> u32
-    ensures { OnHeld (CreateThereAnswer LiesFirst kind (object parent_client parent_counter) made.old made.new result) ((result ≡ no_client) × (made.new ≡ made.old)) handle.old.kept.session handle.new.kept.session }
+    ensures { OnHeldMaking (CreateThereAnswer LiesFirst kind (object parent_client parent_counter) made.old made.new result) result made.old made.new handle.old.kept.session handle.new.kept.session }
 {
     let Some(mut session) = handle.take(alloc) else {
         return NO_CLIENT;

@@ -1,7 +1,7 @@
 // A room: the lock round its desk, and its seats.
 ghost use Rattle.std.specs.Prelude.{◌≡◌, ◌≤◌, ◌<◌, ◌⊎◌, [], IfErr, IfOk, IsTrue, false, replicate};
 ghost use Rattle.canvas_model.specs.Log.{last_version};
-ghost use Rattle.canvas_desk.specs.Ready.{IsKeptAt};
+ghost use Rattle.canvas_desk.specs.Ready.{IsKeeperAt};
 
 use crate::mailbox::Mailbox;
 use crate::seat_slot::SeatSlot;
@@ -61,7 +61,7 @@ impl<K: Keeper> Model for BlankRoom<K> {
     ghost use Rattle.std.specs.Coded.{codes};
     ghost use Rattle.canvas_model.specs.Codes.{state_code, value_code};
     ghost use Rattle.canvas_model.specs.Log.{last_version};
-    ghost use Rattle.canvas_desk.specs.Ready.{IsKeptAt};
+    ghost use Rattle.canvas_desk.specs.Ready.{IsKeeperAt};
     ghost use Rattle.canvas_room.specs.Rooms.{BlankRoomValue};
 
     ghost Value = { BlankRoomValue K };
@@ -70,7 +70,7 @@ impl<K: Keeper> Model for BlankRoom<K> {
 
     ghost view = { λ b. record { keeper = b.keeper; opening = b.opening; book = b.blank.seen.book; seats = b.seats } };
 
-    ghost invariant = { λ b. (0 < b.seats) × (b.seats ≤ 64) × (b.opening.version ≤ last_version) × (K.failed b.keeper ≡ false) × (IsTrue (K.honest b.keeper) → IsKeptAt (K.keeps b.keeper) K.finds (K.left_since b.keeper (K.moment b.keeper)) (b.opening.state, b.opening.version)) };
+    ghost invariant = { λ b. (0 < b.seats) × (b.seats ≤ 64) × (b.opening.version ≤ last_version) × (K.failed b.keeper ≡ false) × (IsTrue (K.honest b.keeper) → IsKeeperAt K.keeps K.finds K.left_since K.moment b.keeper (b.opening.state, b.opening.version)) };
 }
 
 /// A room of so many seats over a keeper that stands at what the room opens with. SeatCount where they aren't 1 to 64, and then the
@@ -83,7 +83,7 @@ pub fn blank_room<K: Keeper>(
 ) -> Result<BlankRoom<K>, (K, RoomError)>
     requires few { opening.version ≤ last_version }
     requires alive { K.failed keeper ≡ false }
-    requires kept { IsTrue (K.honest keeper) → IsKeptAt (K.keeps keeper) K.finds (K.left_since keeper (K.moment keeper)) (opening.state, opening.version) }
+    requires kept { IsTrue (K.honest keeper) → IsKeeperAt K.keeps K.finds K.left_since K.moment keeper (opening.state, opening.version) }
     ensures blank { IfOk result (λ b. (b.keeper ≡ keeper) × (b.opening ≡ opening) × (b.seats ≡ seats)) }
     ensures back { IfErr result (λ e. (e.0 ≡ keeper) × (e.1 ≡ RoomError.SeatCount) × ((seats ≡ 0) ⊎ (64 < seats))) }
 {

@@ -1,6 +1,6 @@
 //! Desks to ask.
 ghost use Rattle.std.specs.Prelude.{◌≡◌, [], IsTrue, false};
-ghost use Rattle.canvas_desk.specs.Ready.{IsKeptAt};
+ghost use Rattle.canvas_desk.specs.Ready.{IsKeeperAt};
 ghost use Rattle.canvas_room_tests.specs.Desks.{first_opening};
 ghost use Rattle.canvas_journal.specs.Meaning.{opening_version};
 ghost use Rattle.canvas_shelf.specs.Shelved.{disk_of};
@@ -42,7 +42,7 @@ fn desk_over<'a, K: Keeper + Drop, N: RoomName, W: Wait>(
     requires book { blank.seen.book ≡ N.book }
     requires opening { N.opening ≡ first_opening }
     requires alive { K.failed keeper ≡ false }
-    requires kept { IsTrue (K.honest keeper) → IsKeptAt (K.keeps keeper) K.finds (K.left_since keeper (K.moment keeper)) opening_version }
+    requires kept { IsTrue (K.honest keeper) → IsKeeperAt K.keeps K.finds K.left_since K.moment keeper opening_version }
 {
     let state = State::new(alloc)?;
     let opening = Opening { state, version: 0 };

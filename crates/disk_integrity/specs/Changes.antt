@@ -1,5 +1,7 @@
 -- What a witness is shown.
 use Rattle.std.specs.Prelude.{◌≡◌, ℕ, List, Option, None, Some}
+use Rattle.canvas_shelf.specs.Disk.{Segment}
+use Rattle.canvas_shelf.specs.Moments.{Goes}
 use Rattle.disk_integrity.specs.declared.call.ShelfCall.{ShelfCall}
 
 -- a change of a shelf: a segment was made, bytes were put at its end, all its bytes were synced, or it was taken off the list
@@ -13,3 +15,7 @@ pub data WitnessedChange : Type 0 where
 abbrev pub Sees : {W : Type 0} → (W → WitnessedChange → W → Type 0) → Option ShelfCall → WitnessedChange → W → W → Type 0
 Sees sees None change old new = sees old change new
 Sees sees (Some call) change old new = new ≡ old
+
+-- the disk goes from the one to the other, by a call that would change it so
+abbrev pub GoesBy : (List Segment → List Segment) → List (List Segment) → List Segment → List (List Segment) → List Segment → Type 0
+GoesBy change before old since new = Goes before old (change old) since new
