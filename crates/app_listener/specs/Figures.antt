@@ -1,9 +1,10 @@
 -- How often checkpoints are made, and what they keep.
-use Rattle.std.specs.Prelude.{ℕ, ◌≤◌, ◌⊎◌, max, min}
+use Rattle.std.specs.Prelude.{ℕ, ◌≤◌, ◌⊎◌, ◌-◌, max, min}
 
--- a checkpoint is due, after so many entries of so many bytes: they take as many bytes as the last one did, and are 256 or take 1 MiB
-abbrev pub IsDue : ℕ → ℕ → ℕ → Type 0
-IsDue entries bytes last = (last ≤ bytes) × ((256 ≤ entries) ⊎ (1048576 ≤ bytes))
+-- A checkpoint is due at a version no lower than this one, where the entries since the last take as many bytes as it did, and are 256 or
+-- take 1 MiB.
+abbrev pub IsDue : ℕ → ℕ → ℕ → ℕ → ℕ → Type 0
+IsDue version until last bytes last_bytes = (until ≤ version) × (last_bytes ≤ bytes) × ((256 ≤ version - last) ⊎ (1048576 ≤ bytes))
 
 -- the most entries that a checkpoint of so many objects keeps
 abbrev pub entries_kept : ℕ → ℕ

@@ -94,10 +94,16 @@ impl Figures {
             let until = version.saturating_add(self.tail_entries());
             self.held_until.store(until, Ordering::SeqCst);
         }
-        let entries = version.saturating_sub(self.meter.checkpoint_version());
+        let until = self.held_until.load(Ordering::SeqCst);
+        let last = self.meter.checkpoint_version();
         let counts = self.notes.counts();
-        version >= self.held_until.load(Ordering::SeqCst)
-            && is_due(entries, counts.bytes_since, counts.checkpoint_bytes)
+        is_due(
+            version,
+            until,
+            last,
+            counts.bytes_since,
+            counts.checkpoint_bytes,
+        )
     }
 
     // How many checkpoints were refused.
@@ -167,12 +173,14 @@ impl Figures {
     }
 }
 
-// Checks whether a checkpoint is due after so many entries of so many bytes, where the last one took `last` bytes: so the bytes that are
-// written for checkpoints are no more than those of the entries.
-fn is_due(entries: u64, bytes: u64, last: u64) -> bool
-    ensures { IsTrue result ↔ IsDue entries bytes last }
+// Checks whether a checkpoint is due at a version, after so many bytes of entries since the last one, which stood at the version `last`
+// and took so many bytes: so the bytes that are written for checkpoints are no more than those of the entries. None is due before the
+// version `until`.
+fn is_due(version: u64, until: u64, last: u64, bytes: u64, last_bytes: u64) -> bool
+    ensures { IsTrue result ↔ IsDue version until last bytes last_bytes }
 {
-    bytes >= last && (entries >= 256 || bytes >= 1_048_576)
+    let entries = version.saturating_sub(last);
+    version >= until && bytes >= last_bytes && (entries >= 256 || bytes >= 1_048_576)
 }
 
 // The most entries that a checkpoint of a document of so many objects keeps.
