@@ -1,4 +1,8 @@
 // A seat's thread: it serves one connection after the other.
+ghost use Rattle.std.specs.Prelude.{◌≡◌, ◌⊎◌};
+ghost use Rattle.websocket.specs.declared.protocol.config.Role.TheVariants as role;
+ghost use Rattle.tungstenite.specs.Socket.{IsFresh};
+ghost use Rattle.app_server.specs.Connections.{IsNextSocket, ServedThrough, end_of};
 
 use crate::seated::Seated;
 use app_listener::{Limits, Shared};
@@ -108,9 +112,11 @@ fn serve_through<A: Answerer, S: Read + Write + Drop>(
     answerer: &mut A,
     stream: Pausing<S>,
     config: WebSocketConfig,
-) -> End {
+) -> End
+    ensures { ServedThrough A.gives S.remaining S.contents 18446744073709551615 stream result answerer.old answerer.new }
+{
     let mut socket = socket_over(alloc, stream, config);
-    for _ in 0..u64::MAX {
+    for _turn in 0..u64::MAX {
         let error = match serve_one(alloc, answerer, &mut socket) {
             Ok(()) => return End::Left,
             Err(error) => error,
@@ -118,11 +124,22 @@ fn serve_through<A: Answerer, S: Read + Write + Drop>(
         if !socket.get_ref().has_paused() {
             return ended(&mut socket, &error);
         }
-        let mut stream = socket.into_inner();
-        stream.go_on();
-        socket = socket_over(alloc, stream, config);
+        socket = next_socket(alloc, socket, config);
     }
     End::Left
+}
+
+// The WebSocket that goes on where this one has paused.
+fn next_socket<S: Drop>(
+    alloc: Global,
+    socket: WebSocket<Pausing<S>, NoMask>,
+    config: WebSocketConfig,
+) -> WebSocket<Pausing<S>, NoMask>
+    ensures { IsNextSocket socket result }
+{
+    let mut stream = socket.into_inner();
+    stream.go_on();
+    socket_over(alloc, stream, config)
 }
 
 // A WebSocket of a server over a stream whose handshake is done.
@@ -130,7 +147,9 @@ fn socket_over<S: Drop>(
     alloc: Global,
     stream: Pausing<S>,
     config: WebSocketConfig,
-) -> WebSocket<Pausing<S>, NoMask> {
+) -> WebSocket<Pausing<S>, NoMask>
+    ensures { IsFresh result stream role.Server }
+{
     WebSocket::from_raw_socket(alloc, stream, NoMask, Role::Server, Some(config))
 }
 
@@ -148,7 +167,9 @@ fn limit(stream: &TcpStream, limits: Limits) -> io::Result<()> {
 }
 
 // How a connection ended that failed. A client whose message is too large is told.
-fn ended<S: Read + Write + Drop>(socket: &mut WebSocket<S, NoMask>, error: &Error) -> End {
+fn ended<S: Read + Write + Drop>(socket: &mut WebSocket<S, NoMask>, error: &Error) -> End
+    ensures { result ≡ end_of error.now }
+{
     match error {
         Error::Capacity(_) => {
             let _ = socket.close(Some(too_big()));
