@@ -1,11 +1,13 @@
--- What is told of a folder that is checked.
-use Rattle.std.specs.Prelude.{◌-◌, ℕ, List, [], ◌∷◌, ◌++◌, length, codes, Option, Some, None}
+-- What is told of a document's segments that are checked.
+use Rattle.std.specs.Prelude.{◌≡◌, ◌-◌, ℕ, Bool, true, false, List, [], ◌∷◌, ◌++◌, length, codes, Option, Some, None}
 use Rattle.std.specs.Fmt.{decimal}
 use Rattle.std.specs.Io.KnownBytes.{Appends}
 use Rattle.canvas_shelf.specs.Disk.{Content, Segment, seen}
 use Rattle.canvas_shelf.specs.Records.{texts}
 use Rattle.canvas_journal.specs.Meaning.{Versioned}
 use Rattle.canvas_journal.specs.Found.{Finds, IsState, IsDamaged, size}
+use Rattle.disk_integrity.specs.declared.trace.Trace.{Trace}
+use Rattle.app_admin.specs.Losing.{TellsLoss}
 use Rattle.app_admin.specs.LossLines.{no_loss_line}
 use Rattle.app_admin.specs.Taken.{Source, TakesFrom}
 
@@ -55,3 +57,32 @@ WritesCheckOf disk before after =
 -- recovery finds this damage, and the lines of all segments were written
 abbrev pub WritesDamageOf : List Segment → ℕ → ℕ → Option (List ℕ) → Option (List ℕ) → Type 0
 WritesDamageOf disk n at before after = Finds (seen disk) (IsDamaged n at) × Appends before after (segment_lines (seen disk))
+
+-- the line of no loss was written if sums are kept, and else nothing
+abbrev pub WritesNoLossIf : (summed : Bool) → Option (List ℕ) → Option (List ℕ) → Type 0
+WritesNoLossIf true before after = Appends before after no_loss_line
+WritesNoLossIf false before after = after ≡ before
+
+-- the lines of some segments were written, and the line of no loss if sums are kept beside them
+abbrev pub WritesCheckIf : (summed : Bool) → Option (List ℕ) → Option (List ℕ) → Type 0
+WritesCheckIf true before after = WritesCheck before after
+WritesCheckIf false before after = WritesShelf before after
+
+-- nothing is lost of the disk, with some sums and some trace beside it
+abbrev pub NothingLostOf : List Segment → Type 0
+NothingLostOf disk = (trace : Option Trace) × TellsLoss disk trace None
+
+-- the line of no loss was written if sums are kept, and nothing is lost of the disk; else nothing was written
+abbrev pub WritesNoLossIfOf : (summed : Bool) → List Segment → Option (List ℕ) → Option (List ℕ) → Type 0
+WritesNoLossIfOf true disk before after = Appends before after no_loss_line × NothingLostOf disk
+WritesNoLossIfOf false disk before after = after ≡ before
+
+-- all lines of the disk were written, and then the line of no loss, of which it has none
+abbrev pub WritesWholeOf : List Segment → Option (List ℕ) → Option (List ℕ) → Type 0
+WritesWholeOf disk before after =
+    (between : Option (List ℕ)) × WritesCheckOf disk before between × Appends between after no_loss_line × NothingLostOf disk
+
+-- all lines of the disk were written, and if sums are kept beside it, the line of no loss, of which it has none
+abbrev pub WritesCheckIfOf : (summed : Bool) → List Segment → Option (List ℕ) → Option (List ℕ) → Type 0
+WritesCheckIfOf true disk before after = WritesWholeOf disk before after
+WritesCheckIfOf false disk before after = WritesCheckOf disk before after

@@ -1,6 +1,7 @@
 -- How a loss is told.
-use Rattle.std.specs.Prelude.{ℕ, List, ◌++◌, codes}
+use Rattle.std.specs.Prelude.{◌≡◌, ℕ, List, ◌++◌, Option, codes}
 use Rattle.std.specs.Fmt.{decimal}
+use Rattle.std.specs.Io.KnownBytes.{Appends}
 use Rattle.disk_integrity.specs.declared.fault.SumFault.{SumFault}
 use Rattle.disk_integrity.specs.declared.fault.SumFault.TheVariants.{Unreadable, Short, Changed}
 use Rattle.disk_integrity.specs.declared.loss.Loss.{Loss}
@@ -45,3 +46,7 @@ fault_of_loss (Sums n broken) = fault.Damaged n (good_of broken)
 fault_of_loss (NoCheckpoint n at) = fault.Damaged n at
 fault_of_loss (NoCutRecord n at) = fault.Damaged n at
 fault_of_loss (Gone trace) = fault.Gone
+
+-- the fault that this loss is is that one, and its line was written
+abbrev pub TellsLossAs : Fault → Option (List ℕ) → Option (List ℕ) → Loss → Type 0
+TellsLossAs told before after loss = (fault_of_loss loss ≡ told) × Appends before after (loss_line loss)

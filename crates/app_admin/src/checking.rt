@@ -1,26 +1,22 @@
-// What stands in the segments of a folder.
+// What stands in the segments of a document.
 ghost use Rattle.std.specs.Prelude.{◌≡◌, ℕ, IfOk, IfSome, IsErrOf, IsOk, IsTrue, None, OnOk, length, string_bytes};
 ghost use Rattle.std.specs.Io.KnownBytes.{Appends};
 ghost use Rattle.canvas_shelf.specs.Disk.{Content, numbers, seen};
 ghost use Rattle.canvas_shelf.specs.Records.{texts};
-ghost use Rattle.app_admin.specs.Checks.{WritesCheck, WritesCheckOf, WritesDamageOf, WritesShelf, segment_line, segment_lines, taken_line, torn_size};
-ghost use Rattle.app_admin.specs.LossLines.{fault_of_loss, gone_line, loss_line, no_loss_line, sums_line};
+ghost use Rattle.app_admin.specs.Checks.{WritesCheckIf, WritesCheckIfOf, WritesCheckOf, WritesDamageOf, WritesNoLossIf, WritesNoLossIfOf, WritesShelf, segment_line, segment_lines, taken_line, torn_size};
+ghost use Rattle.app_admin.specs.LossLines.{TellsLossAs, fault_of_loss, gone_line, loss_line, no_loss_line, sums_line};
 ghost use Rattle.app_admin.specs.Taken.{source_of};
 
-use crate::finding_loss::{FolderSums, find_loss};
-use crate::folders::existing;
+use crate::finding_loss::{SumSource, find_loss};
+use crate::homes::Home;
 use crate::taking::{Taken, take};
-use crate::traces::trace_in;
 use app_faults::Fault;
-use canvas_folder::DirShelf;
 use canvas_journal::look;
 use canvas_lines::write_out;
 use canvas_shelf::{Shelf, first_record};
 use disk_integrity::{Loss, SumFault, Trace};
 use std::alloc::{AllocError, Global};
-use std::fs::File;
 use std::io::Write;
-use std::rt::Files;
 
 /// Tells in a line for each segment, the highest first, how many bytes it has, how many whole records, and how many bytes stand behind
 /// these; and in one more, which segment recovery takes, how many entries stand behind its checkpoint, and to which version they lead.
@@ -50,27 +46,29 @@ pub fn check_shelf<S: Shelf, W: Write>(
     Ok(())
 }
 
-// How often a folder is checked whose segments change meanwhile.
+// How often a document is checked whose segments change meanwhile.
 const ROUNDS: u32 = 50;
 
-/// The same of a folder, and then that it holds what a crash may leave, or what it holds that no crash leaves (`find_loss`), in one line
-/// more. Writes nothing to the folder, which a server may have meanwhile: what seems wrong while it makes a checkpoint is looked at again.
+/// The same of the document that is kept there, and if sums are kept beside its segments, then that they hold what a crash may leave, or what
+/// they hold that no crash leaves (`find_loss`), in one line more. Writes nothing to it, and a server may have it meanwhile: what seems wrong
+/// while it makes a checkpoint is looked at again.
 ///
-/// The errors are those of `check_shelf`; `NoSegment` and `Device` too where the folder holds no document, is missing or can't be read;
-/// `Damaged` for a loss, or `Gone` if no segment is left of a document, after its line; and `Busy` if there was a checkpoint each time that
-/// something seemed wrong, of 50, and then nothing is written. Of a folder that lists no segment no line is written.
-pub fn check<R: Files<File = File> + AllocGlobal + Clone + Drop, W: Write>(
-    files: R,
-    dir: &str,
+/// The errors are those of `check_shelf`, of `Home::look`, `Home::numbers` and `Home::trace`; `Device` too if sums can't be read; `Damaged` for a
+/// loss, or `Gone` if no segment is left of a document, after its line; and `Busy` if there was a checkpoint each time that something seemed
+/// wrong, of 50, and then nothing is written. If no document is found no line is written.
+pub fn check<S: Shelf + Drop, H: Home<S> + SumSource, W: Write>(
+    alloc: Global,
+    home: &mut H,
     output: &mut W,
 ) -> Result<(), Fault>
-    ensures form { OnOk result (WritesCheck (W.contents output.old) (W.contents output.new)) }
+    ensures found { IsTrue (H.honest home.old) → OnOk result (WritesCheckIfOf (H.summed home.old) (H.disk home.old) (W.contents output.old) (W.contents output.new)) }
+    ensures form { OnOk result (WritesCheckIf (H.summed home.old) (W.contents output.old) (W.contents output.new)) }
 {
     for _ in 0..ROUNDS {
-        let before = numbers(&files, dir)?;
-        let mut text: Vec<u8> = Vec::new(files.alloc());
-        let done = check_once(&files, dir, &mut text);
-        let is_sure = done.is_ok() || numbers(&files, dir)? == before;
+        let before = home.numbers(alloc)?;
+        let mut text: Vec<u8> = Vec::new(alloc);
+        let done = check_once(alloc, home, &mut text);
+        let is_sure = done.is_ok() || home.numbers(alloc)? == before;
         if is_sure {
             return told(done, &text, output);
         }
@@ -78,7 +76,7 @@ pub fn check<R: Files<File = File> + AllocGlobal + Clone + Drop, W: Write>(
     Err(Fault::Busy)
 }
 
-// Writes what was told of a folder, and ends as the check did.
+// Writes what was told of a document, and ends as the check did.
 fn told<W: Write>(done: Result<(), Fault>, text: &[u8], output: &mut W) -> Result<(), Fault>
     ensures bytes { OnOk result (OnOk done (Appends (W.contents output.old) (W.contents output.new) text.now)) }
     ensures done { OnOk result (IsOk done) }
@@ -87,37 +85,48 @@ fn told<W: Write>(done: Result<(), Fault>, text: &[u8], output: &mut W) -> Resul
     done
 }
 
-// The numbers of a folder's segments.
-fn numbers<R: Files<File = File> + AllocGlobal + Clone + Drop>(
-    files: &R,
-    dir: &str,
-) -> Result<Vec<u32>, Fault> {
-    let mut shelf = DirShelf::existing(files.clone()?, dir)?;
-    Ok(shelf.list(files.alloc())?)
-}
-
-// Checks a folder once. The sums of a segment are read before its bytes, so that a server's next sync doesn't seem a loss.
-fn check_once<R: Files<File = File> + AllocGlobal + Clone + Drop, W: Write>(
-    files: &R,
-    dir: &str,
+// Checks a document once. The sums of a segment are read before its bytes, so that a server's next sync doesn't seem a loss.
+fn check_once<S: Shelf + Drop, H: Home<S> + SumSource, W: Write>(
+    alloc: Global,
+    home: &mut H,
     output: &mut W,
 ) -> Result<(), Fault>
-    ensures form { OnOk result (WritesCheck (W.contents output.old) (W.contents output.new)) }
+    ensures found { IsTrue (H.honest home.old) → OnOk result (WritesCheckIfOf (H.summed home.old) (H.disk home.old) (W.contents output.old) (W.contents output.new)) }
+    ensures form { OnOk result (WritesCheckIf (H.summed home.old) (W.contents output.old) (W.contents output.new)) }
+    ensures disk { IsTrue (H.honest home.old) → H.disk home.new ≡ H.disk home.old }
+    ensures honest { H.honest home.new ≡ H.honest home.old }
+    ensures summed { H.summed home.new ≡ H.summed home.old }
 {
-    let alloc = files.alloc();
-    let mut shelf = existing(files.clone()?, dir)?;
-    check_shelf(alloc, &mut shelf, output)?;
-    let trace = trace_in(files, dir)?;
-    let sums = FolderSums { files, dir };
-    let loss = find_loss(alloc, &mut shelf, &sums, trace)?;
+    let mut shelf = home.look(alloc)?;
+    match check_shelf(alloc, &mut shelf, output) {
+        Ok(()) => check_loss(alloc, &*home, &mut shelf, output),
+        Err(fault) => Err(home.explain(fault)),
+    }
+}
+
+// Looks for a loss in the shelf of a document if sums are kept beside its segments, writes whether there is one, and fails if there is.
+fn check_loss<S: Shelf, H: Home<S> + SumSource, W: Write>(
+    alloc: Global,
+    home: &H,
+    shelf: &mut S,
+    output: &mut W,
+) -> Result<(), Fault>
+    ensures found { IsTrue (S.honest shelf.old) → OnOk result (WritesNoLossIfOf (H.summed home.now) (S.disk shelf.old) (W.contents output.old) (W.contents output.new)) }
+    ensures form { OnOk result (WritesNoLossIf (H.summed home.now) (W.contents output.old) (W.contents output.new)) }
+{
+    if !home.is_summed() {
+        return Ok(());
+    }
+    let trace = home.trace()?;
+    let loss = find_loss(alloc, shelf, home, trace)?;
     tell_loss(alloc, &loss, output)
 }
 
 // Writes whether there is a loss, and fails where there is one.
 fn tell_loss<W: Write>(alloc: Global, loss: &Option<Loss>, output: &mut W) -> Result<(), Fault>
     ensures ok { OnOk result ((loss.now ≡ None) × Appends (W.contents output.old) (W.contents output.new) no_loss_line) }
-    ensures damaged { (n : ℕ) (at : ℕ) → IsErrOf result (Fault.Damaged n at) → IfSome loss.now (λ l. (fault_of_loss l ≡ Fault.Damaged n at) × Appends (W.contents output.old) (W.contents output.new) (loss_line l)) }
-    ensures gone { IsErrOf result Fault.Gone → IfSome loss.now (λ l. (fault_of_loss l ≡ Fault.Gone) × Appends (W.contents output.old) (W.contents output.new) (loss_line l)) }
+    ensures damaged { (n : ℕ) (at : ℕ) → IsErrOf result (Fault.Damaged n at) → IfSome loss.now (TellsLossAs (Fault.Damaged n at) (W.contents output.old) (W.contents output.new)) }
+    ensures gone { IsErrOf result Fault.Gone → IfSome loss.now (TellsLossAs Fault.Gone (W.contents output.old) (W.contents output.new)) }
 {
     let Some(loss) = loss else {
         write_out(output, b"no loss: a crash may have left it so\n")?;

@@ -1,5 +1,5 @@
 // Folders of the system that hold a document, and new ones.
-ghost use Rattle.std.specs.Prelude.{◌≡◌, Bool, IsTrue, OnOk, false};
+ghost use Rattle.std.specs.Prelude.{◌≡◌, Bool, IfOk, IsTrue, OnOk, false, string_bytes};
 ghost use Rattle.std.specs.Io.KnownBytes.{Appends};
 ghost use Rattle.canvas_journal.specs.Meaning.{Versioned};
 ghost use Rattle.app_admin.specs.Begun.{begun_line};
@@ -11,7 +11,7 @@ use canvas_folder::{DirShelf, OsFolder};
 use canvas_judge::State;
 use canvas_lines::write_out;
 use canvas_shelf::Shelf;
-use std::alloc::Global;
+use std::alloc::{AllocError, Global};
 use std::fs::File;
 use std::io::Write;
 use std::rt::Files;
@@ -58,6 +58,15 @@ pub trait Ground {
         ensures honest { honest self.new ≡ honest self.old };
 }
 
+/// The line of a document that was put somewhere: its version, and how many objects there are. Errors: out of memory.
+pub fn begun_line(alloc: Global, state: &State, version: u64) -> Result<String, AllocError>
+    ensures { IfOk result (λ line. string_bytes line ≡ begun_line (state.now, version)) }
+{
+    let count = state.doc().len();
+    let line = format!(in alloc; "version {version}, objects {count}\n")?;
+    Ok(line)
+}
+
 /// Puts a state and its version there, and then writes the version and how many objects there are.
 ///
 /// The errors: those of `put`; and `Stream`, if the output failed, and then the document is there.
@@ -71,8 +80,7 @@ pub fn begin_on<G: Ground, W: Write>(
     ensures holds { IsTrue (G.honest ground.old) → OnOk result (G.holds ground.new (state.now, version)) }
     ensures line { OnOk result (Appends (W.contents output.old) (W.contents output.new) (begun_line (state.now, version))) }
 {
-    let count = state.doc().len();
-    let line = format!(in alloc; "version {version}, objects {count}\n")?;
+    let line = begun_line(alloc, state, version)?;
     ground.put(state, version)?;
     write_out(output, line.as_bytes())?;
     Ok(())

@@ -1,5 +1,5 @@
-//! The care of a folder while no server runs: its document as a tree or as rows of JSON, its entries as messages, what stands in its segments, and
-//! new folders for the document of rows or of a backup.
+//! The care of a document while no server runs: the document as a tree or as rows of JSON, its entries as messages, what stands in its segments,
+//! and new folders for the document of rows or of a backup.
 #![tactic(auto)]
 
 mod checking;
@@ -23,7 +23,7 @@ mod writing_rows;
 
 pub use checking::{check, check_shelf};
 pub use finding_loss::{FolderSums, SumSource, find_loss};
-pub use folders::{Ground, NewFolder, begin_folder, begin_on};
+pub use folders::{Ground, NewFolder, begin_folder, begin_on, begun_line};
 pub use homes::{FolderHome, Home};
 pub use laws::{every_rows_text, every_torn_segment};
 pub use logging::{log, log_shelf};

@@ -5,14 +5,15 @@ ghost use Rattle.canvas_shelf.specs.Disk.{seen};
 ghost use Rattle.canvas_journal.specs.Found.{AreRowTexts, Finds, IsState};
 ghost use Rattle.canvas_lines.specs.Lines.{lines_of};
 ghost use Rattle.app_admin.specs.Begun.{ImportsTo, WritesImported};
+ghost use Rattle.app_admin.specs.Checks.{NothingLostOf};
 ghost use Rattle.app_admin.specs.Imports.{IsImported, row_texts};
 ghost use Rattle.app_admin.specs.Losing.{TellsLoss};
 
-use crate::finding_loss::{FolderSums, SumSource, find_loss};
-use crate::folders::{Ground, begin_on, existing};
+use crate::finding_loss::{SumSource, find_loss};
+use crate::folders::{Ground, begin_on};
+use crate::homes::Home;
 use crate::making::document_of;
 use crate::reading_rows::read_rows;
-use crate::traces::trace_in;
 use app_faults::Fault;
 use canvas_journal::look;
 use canvas_judge::State;
@@ -20,9 +21,7 @@ use canvas_lines::read_input;
 use canvas_shelf::Shelf;
 use disk_integrity::{Loss, Trace};
 use std::alloc::Global;
-use std::fs::File;
 use std::io::{Read, Write};
-use std::rt::Files;
 
 /// The version of a document that was imported. At version 0 every client would take the document to be empty; below this one each asks for
 /// a copy.
@@ -68,19 +67,20 @@ fn document_in(alloc: Global, text: &[u8]) -> Result<State, Fault>
 /// The errors: `NoSegment`, where the backup holds no segment; `Gone`, if recovery takes none of its segments, though its identity or sums
 /// are there; `Lost`, if something else of it is lost (`find_loss`), unless that is accepted; `Device`, where it is missing or can't be read;
 /// `Damaged`, where it isn't whole; `TooLarge`, as `find_loss` finds it; `Memory`.
-pub fn read_backup<R: Files<File = File> + AllocGlobal + Clone + Drop>(
-    files: R,
-    backup: &str,
+pub fn read_backup<S: Shelf + Drop, H: Home<S> + SumSource>(
+    alloc: Global,
+    backup: &mut H,
     accept_loss: bool,
-) -> Result<(State, u64), Fault> {
-    let alloc = files.alloc();
-    let mut shelf = existing(files.clone()?, backup)?;
-    let trace = trace_in(&files, backup)?;
-    let sums = FolderSums {
-        files: &files,
-        dir: backup,
-    };
-    backup_of(alloc, &mut shelf, &sums, trace, accept_loss)
+) -> Result<(State, u64), Fault>
+    ensures found { IsTrue (H.honest backup.old) → IfOk result (λ found. Finds (seen (H.disk backup.old)) (IsState found)) }
+    ensures whole { IsTrue (H.honest backup.old) → accept_loss ≡ false → IsOk result → NothingLostOf (H.disk backup.old) }
+{
+    let mut shelf = backup.look(alloc)?;
+    let trace = backup.trace()?;
+    match backup_of(alloc, &mut shelf, &*backup, trace, accept_loss) {
+        Ok(found) => Ok(found),
+        Err(fault) => Err(backup.explain(fault)),
+    }
 }
 
 // The state that a shelf holds, and its version, unless something is lost of it and that isn't accepted.

@@ -1,15 +1,14 @@
 // A document in an etcd, as the commands that read or make one see it.
 ghost use Rattle.std.specs.Prelude.{[], OnOk, false};
-ghost use Rattle.std.specs.Io.KnownBytes.{Appends};
-ghost use Rattle.app_admin.specs.Begun.{WritesImported, begun_line};
-ghost use Rattle.app_admin.specs.Checks.{WritesShelf};
+ghost use Rattle.app_admin.specs.Begun.{WritesImported};
 
 use crate::opening::{Remote, existing, taken};
-use app_admin::{Home, check_shelf, import, plant};
+use app_admin::{Ground, Home, SumSource, begin_on, import, plant};
 use app_faults::{Fault, of_document};
 use app_identity::Address;
+use app_storage::Held;
 use canvas_judge::State;
-use canvas_lines::write_out;
+use disk_integrity::Trace;
 use etcd_store::Causes;
 use std::alloc::Global;
 use std::io::{Read, Write};
@@ -19,7 +18,7 @@ use std::sync::Wait;
 use std::thread::Threads;
 use std::time::Clock;
 
-/// A document in an etcd, as a command reads it. Nothing is claimed of what the etcd holds.
+/// A document in an etcd, as a command reads it. It is read whole when it is looked at. Nothing is claimed of what the etcd holds.
 #[derive(Drop)]
 pub struct DocumentHome<'a, R: Drop> {
     net: &'a R,
@@ -49,6 +48,8 @@ where
 
     ghost honest = { λ h. false };
 
+    ghost summed = { λ h. false };
+
     fn look(&mut self, _alloc: Global) -> Result<Remote<R>, Fault> {
         let (shelf, causes) = existing(self.net, self.address)?;
         self.causes = Some(causes);
@@ -62,24 +63,64 @@ where
         };
         of_document(fault, why)
     }
+
+    fn numbers(&self, alloc: Global) -> Result<Vec<u32>, Fault> {
+        Ok(Vec::new(alloc))
+    }
+
+    fn is_summed(&self) -> bool {
+        false
+    }
+
+    fn trace(&self) -> Result<Option<Trace>, Fault> {
+        Ok(None)
+    }
 }
 
-/// Tells what stands in a document's segments, as `check_shelf` does. An etcd keeps what it was given, so no sums are looked at. Writes
-/// nothing to it, and a server may have the document meanwhile.
-///
-/// The errors are those of `check_shelf` and of `Home::look`.
-pub fn check<R, W>(net: &R, address: &Address, output: &mut W) -> Result<(), Fault>
+// An etcd keeps what it was given, so there are none.
+impl<R> SumSource for DocumentHome<'_, R>
 where
     R: Net<Stream = TcpStream> + Clock + RandomSource + AllocGlobal + Clone + Drop,
-    W: Write,
-    ensures form { OnOk result (WritesShelf (W.contents output.old) (W.contents output.new)) }
 {
-    let alloc = net.alloc();
-    let mut home = DocumentHome::new(net, address);
-    let mut shelf = home.look(alloc)?;
-    match check_shelf(alloc, &mut shelf, output) {
-        Ok(()) => Ok(()),
-        Err(fault) => Err(home.explain(fault)),
+    fn sums(&self, _number: u32) -> Result<Vec<u8>, Fault> {
+        Ok(Vec::new(self.net.alloc()))
+    }
+}
+
+/// A document in an etcd that a command has taken over, to put a new one there. Nothing is claimed of what the etcd holds.
+struct NewDocument<'a, R>
+where
+    R: Net<Stream = TcpStream> + Clock + RandomSource + AllocGlobal + Clone + Drop,
+{
+    net: &'a R,
+    held: Held<R>,
+}
+
+impl<R> Drop for NewDocument<'_, R>
+where
+    R: Net<Stream = TcpStream> + Clock + RandomSource + AllocGlobal + Clone + Drop,
+{
+    fn drop(self) {
+        let NewDocument { net: _, held: _ } = self;
+    }
+}
+
+impl<R> Ground for NewDocument<'_, R>
+where
+    R: Net<Stream = TcpStream> + Wait + Clock + RandomSource + AllocGlobal + Clone + Drop,
+{
+    ghost holds = { λ g s. Unit {0} };
+
+    ghost honest = { λ g. false };
+
+    // The document is let go at once, so that a server may have it as soon as its line is written.
+    fn put(&mut self, state: &State, version: u64) -> Result<(), Fault> {
+        let planted = plant(self.net.alloc(), &mut self.held.shelf, state, version);
+        self.held.kept.release(self.net);
+        match planted {
+            Ok(()) => Ok(()),
+            Err(fault) => Err(of_document(fault, self.held.causes.last())),
+        }
     }
 }
 
@@ -111,29 +152,10 @@ where
 {
     let alloc = net.alloc();
     let (state, version) = import(alloc, input)?;
-    let mut taken = taken(net, address)?;
-    let planted = plant(alloc, &mut taken.shelf, &state, version);
-    taken.kept.release(net);
-    if let Err(fault) = planted {
-        return Err(of_document(fault, taken.causes.last()));
-    }
-    tell_begun(alloc, &state, version, output)?;
-    Ok(())
-}
-
-/// Writes the version of a document, and how many objects there are.
-///
-/// The errors: `Memory`, and `Stream` where the output failed.
-pub(crate) fn tell_begun<W: Write>(
-    alloc: Global,
-    state: &State,
-    version: u64,
-    output: &mut W,
-) -> Result<(), Fault>
-    ensures { OnOk result (Appends (W.contents output.old) (W.contents output.new) (begun_line (state.now, version))) }
-{
-    let count = state.doc().len();
-    let line = format!(in alloc; "version {version}, objects {count}\n")?;
-    write_out(output, line.as_bytes())?;
-    Ok(())
+    let held = taken(net, address)?;
+    let mut ground = NewDocument { net, held };
+    let done = begin_on(alloc, &mut ground, &state, version, output);
+    // Where nothing was put, it wasn't let go either.
+    ground.held.kept.release(net);
+    done
 }

@@ -5,8 +5,10 @@ mod carrying;
 mod homes;
 mod moving;
 mod opening;
+mod sides;
 
 pub use carrying::carry;
-pub use homes::{DocumentHome, check, import_document};
-pub use moving::{MoveFault, move_in, move_out};
+pub use homes::{DocumentHome, import_document};
+pub use moving::{move_in, move_out};
 pub use opening::Remote;
+pub use sides::MoveFault;

@@ -1,20 +1,22 @@
 // A document that is moved from a folder into an etcd, and back.
-ghost use Rattle.std.specs.Prelude.{OnOk};
-ghost use Rattle.app_admin.specs.Begun.{WritesBegun};
+ghost use Rattle.std.specs.Prelude.{◌≡◌, IfOk, IsTrue, OnOk, true};
+ghost use Rattle.std.specs.Io.KnownBytes.{Appends};
+ghost use Rattle.canvas_shelf.specs.Disk.{top_is_listed};
+ghost use Rattle.app_admin.specs.Begun.{WritesBegun, begun_line};
+ghost use Rattle.app_admin_etcd.specs.Carried.{IsCarried, IsHandedOver};
 
 use crate::carrying::carry;
-use crate::homes::tell_begun;
-use crate::opening::{Held, taken};
-use app_admin::check;
-use app_faults::{Fault, fault_of_cause, of_document};
-use app_identity::{
-    Address, IdentityError, identity_in, keep_identity, read_identity, remove_identity,
-};
+use crate::opening::{Remote, taken};
+use crate::sides::{DocumentSide, FolderSide, MoveFault, Side};
+use app_admin::{FolderHome, begun_line, check};
+use app_faults::{Fault, of_document};
+use app_identity::Address;
+use app_storage::Held;
 use canvas_folder::{DirShelf, OsFolder};
 use canvas_judge::State;
+use canvas_lines::write_out;
 use canvas_shelf::Shelf;
-use etcd_store::{Causes, Lease, StoreError};
-use std::alloc::{AllocError, Global};
+use std::alloc::Global;
 use std::fs::File;
 use std::io::Write;
 use std::net::{Net, TcpListener, TcpStream};
@@ -24,30 +26,58 @@ use std::sync::Wait;
 use std::thread::Threads;
 use std::time::Clock;
 
-/// Why a document wasn't moved, or not wholly, and which of its places it is of.
-#[derive(Clone, Copy, Debug, PartialEq, Eq)]
-pub enum MoveFault {
-    /// It is of the folder.
-    Folder(Fault),
-    /// It is of the document in the etcd.
-    Document(Fault),
-}
-
-impl From<AllocError> for MoveFault {
-    fn from(_: AllocError) -> MoveFault {
-        MoveFault::Folder(Fault::Memory)
+// Carries the document that a shelf holds into another, which lists no segment, as `carry` does, and gives its identity from the one side to the
+// other. Answers what was carried.
+fn move_over<S: Shelf, F: Side, T: Shelf, G: Side>(
+    alloc: Global,
+    from: &mut S,
+    from_side: &mut F,
+    to: &mut T,
+    to_side: &mut G,
+) -> Result<(State, u64), MoveFault>
+    requires { IsTrue (T.honest to.old) → top_is_listed (T.disk to.old) ≡ true }
+    ensures carried { IsTrue (S.honest from.old) → IsTrue (T.honest to.old) → IfOk result (λ s. IsCarried (S.disk from.old) (T.disk to.new) (s.0, s.1)) }
+    ensures unchanged { IsTrue (S.honest from.old) → (S.disk from.new ≡ S.disk from.old) × (S.past from.new ≡ S.past from.old) }
+    ensures identity { IsTrue (F.honest from_side.old) → IsTrue (G.honest to_side.old) →
+        OnOk result (IsHandedOver (F.held from_side.old) (F.held from_side.new) (G.held to_side.old) (G.held to_side.new)) }
+{
+    match carry(alloc, from, to) {
+        Ok(found) => {
+            hand_over(from_side, to_side)?;
+            Ok(found)
+        }
+        Err(fault) => Err(fault_of(fault, &*from_side, &*to_side)),
     }
 }
 
-impl From<IdentityError> for MoveFault {
-    fn from(error: IdentityError) -> MoveFault {
-        MoveFault::Folder(Fault::from(error))
+// Takes the identity from the one side, if it has one, and gives it to the other.
+fn hand_over<F: Side, G: Side>(from: &mut F, to: &mut G) -> Result<(), MoveFault>
+    ensures { IsTrue (F.honest from.old) → IsTrue (G.honest to.old) → OnOk result (IsHandedOver (F.held from.old) (F.held from.new) (G.held to.old) (G.held to.new)) }
+{
+    if let Some(text) = from.identity()? {
+        from.remove_identity()?;
+        to.keep_identity(&text)?;
+    }
+    Ok(())
+}
+
+// Of which side a fault of carrying a document is.
+fn fault_of<F: Side, G: Side>(fault: Fault, from: &F, to: &G) -> MoveFault {
+    match fault {
+        Fault::Damaged { segment, offset } => from.fault(Fault::Damaged { segment, offset }),
+        Fault::Device => fault_of_device(from, to),
+        fault => to.fault(fault),
     }
 }
 
-impl From<StoreError> for MoveFault {
-    fn from(error: StoreError) -> MoveFault {
-        MoveFault::Document(Fault::from(error))
+// Which of the two devices failed while a document was carried. A folder notes nothing: if neither side has noted a failure, it is the folder's.
+fn fault_of_device<F: Side, G: Side>(from: &F, to: &G) -> MoveFault {
+    match from.noted() {
+        Some(fault) => fault,
+        None => match to.noted() {
+            Some(fault) => fault,
+            None => MoveFault::Folder(Fault::Device),
+        },
     }
 }
 
@@ -82,79 +112,20 @@ where
 {
     let alloc = net.alloc();
     look_first(&files, dir)?;
-    let mut folder = locked(&files, dir)?;
-    let path = path_of(&folder)?;
+    let (mut folder, mut own) = locked(&files, dir)?;
     // Nothing is written if the identity can't be read.
-    read_identity(&files, &path)?;
-    let (state, version) = take_in(net, &files, &path, &mut folder, address)?;
+    own.identity()?;
+    let Held {
+        mut shelf,
+        causes,
+        lease,
+        kept,
+    } = document(net, address)?;
+    let mut side = DocumentSide { causes, lease };
+    let done = move_over(alloc, &mut folder, &mut own, &mut shelf, &mut side);
+    kept.release(net);
+    let (state, version) = done?;
     told(alloc, &state, version, output)
-}
-
-// Carries the document of a folder into an etcd, with its identity.
-fn take_in<R, D>(
-    net: &R,
-    files: &D,
-    dir: &str,
-    folder: &mut DirShelf<OsFolder<D>>,
-    address: &Address,
-) -> Result<(State, u64), MoveFault>
-where
-    R: Net<Listener = TcpListener, Stream = TcpStream>
-        + Threads
-        + Wait
-        + Clock
-        + RandomSource
-        + AllocGlobal
-        + Clone
-        + Send
-        + Drop
-        + 'static,
-    D: Files<File = File> + AllocGlobal + Clone + Drop,
-{
-    let mut taken = document(net, address)?;
-    let done = match carry(net.alloc(), folder, &mut taken.shelf) {
-        Ok(found) => hand_in(files, dir, &mut taken.lease, found),
-        Err(fault) => Err(fault_of_in(fault, &taken.causes)),
-    };
-    taken.kept.release(net);
-    done
-}
-
-// Takes the identity out of the folder, and gives it to the document.
-fn hand_in<R, D>(
-    files: &D,
-    dir: &str,
-    lease: &mut Lease<R>,
-    found: (State, u64),
-) -> Result<(State, u64), MoveFault>
-where
-    R: Net<Stream = TcpStream> + Clock + RandomSource + AllocGlobal + Clone + Drop,
-    D: Files<File = File> + AllocGlobal,
-{
-    if let Some(identity) = read_identity(files, dir)? {
-        remove_identity(files, dir)?;
-        lease.set_identity(identity.as_bytes())?;
-    }
-    Ok(found)
-}
-
-// Of which place a fault of carrying a document into an etcd is.
-fn fault_of_in(fault: Fault, causes: &Causes) -> MoveFault {
-    match fault {
-        Fault::Damaged { segment, offset } => {
-            MoveFault::Folder(Fault::Damaged { segment, offset })
-        }
-        Fault::Device => fault_of_device(causes),
-        fault => MoveFault::Document(fault),
-    }
-}
-
-// Which of the two devices failed while a document was carried.
-fn fault_of_device(causes: &Causes) -> MoveFault {
-    match causes.last() {
-        None => MoveFault::Folder(Fault::Device),
-        why => MoveFault::Document(fault_of_cause(why)),
-    }
 }
 
 /// Moves a document out of an etcd into a new folder, and then writes its version and how many objects there are. Its identity goes with it;
@@ -186,69 +157,37 @@ where
     ensures { OnOk result (WritesBegun (W.contents output.old) (W.contents output.new)) }
 {
     let alloc = net.alloc();
-    let mut taken = document(net, address)?;
-    let done = take_out(&files, dir, &mut taken);
-    taken.kept.release(net);
+    let Held {
+        mut shelf,
+        causes,
+        lease,
+        kept,
+    } = document(net, address)?;
+    let mut side = DocumentSide { causes, lease };
+    let done = move_to(&files, dir, &mut shelf, &mut side);
+    kept.release(net);
     let (state, version) = done?;
     told(alloc, &state, version, output)
 }
 
-// Carries a document out of an etcd into a folder, with its identity.
-fn take_out<R, D>(files: &D, dir: &str, taken: &mut Held<R>) -> Result<(State, u64), MoveFault>
-where
-    R: Net<Stream = TcpStream> + Clock + RandomSource + AllocGlobal + Clone + Drop,
-    D: Files<File = File> + AllocGlobal + Clone + Drop,
-{
-    is_there(files.alloc(), taken)?;
-    let mut folder = locked(files, dir)?;
-    let path = path_of(&folder)?;
-    let found = fill(files, &path, taken, &mut folder)?;
-    hand_out(files, &path, &mut taken.lease)?;
-    Ok(found)
-}
-
-// Carries a document out of an etcd into a folder that has no identity.
-fn fill<R, D>(
+// Moves a document that is taken over into a folder that has no identity.
+fn move_to<R, D>(
     files: &D,
     dir: &str,
-    taken: &mut Held<R>,
-    folder: &mut DirShelf<OsFolder<D>>,
+    shelf: &mut Remote<R>,
+    side: &mut DocumentSide<R>,
 ) -> Result<(State, u64), MoveFault>
 where
     R: Net<Stream = TcpStream> + Clock + RandomSource + AllocGlobal + Clone + Drop,
     D: Files<File = File> + AllocGlobal + Clone + Drop,
 {
-    if read_identity(files, dir)?.is_some() {
+    let alloc = files.alloc();
+    is_there(alloc, shelf, side)?;
+    let (mut folder, mut own) = locked(files, dir)?;
+    if own.identity()?.is_some() {
         return Err(MoveFault::Folder(Fault::Taken));
     }
-    match carry(files.alloc(), &mut taken.shelf, folder) {
-        Ok(found) => Ok(found),
-        Err(fault) => Err(fault_of_out(fault, &taken.causes)),
-    }
-}
-
-// Takes the identity from the document, and gives it to the folder.
-fn hand_out<R, D>(files: &D, dir: &str, lease: &mut Lease<R>) -> Result<(), MoveFault>
-where
-    R: Net<Stream = TcpStream> + Clock + RandomSource + AllocGlobal + Clone + Drop,
-    D: Files<File = File> + AllocGlobal,
-{
-    if let Some(text) = lease.identity()? {
-        lease.remove_identity()?;
-        keep_text(files, dir, &text)?;
-    }
-    Ok(())
-}
-
-// Of which place a fault of carrying a document out of an etcd is.
-fn fault_of_out(fault: Fault, causes: &Causes) -> MoveFault {
-    match fault {
-        Fault::Damaged { segment, offset } => {
-            MoveFault::Document(Fault::Damaged { segment, offset })
-        }
-        Fault::Device => fault_of_device(causes),
-        fault => MoveFault::Folder(fault),
-    }
+    move_over(alloc, shelf, side, &mut folder, &mut own)
 }
 
 // Checks a folder that holds segments.
@@ -256,32 +195,33 @@ fn look_first<D: Files<File = File> + AllocGlobal + Clone + Drop>(
     files: &D,
     dir: &str,
 ) -> Result<(), MoveFault> {
-    let mut lines: Vec<u8> = Vec::new(files.alloc());
-    match check(files.clone()?, dir, &mut lines) {
+    let alloc = files.alloc();
+    let mut lines: Vec<u8> = Vec::new(alloc);
+    let mut home = FolderHome {
+        files: files.clone()?,
+        dir,
+    };
+    match check(alloc, &mut home, &mut lines) {
         Ok(()) => Ok(()),
         Err(fault) => Err(MoveFault::Folder(fault)),
     }
 }
 
-// The shelf of a folder, which is locked for as long as it is there. The folder is made where it is missing.
+// A folder that is locked for as long as its shelf is there, and made where it is missing.
 fn locked<D: Files<File = File> + AllocGlobal + Clone + Drop>(
     files: &D,
     dir: &str,
-) -> Result<DirShelf<OsFolder<D>>, MoveFault> {
-    match DirShelf::new(files.clone()?, dir) {
-        Ok(shelf) => Ok(shelf),
-        Err(error) => Err(MoveFault::Folder(Fault::from(error))),
-    }
-}
-
-// The path by which the identity of a folder is reached that is locked.
-fn path_of<D: Files<File = File> + AllocGlobal + Clone + Drop>(
-    folder: &DirShelf<OsFolder<D>>,
-) -> Result<String, MoveFault> {
-    match folder.folder().path() {
-        Ok(path) => Ok(path),
-        Err(error) => Err(MoveFault::Folder(Fault::from(error))),
-    }
+) -> Result<(DirShelf<OsFolder<D>>, FolderSide<D>), MoveFault> {
+    let shelf = match DirShelf::new(files.clone()?, dir) {
+        Ok(shelf) => shelf,
+        Err(error) => return Err(MoveFault::Folder(Fault::from(error))),
+    };
+    let path = match shelf.folder().path() {
+        Ok(path) => path,
+        Err(error) => return Err(MoveFault::Folder(Fault::from(error))),
+    };
+    let files = files.clone()?;
+    Ok((shelf, FolderSide { files, path }))
 }
 
 // A document that is taken over.
@@ -305,36 +245,22 @@ where
 }
 
 // Fails where there is no such document.
-fn is_there<R>(alloc: Global, taken: &mut Held<R>) -> Result<(), MoveFault>
+fn is_there<R>(
+    alloc: Global,
+    shelf: &mut Remote<R>,
+    side: &DocumentSide<R>,
+) -> Result<(), MoveFault>
 where
     R: Net<Stream = TcpStream> + Clock + RandomSource + AllocGlobal + Clone + Drop,
 {
-    match taken.shelf.list(alloc) {
+    match shelf.list(alloc) {
         Ok(listed) if listed.is_empty() => { Err(MoveFault::Document(Fault::NoSegment)) }
         Ok(_) => Ok(()),
         Err(error) => {
-            let fault = of_document(Fault::from(error), taken.causes.last());
+            let fault = of_document(Fault::from(error), side.causes.last());
             Err(MoveFault::Document(fault))
         }
     }
-}
-
-// Keeps the text of an identity in the folder.
-fn keep_text<D: Files<File = File> + AllocGlobal>(
-    files: &D,
-    dir: &str,
-    text: &[u8],
-) -> Result<(), MoveFault> {
-    let Ok(text) = str::from_utf8(text) else {
-        return Err(MoveFault::Document(Fault::Identity));
-    };
-    let identity = match identity_in(files.alloc(), text) {
-        Ok(identity) => identity,
-        Err(IdentityError::Memory) => return Err(MoveFault::Document(Fault::Memory)),
-        Err(_) => return Err(MoveFault::Document(Fault::Identity)),
-    };
-    keep_identity(files, dir, &identity)?;
-    Ok(())
 }
 
 // Writes the version of a document that was moved, and how many objects there are.
@@ -350,4 +276,18 @@ fn told<W: Write>(
         Ok(()) => Ok(()),
         Err(fault) => Err(MoveFault::Folder(fault)),
     }
+}
+
+// Writes the line of a document.
+fn tell_begun<W: Write>(
+    alloc: Global,
+    state: &State,
+    version: u64,
+    output: &mut W,
+) -> Result<(), Fault>
+    ensures { OnOk result (Appends (W.contents output.old) (W.contents output.new) (begun_line (state.now, version))) }
+{
+    let line = begun_line(alloc, state, version)?;
+    write_out(output, line.as_bytes())?;
+    Ok(())
 }

@@ -1,22 +1,11 @@
 -- What opens no document is told of one in an etcd as what opens none.
-use Rattle.std.proofs.Common.{ℕ, Option, Some, None}
+use Rattle.std.proofs.Common.{ℕ, Option}
 use Rattle.etcd_store.specs.declared.error.StoreError.{StoreError}
-use Rattle.etcd_store.specs.declared.error.StoreError.TheVariants as store
-use Rattle.app_faults.specs.Errors.{fault_of_cause, of_document}
+use Rattle.app_faults.specs.Errors.{of_document}
 use Rattle.app_faults.specs.declared.fault.Fault.{Fault}
 use Rattle.app_faults.specs.declared.fault.Fault.TheVariants.{NotAnOrigin, NotAUrl, NotAName, ClientCount, NoPage, StopFile, PortInUse, PortDenied, NoPort, InUse, Denied, AboveDenied, NoDescriptor, NoRoom, Device, Taken, NoSegment, Gone, Lost, NotKept, Identity, ChangedIdentity, Busy, Damaged, TooLarge, NoSpace, NoStore, BadLine, NoDocument, Stream, NoThread, JournalFailed, StoreFailed, LeaseEnded, Stopped, Memory}
 use Rattle.app_storage.specs.Faults.{IsOpeningFault}
-
-pub opens_cause : (clients : ℕ) (why : Option StoreError) → IsOpeningFault clients (fault_of_cause why)
-opens_cause clients None = tt
-opens_cause clients (Some store.Unreachable) = tt
-opens_cause clients (Some store.Unanswered) = tt
-opens_cause clients (Some store.Refused) = tt
-opens_cause clients (Some store.TlsWanted) = tt
-opens_cause clients (Some store.NoSpace) = tt
-opens_cause clients (Some store.Damaged) = tt
-opens_cause clients (Some store.Lost) = tt
-opens_cause clients (Some store.Memory) = tt
+use Rattle.app_storage.proofs.Opens.{opens_cause}
 
 pub opens_document : (clients : ℕ) (why : Option StoreError) (fault : Fault) → IsOpeningFault clients fault → IsOpeningFault clients (of_document why fault)
 opens_document clients why NotAnOrigin is = is

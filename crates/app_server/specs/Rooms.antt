@@ -1,4 +1,8 @@
--- What it means for a server that its room isn't made.
+-- What the room of a server opens with, and what it means that it isn't made.
+use Rattle.std.specs.Prelude.{List}
+use Rattle.canvas_shelf.specs.Disk.{Segment, seen}
+use Rattle.canvas_journal.specs.Found.{Finds, IsState}
+use Rattle.canvas_board.specs.Marks.{Opening}
 use Rattle.canvas_room.specs.declared.faults.RoomError.{RoomError}
 use Rattle.canvas_room.specs.declared.faults.RoomError.TheVariants as room
 use Rattle.app_faults.specs.declared.fault.Fault.{Fault}
@@ -9,3 +13,7 @@ abbrev pub fault_of_room_error : RoomError → Fault
 fault_of_room_error room.SeatCount = ClientCount
 fault_of_room_error room.NoPlace = Memory
 fault_of_room_error room.Memory = Memory
+
+-- the room opens with what recovery finds on the disk
+abbrev pub OpensAsFound : List Segment → Opening → Type 0
+OpensAsFound disk o = Finds (seen disk) (IsState (o.state, o.version))

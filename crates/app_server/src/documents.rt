@@ -4,17 +4,16 @@ ghost use Rattle.net_http.specs.Identities.{IsIdentity};
 ghost use Rattle.app_storage.specs.Faults.{IsNamingFault, IsOpeningFault, IsPreparingFault, IsStopFault, IsThreadFault};
 
 use crate::opening::{Counted, OpenRoom, listen, room_of};
+use crate::own_document::{OwnDocument, OwnRoom, Tenure};
 use crate::progress::Progress;
 use crate::stopping::StopFile;
 use app_args::Serving;
-use app_faults::{Fault, fault_of_etcd, of_document};
+use app_faults::{Fault, of_document};
 use app_identity::{Address, identity_in, made_identity};
-use app_storage::{DocumentShelf, KeptLease, LEASE_SECONDS, NoWitness, Term};
+use app_storage::{DocumentShelf, Held, NoWitness, store_of, take_over};
 use canvas_etcd::EtcdShelf;
-use canvas_shelf::Shelf;
 use disk_integrity::Watched;
-use etcd_gateway::copy_hosts;
-use etcd_store::{Causes, EtcdStore, Lease, StoreError};
+use etcd_store::{Causes, EtcdStore, Lease};
 use std::alloc::Global;
 use std::io::Eprint;
 use std::net::{Net, TcpListener, TcpStream};
@@ -26,35 +25,6 @@ use std::time::Clock;
 /// The journal of a document in an etcd, which is counted.
 pub(crate) type DocumentJournal<R> = Counted<DocumentShelf<R>>;
 
-/// What a server holds beside the room of a document in an etcd.
-pub(crate) struct Tenure {
-    /// The lease.
-    pub(crate) lease: KeptLease,
-    /// Why calls of the store failed.
-    pub(crate) causes: Causes,
-}
-
-impl Drop for Tenure {
-    fn drop(self) {
-        let Tenure {
-            lease: _,
-            causes: _,
-        } = self;
-    }
-}
-
-/// A document that was taken over, and the port that it is served at.
-pub(crate) struct Taken<S: Shelf> {
-    /// Where the port is.
-    pub(crate) listener: TcpListener,
-    /// The document's room.
-    pub(crate) opened: OpenRoom<S>,
-    /// The document's identity.
-    pub(crate) identity: String,
-    /// What is held beside it.
-    pub(crate) tenure: Tenure,
-}
-
 /// Listens, and takes a document over. Its lease is kept alive from the takeover on. If opening it takes long, a line is logged every two
 /// seconds. `Stopped` if the file that stops the server comes while the document is being opened: then the lease is released.
 pub(crate) fn take_document<R>(
@@ -63,7 +33,7 @@ pub(crate) fn take_document<R>(
     address: &Address,
     serving: &Serving,
     stop: &StopFile,
-) -> Result<Taken<DocumentShelf<R>>, Fault>
+) -> Result<OwnRoom<DocumentJournal<R>>, Fault>
 where
     R: Net<Listener = TcpListener, Stream = TcpStream>
         + Threads
@@ -76,13 +46,13 @@ where
         + Send
         + Drop
         + 'static,
-    ensures named { IfOk result (λ taken. IsIdentity (string_bytes taken.identity)) }
+    ensures named { IfOk result (λ taken. IsIdentity (string_bytes taken.1.identity)) }
     ensures faults { IfErr result (λ fault. IsPreparingFault serving.now.clients fault ⊎ IsThreadFault fault ⊎ IsStopFault stop.now.path fault) }
 {
     let listener = listen(rt, serving.port)?;
-    let store = store_of(rt, files.alloc(), address)?;
+    let store = store_of(rt, address)?;
     let progress = Progress::begin(rt, &address.name, serving.quiet, stop, store.lease()?)?;
-    let taken = take_over(rt, files, store, serving.clients as usize);
+    let taken = take_room(rt, files, store, serving.clients as usize);
     progress.end();
     if stop.has_come() {
         if let Ok((_, _, tenure)) = &taken {
@@ -91,19 +61,24 @@ where
         return Err(Fault::Stopped);
     }
     let (opened, identity, tenure) = taken?;
-    Ok(Taken {
+    let OpenRoom { room, meter, notes } = opened;
+    let document = OwnDocument {
         listener,
-        opened,
+        meter,
+        notes,
         identity,
-        tenure,
-    })
+        space: None,
+        removed: None,
+        tenure: Some(tenure),
+    };
+    Ok((room, document))
 }
 
 // A document that was taken over: its room, its identity, and what is held beside it.
-type OpenDocument<R> = (OpenRoom<DocumentShelf<R>>, String, Tenure);
+type OpenDocument<R> = (OpenRoom<DocumentJournal<R>>, String, Tenure);
 
-// Takes a document over, gives its lease a thread, and opens its room, with this number of seats.
-fn take_over<R>(
+// Takes a document over, and opens its room, with this number of seats.
+fn take_room<R>(
     rt: &R,
     files: HostRuntime,
     store: EtcdStore<R>,
@@ -123,26 +98,27 @@ where
     ensures named { IfOk result (λ opened. IsIdentity (string_bytes opened.1)) }
     ensures faults { IfErr result (λ fault. IsOpeningFault seats fault ⊎ IsThreadFault fault) }
 {
-    let alloc = files.alloc();
-    let causes = store.causes()?;
-    let mut own = store.lease()?;
-    let term = Term::new(rt);
-    let shelf = match EtcdShelf::open(alloc, store) {
-        Ok(shelf) => shelf,
-        Err(error) => {
-            if matches!(causes.last(), Some(StoreError::Damaged | StoreError::Lost)) {
-                // No server must wait for the end of a lease under which nothing can be opened, or isn't any more.
-                let _ = own.release();
-            }
-            return Err(fault_of_etcd(error, causes.last()));
-        }
+    let held = match take_over(rt, store) {
+        Ok(held) => held,
+        Err(fault) => return Err(fault),
     };
-    let lease = KeptLease::new(rt, term, own.another()?)?;
-    match open_owned(files, shelf, &mut own, &causes, seats) {
-        Ok((opened, identity)) => Ok((opened, identity, Tenure { lease, causes })),
+    let Held {
+        shelf,
+        causes,
+        mut lease,
+        kept,
+    } = held;
+    match open_owned(files, shelf, &mut lease, &causes, seats) {
+        Ok((opened, identity)) => {
+            let tenure = Tenure {
+                lease: kept,
+                causes,
+            };
+            Ok((opened, identity, tenure))
+        }
         Err(fault) => {
             // No server must wait for the end of a lease under which nothing was served.
-            lease.release(rt);
+            kept.release(rt);
             Err(fault)
         }
     }
@@ -155,7 +131,7 @@ fn open_owned<R>(
     lease: &mut Lease<R>,
     causes: &Causes,
     seats: usize,
-) -> Result<(OpenRoom<DocumentShelf<R>>, String), Fault>
+) -> Result<(OpenRoom<DocumentJournal<R>>, String), Fault>
 where
     R: Net<Stream = TcpStream> + Clock + RandomSource + AllocGlobal + Clone + Drop,
     ensures named { IfOk result (λ opened. IsIdentity (string_bytes opened.1)) }
@@ -169,17 +145,6 @@ where
         Ok(opened) => Ok((opened, identity)),
         Err(fault) => Err(of_document(fault, causes.last())),
     }
-}
-
-/// The store of a document. Nothing is asked yet.
-pub(crate) fn store_of<R>(rt: &R, alloc: Global, address: &Address) -> Result<EtcdStore<R>, Fault>
-where
-    R: Net<Stream = TcpStream> + Clock + RandomSource + AllocGlobal + Clone + Drop,
-    ensures { IfErr result (λ fault. fault ≡ Fault.Memory) }
-{
-    let hosts = copy_hosts(alloc, &address.hosts)?;
-    let name = address.name.as_bytes();
-    Ok(EtcdStore::new(rt.clone()?, hosts, name, LEASE_SECONDS)?)
 }
 
 // The identity of a document that was taken over. If it has none it is made, and stands in the etcd before it is told.

@@ -1,19 +1,21 @@
 // What `lugcurrant serve` does: a room over the journal of a document, whose seats serve clients for as long as it runs.
-ghost use Rattle.std.specs.Prelude.{◌≡◌, ◌⊎◌, IfErr, string_bytes};
+ghost use Rattle.std.specs.Prelude.{◌≡◌, ◌⊎◌, IfErr, IfOk, string_bytes};
 ghost use Rattle.net_http.specs.Identities.{IsIdentity};
 ghost use Rattle.app_storage.specs.Faults.{IsPageFault, IsPreparingFault, IsRunningFault, MayEndServer, IsStopFault, IsThreadFault};
 
 use crate::copies::Copies;
-use crate::documents::{DocumentJournal, Taken, Tenure, take_document};
+use crate::documents::{DocumentJournal, take_document};
+use crate::folders::take_folder;
 use crate::glancing::{GlanceTask, Seen};
-use crate::opening::{FolderJournal, OpenFolder, OpenRoom, listen, open_room, opened};
+use crate::opening::opened;
+use crate::own_document::{OwnDocument, OwnRoom};
 use crate::standby::await_document;
 use crate::stopping::StopFile;
 use crate::tasks::{DoorTask, SeatTask};
 use crate::watching::{Ends, watch};
 use app_args::{DocumentPlace, Options, Serving};
 use app_faults::Fault;
-use app_identity::{Address, identity};
+use app_identity::Address;
 use app_listener::{Figures, Limits, Shared, read_page};
 use app_storage::begin_task;
 use canvas_board::RoomName;
@@ -47,10 +49,12 @@ const DOORS: u32 = 16;
 /// safe. Once the file of `stop_file` is there, nothing more is judged, the lease is released, and the server ends: `Stopped`. A document
 /// in an etcd isn't opened to its end then.
 ///
-/// The faults: `StopFile`, if that file is there before, and then nothing was touched; `NoPage`, where the options name the folder of a page
-/// and no file `index.html` can be read in it, and `PortInUse`, `PortDenied` and `NoPort`, where the port can't be had, and then the document is left alone; `ClientCount`, only for fewer clients than 1 or more than
-/// 64; `Denied`, `AboveDenied`, `NoDescriptor`, `NoRoom`, `Device`, `ChangedIdentity`, `Lost`, `NotKept` and `NoSpace` of a folder, `NoStore` of a document in an
-/// etcd, and `InUse`, `Identity`, `Damaged` and `TooLarge` of both, where it isn't opened; `NoThread`, where not all threads can be made; `Memory`; and later `JournalFailed`, once the device of the journal has failed, or `StoreFailed` and `LeaseEnded` of an etcd.
+/// The faults: `StopFile`, if that file is there before, and then nothing was touched; `NoPage`, where the options name the folder of a
+/// page and no file `index.html` can be read in it, and `PortInUse`, `PortDenied` and `NoPort`, where the port can't be had, and then the
+/// document is left alone; `ClientCount`, only for fewer clients than 1 or more than 64; `Denied`, `AboveDenied`, `NoDescriptor`, `NoRoom`,
+/// `Device`, `ChangedIdentity`, `Lost`, `NotKept` and `NoSpace` of a folder, `NoStore` of a document in an etcd, and `InUse`, `Identity`,
+/// `Damaged` and `TooLarge` of both, where it isn't opened; `NoThread`, where not all threads can be made; `Memory`; and later
+/// `JournalFailed`, once the device of the journal has failed, or `StoreFailed` and `LeaseEnded` of an etcd.
 pub fn serve<R>(rt: &R, files: HostRuntime, options: Options) -> Fault
 where
     R: Net<Listener = TcpListener, Stream = TcpStream>
@@ -121,12 +125,10 @@ where
         + 'static,
     ensures { MayEndServer serving.clients stop.path result }
 {
-    let (room, shared) = match prepare_folder(rt, files, dir, serving) {
-        Ok(prepared) => prepared,
-        Err(fault) => return fault,
-    };
-    let ends = Ends { stop, tenure: None };
-    host::<Brand, _, _>(rt, files, room, &shared, &ends, dir)
+    match take_folder(rt, files, dir, &serving) {
+        Ok((room, document)) => serve_taken(rt, files, room, document, serving, stop, dir),
+        Err(fault) => fault,
+    }
 }
 
 // Serves a document in an etcd.
@@ -152,58 +154,28 @@ where
         + 'static,
     ensures { MayEndServer serving.clients stop.path result }
 {
-    let (room, shared, tenure) = match prepare_document(rt, files, address, serving, &stop) {
-        Ok(prepared) => prepared,
-        Err(fault) => return fault,
-    };
-    let ends = Ends {
-        stop,
-        tenure: Some(tenure),
-    };
-    let fault = host::<Brand, _, _>(rt, files, room, &shared, &ends, &address.name);
-    if let Some(tenure) = &ends.tenure {
-        tenure.lease.release(rt);
+    match take_or_await(rt, files, address, &serving, &stop) {
+        Ok((room, document)) => serve_taken(
+            rt,
+            files,
+            room,
+            document,
+            serving,
+            stop,
+            &address.name,
+        ),
+        Err(fault) => fault,
     }
-    fault
 }
 
-// What a server has before it serves: the room of its document, and what its threads share.
-type Prepared<K> = (BlankRoom<K>, Arc<Shared, Global>);
-
-// Listens, and opens the folder.
-fn prepare_folder<R>(
-    rt: &R,
-    files: HostRuntime,
-    dir: &str,
-    serving: Serving,
-) -> Result<Prepared<FolderJournal>, Fault>
-where
-    R: Net<Listener = TcpListener, Stream = TcpStream> + Wait + AllocGlobal,
-    ensures { IfErr result (IsPreparingFault serving.clients) }
-{
-    let listener = listen(rt, serving.port)?;
-    let seats = serving.clients as usize;
-    let OpenFolder {
-        opened,
-        removed,
-        space,
-        path,
-    } = open_room(files, dir, seats, serving.accept_loss)?;
-    let OpenRoom { room, meter, notes } = opened;
-    let identity = identity(&files, &path)?;
-    let figures = Figures::new(meter, notes, Some(space));
-    let shared = share(rt, listener, identity, figures, Some(removed), serving)?;
-    Ok((room, shared))
-}
-
-// Takes the document over, which a standby waits for, and listens.
-fn prepare_document<R>(
+// Listens, and takes a document in an etcd over, which a standby waits for first.
+fn take_or_await<R>(
     rt: &R,
     files: HostRuntime,
     address: &Address,
-    serving: Serving,
+    serving: &Serving,
     stop: &StopFile,
-) -> Result<(BlankRoom<DocumentJournal<R>>, Arc<Shared, Global>, Tenure), Fault>
+) -> Result<OwnRoom<DocumentJournal<R>>, Fault>
 where
     R: Net<Listener = TcpListener, Stream = TcpStream>
         + Threads
@@ -216,29 +188,52 @@ where
         + Send
         + Drop
         + 'static,
-    ensures { IfErr result (λ fault. IsPreparingFault serving.clients fault ⊎ IsThreadFault fault ⊎ IsStopFault stop.now.path fault) }
+    ensures named { IfOk result (λ taken. IsIdentity (string_bytes taken.1.identity)) }
+    ensures faults { IfErr result (λ fault. IsPreparingFault serving.now.clients fault ⊎ IsThreadFault fault ⊎ IsStopFault stop.now.path fault) }
 {
-    let taken = if serving.is_standby {
-        await_document(rt, files, address, &serving, stop)?
+    if serving.is_standby {
+        await_document(rt, files, address, serving, stop)
     } else {
-        take_document(rt, files, address, &serving, stop)?
-    };
-    let Taken {
-        listener,
-        opened,
-        identity,
-        tenure,
-    } = taken;
-    let OpenRoom { room, meter, notes } = opened;
-    let figures = Figures::new(meter, notes, None);
-    match share(rt, listener, identity, figures, None, serving) {
-        Ok(shared) => Ok((room, shared, tenure)),
-        Err(fault) => {
-            // No server must wait for the end of a lease under which nothing was served.
-            tenure.lease.release(rt);
-            Err(fault)
-        }
+        take_document(rt, files, address, serving, stop)
     }
+}
+
+// Serves a document that is this server's under this name, and lets it go then.
+fn serve_taken<K, R>(
+    rt: &R,
+    files: HostRuntime,
+    room: BlankRoom<K>,
+    document: OwnDocument,
+    serving: Serving,
+    stop: StopFile,
+    name: &String,
+) -> Fault
+where
+    K: Keeper + Drop + Send + 'static,
+    R: Threads + Wait + Clock + Eprint + AllocGlobal + Clone + Send + Sync + Drop + 'static,
+    requires { IsIdentity (string_bytes document.identity) }
+    ensures { IsRunningFault result ⊎ IsStopFault stop.path result }
+{
+    let OwnDocument {
+        listener,
+        meter,
+        notes,
+        identity,
+        space,
+        removed,
+        tenure,
+    } = document;
+    let ends = Ends { stop, tenure };
+    let figures = Figures::new(meter, notes, space);
+    let fault = match share(rt, listener, identity, figures, removed, serving) {
+        Ok(shared) => host::<Brand, _, _>(rt, files, room, &shared, &ends, name),
+        Err(fault) => fault,
+    };
+    if let Some(tenure) = &ends.tenure {
+        // No server must wait for the end of a lease under which nothing is served.
+        tenure.lease.release(rt);
+    }
+    fault
 }
 
 // What the threads of a server share.

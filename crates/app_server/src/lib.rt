@@ -4,9 +4,11 @@
 mod connections;
 mod copies;
 mod documents;
+mod folders;
 mod glancing;
 mod hosting;
 mod opening;
+mod own_document;
 mod pace;
 mod permits;
 mod progress;

@@ -6,7 +6,7 @@ ghost use Rattle.canvas_shelf.specs.Disk.{seen, top_is_listed};
 ghost use Rattle.canvas_journal.specs.Found.{Finds, IsState};
 ghost use Rattle.canvas_journal.specs.Meaning.{IsCountedByEntries, Versioned};
 ghost use Rattle.app_storage.specs.Faults.{IsOpeningFault, IsPortFault};
-ghost use Rattle.app_server.specs.Rooms.{fault_of_room_error};
+ghost use Rattle.app_server.specs.Rooms.{OpensAsFound, fault_of_room_error};
 
 use app_faults::Fault;
 use app_identity::read_identity;
@@ -49,9 +49,9 @@ pub(crate) type FolderJournal = Counted<OwnFolder>;
 
 /// The room of a document, without a name yet, and what is counted and noted of its journal.
 #[derive(Drop)]
-pub(crate) struct OpenRoom<S: Shelf> {
+pub(crate) struct OpenRoom<K: Keeper> {
     /// The room.
-    pub(crate) room: BlankRoom<Counted<S>>,
+    pub(crate) room: BlankRoom<K>,
     /// What its journal counts.
     pub(crate) meter: Arc<Meter, Global>,
     /// What is noted of its shelf's calls.
@@ -61,7 +61,7 @@ pub(crate) struct OpenRoom<S: Shelf> {
 /// The room of a folder's document, and what else is known of the folder.
 pub(crate) struct OpenFolder {
     /// The room.
-    pub(crate) opened: OpenRoom<OwnFolder>,
+    pub(crate) opened: OpenRoom<FolderJournal>,
     /// The files that the folder removes.
     pub(crate) removed: Removed,
     /// The refused checkpoints.
@@ -111,11 +111,11 @@ fn open_locked<F: Folder + Drop>(
     path: &str,
     seats: usize,
     accept_loss: bool,
-) -> Result<OpenRoom<FolderShelf<F>>, Fault>
+) -> Result<OpenRoom<Counted<FolderShelf<F>>>, Fault>
     requires top { IsTrue (⟦<DirShelf<F> as Shelf>⟧.honest shelf) → top_is_listed (⟦<DirShelf<F> as Shelf>⟧.disk shelf) ≡ true }
     requires counted { IsTrue (⟦<DirShelf<F> as Shelf>⟧.honest shelf) → (s : Versioned) → Finds (seen (⟦<DirShelf<F> as Shelf>⟧.disk shelf)) (IsState s) → IsCountedByEntries s }
     ensures whole { IsTrue (⟦<DirShelf<F> as Shelf>⟧.honest shelf) → OnOk result (accept_loss ≡ false → (trace : Option Trace) × TellsLoss (⟦<DirShelf<F> as Shelf>⟧.disk shelf) trace None) }
-    ensures found { IsTrue (⟦<DirShelf<F> as Shelf>⟧.honest shelf) → IfOk result (λ opened. Finds (seen (⟦<DirShelf<F> as Shelf>⟧.disk shelf)) (IsState (opened.room.opening.state, opened.room.opening.version))) }
+    ensures found { IsTrue (⟦<DirShelf<F> as Shelf>⟧.honest shelf) → IfOk result (λ opened. OpensAsFound (⟦<DirShelf<F> as Shelf>⟧.disk shelf) opened.room.opening) }
     ensures seats { IfOk result (λ opened. opened.room.seats ≡ seats) }
     ensures faults { IfErr result (IsOpeningFault seats) }
 {
@@ -140,10 +140,10 @@ pub(crate) fn room_of<S: Shelf + Drop>(
     shelf: S,
     notes: Notes,
     seats: usize,
-) -> Result<OpenRoom<S>, Fault>
+) -> Result<OpenRoom<Counted<S>>, Fault>
     requires top { IsTrue (S.honest shelf) → top_is_listed (S.disk shelf) ≡ true }
     requires counted { IsTrue (S.honest shelf) → (s : Versioned) → Finds (seen (S.disk shelf)) (IsState s) → IsCountedByEntries s }
-    ensures found { IsTrue (S.honest shelf) → IfOk result (λ opened. Finds (seen (S.disk shelf)) (IsState (opened.room.opening.state, opened.room.opening.version))) }
+    ensures found { IsTrue (S.honest shelf) → IfOk result (λ opened. OpensAsFound (S.disk shelf) opened.room.opening) }
     ensures seats { IfOk result (λ opened. opened.room.seats ≡ seats) }
     ensures faults { IfErr result (IsOpeningFault seats) }
 {

@@ -3,12 +3,13 @@ ghost use Rattle.std.specs.Prelude.{◌⊎◌, IfErr, IfOk, IsSome, IsTrue, stri
 ghost use Rattle.net_http.specs.Identities.{IsIdentity};
 ghost use Rattle.app_storage.specs.Faults.{IsPreparingFault, IsStopFault, IsThreadFault};
 
-use crate::documents::{Taken, store_of, take_document};
+use crate::documents::{DocumentJournal, take_document};
+use crate::own_document::OwnRoom;
 use crate::stopping::StopFile;
 use app_args::Serving;
 use app_faults::{Fault, Why};
 use app_identity::Address;
-use app_storage::DocumentShelf;
+use app_storage::store_of;
 use etcd_store::{EtcdStore, StoreError};
 use std::io::Eprint;
 use std::net::{Net, TcpListener, TcpStream};
@@ -52,7 +53,7 @@ pub(crate) fn await_document<R>(
     address: &Address,
     serving: &Serving,
     stop: &StopFile,
-) -> Result<Taken<DocumentShelf<R>>, Fault>
+) -> Result<OwnRoom<DocumentJournal<R>>, Fault>
 where
     R: Net<Listener = TcpListener, Stream = TcpStream>
         + Threads
@@ -65,10 +66,10 @@ where
         + Send
         + Drop
         + 'static,
-    ensures named { IfOk result (λ taken. IsIdentity (string_bytes taken.identity)) }
+    ensures named { IfOk result (λ taken. IsIdentity (string_bytes taken.1.identity)) }
     ensures faults { IfErr result (λ fault. IsPreparingFault serving.now.clients fault ⊎ IsThreadFault fault ⊎ IsStopFault stop.now.path fault) }
 {
-    let mut store = store_of(rt, files.alloc(), address)?;
+    let mut store = store_of(rt, address)?;
     let mut told = None;
     for _ in rt.forever() {
         let obstacle = match try_document(rt, files, address, serving, stop, &mut store)? {
@@ -94,7 +95,7 @@ fn try_document<R>(
     serving: &Serving,
     stop: &StopFile,
     store: &mut EtcdStore<R>,
-) -> Result<Result<Taken<DocumentShelf<R>>, Obstacle>, Fault>
+) -> Result<Result<OwnRoom<DocumentJournal<R>>, Obstacle>, Fault>
 where
     R: Net<Listener = TcpListener, Stream = TcpStream>
         + Threads
@@ -107,7 +108,7 @@ where
         + Send
         + Drop
         + 'static,
-    ensures named { IfOk result (λ tried. IfOk tried (λ taken. IsIdentity (string_bytes taken.identity))) }
+    ensures named { IfOk result (λ tried. IfOk tried (λ taken. IsIdentity (string_bytes taken.1.identity))) }
     ensures faults { IfErr result (λ fault. IsPreparingFault serving.now.clients fault ⊎ IsThreadFault fault ⊎ IsStopFault stop.now.path fault) }
 {
     match store.is_owned() {

@@ -2,8 +2,8 @@
 ghost use Rattle.std.specs.Prelude.{◌⊎◌, IfSome};
 ghost use Rattle.app_storage.specs.Faults.{IsJournalFault, IsStopFault};
 
-use crate::documents::Tenure;
 use crate::glancing::{GLANCE_MILLIS, Seen};
+use crate::own_document::Tenure;
 use crate::stopping::StopFile;
 use app_faults::Fault;
 use app_listener::Shared;

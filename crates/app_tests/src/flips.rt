@@ -13,7 +13,7 @@ pub(crate) const SEGMENT: &[u8] =
 // Where its checkpoint and its first entry end.
 const CHECKPOINT_END: usize = 57;
 
-const FIRST_END: usize = 86;
+pub(crate) const FIRST_END: usize = 86;
 
 // Checks whether such a segment, with such sums, is what a crash leaves.
 fn is_left(alloc: Global, bytes: &[u8], sums: &[u8]) -> Result<bool, Fail> {
@@ -26,7 +26,7 @@ fn is_left(alloc: Global, bytes: &[u8], sums: &[u8]) -> Result<bool, Fail> {
 }
 
 // The sums of the segment, as three syncs leave them.
-fn sums(alloc: Global) -> Result<Vec<u8>, Fail> {
+pub(crate) fn sums(alloc: Global) -> Result<Vec<u8>, Fail> {
     let mut sum = RunningSum::new();
     let mut lines = Vec::new(alloc);
     for part in [

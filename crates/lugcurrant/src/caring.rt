@@ -1,7 +1,7 @@
 // The commands that care for a document, each to its end: they answer the program's status, once a fault is told.
 ghost use Rattle.std.specs.Prelude.{◌⊎◌};
 ghost use Rattle.app_admin.specs.Begun.{WritesBegun, WritesImported};
-ghost use Rattle.app_admin.specs.Checks.{WritesCheck};
+ghost use Rattle.app_admin.specs.Checks.{WritesCheckIf};
 ghost use Rattle.app_admin.specs.Logs.{WritesLog};
 ghost use Rattle.app_admin.specs.Shown.{WritesRows};
 ghost use Rattle.app_faults.specs.Told.{EndsCommand};
@@ -9,7 +9,8 @@ ghost use Rattle.app_faults.specs.declared.subject.Subject.TheVariants.{Folder};
 ghost use Rattle.canvas_lines.specs.Reports.{WritesReport};
 
 use app_admin::{
-    Ground, Home, Layout, begin_folder, check, import_on, log, read_backup, show_rows, show_tree,
+    FolderHome, Ground, Home, Layout, SumSource, begin_folder, check, import_on, log, read_backup,
+    show_rows, show_tree,
 };
 use app_faults::{Subject, finish};
 use canvas_shelf::Shelf;
@@ -74,7 +75,8 @@ pub(crate) fn run_import<G: Ground, I: Read, W: Write, F: Write>(
     output: &mut W,
     faults: &mut F,
 ) -> u8
-    ensures { EndsCommand (WritesImported (I.remaining input.old) (I.remaining input.new) (W.contents output.old) (W.contents output.new)) subject name.now result (F.contents faults.old) (F.contents faults.new) }
+    ensures { EndsCommand (WritesImported (I.remaining input.old) (I.remaining input.new) (W.contents output.old) (W.contents output.new))
+        subject name.now result (F.contents faults.old) (F.contents faults.new) }
 {
     finish(
         import_on(alloc, ground, input, output),
@@ -97,7 +99,8 @@ pub(crate) fn run_restore<W: Write, F: Write>(
     ensures { EndsCommand (WritesBegun (W.contents output.old) (W.contents output.new)) Folder dir.now result (F.contents faults.old) (F.contents faults.new)
         ⊎ EndsCommand ⊥ Folder backup.now result (F.contents faults.old) (F.contents faults.new) }
 {
-    match read_backup(files, backup, accept_loss) {
+    let alloc = files.alloc();
+    match read_backup(alloc, &mut FolderHome { files, dir: backup }, accept_loss) {
         Ok((state, version)) => {
             let done = begin_folder(files, dir, &state, version, output);
             finish(done, Subject::Folder, dir, faults)
@@ -106,14 +109,16 @@ pub(crate) fn run_restore<W: Write, F: Write>(
     }
 }
 
-/// Tells what stands in a folder's segments.
-pub(crate) fn run_check<W: Write, F: Write>(
-    files: HostRuntime,
-    dir: &str,
+/// Tells what stands in the segments of the document that is kept there.
+pub(crate) fn run_check<S: Shelf + Drop, H: Home<S> + SumSource, W: Write, F: Write>(
+    alloc: Global,
+    home: &mut H,
+    subject: Subject,
+    name: &str,
     output: &mut W,
     faults: &mut F,
 ) -> u8
-    ensures { EndsCommand (WritesCheck (W.contents output.old) (W.contents output.new)) Folder dir.now result (F.contents faults.old) (F.contents faults.new) }
+    ensures { EndsCommand (WritesCheckIf (H.summed home.old) (W.contents output.old) (W.contents output.new)) subject name.now result (F.contents faults.old) (F.contents faults.new) }
 {
-    finish(check(files, dir, output), Subject::Folder, dir, faults)
+    finish(check(alloc, home, output), subject, name, faults)
 }

@@ -1,11 +1,10 @@
 // The commands that care for a document in an etcd alone, each to its end: they answer the program's status, once a fault is told.
 ghost use Rattle.std.specs.Prelude.{◌⊎◌, OnOk, string_bytes};
 ghost use Rattle.app_admin.specs.Begun.{WritesBegun, WritesImported};
-ghost use Rattle.app_admin.specs.Checks.{WritesShelf};
 ghost use Rattle.app_faults.specs.Told.{EndsCommand};
 ghost use Rattle.app_faults.specs.declared.subject.Subject.TheVariants.{Document, Folder};
 
-use app_admin_etcd::{MoveFault, check, import_document, move_in, move_out};
+use app_admin_etcd::{MoveFault, import_document, move_in, move_out};
 use app_faults::{Subject, finish};
 use app_identity::Address;
 use std::io::{Read, Write};
@@ -37,26 +36,11 @@ where
     I: Read,
     W: Write,
     F: Write,
-    ensures { EndsCommand (WritesImported (I.remaining input.old) (I.remaining input.new) (W.contents output.old) (W.contents output.new)) Document (string_bytes address.now.name) result (F.contents faults.old) (F.contents faults.new) }
+    ensures { EndsCommand (WritesImported (I.remaining input.old) (I.remaining input.new) (W.contents output.old) (W.contents output.new))
+        Document (string_bytes address.now.name) result (F.contents faults.old) (F.contents faults.new) }
 {
     finish(
         import_document(rt, address, input, output),
-        Subject::Document,
-        &address.name,
-        faults,
-    )
-}
-
-/// Tells what stands in a document's segments.
-pub(crate) fn check_remote<R, W, F>(rt: &R, address: &Address, output: &mut W, faults: &mut F) -> u8
-where
-    R: Net<Stream = TcpStream> + Clock + RandomSource + AllocGlobal + Clone + Drop,
-    W: Write,
-    F: Write,
-    ensures { EndsCommand (WritesShelf (W.contents output.old) (W.contents output.new)) Document (string_bytes address.now.name) result (F.contents faults.old) (F.contents faults.new) }
-{
-    finish(
-        check(rt, address, output),
         Subject::Document,
         &address.name,
         faults,

@@ -4,10 +4,10 @@ ghost use Rattle.app_admin.specs.Begun.{WritesImported};
 ghost use Rattle.app_admin.specs.Logs.{WritesLog};
 ghost use Rattle.app_faults.specs.Told.{EndsCommand};
 ghost use Rattle.app_storage.specs.Faults.{IsServedUntilFault};
-ghost use Rattle.lugcurrant.specs.Runs.{CarriesOut, EndsAt, IsWordRefused, IsCommandRun, Shows, WritesShown, place_bytes, served_of};
+ghost use Rattle.lugcurrant.specs.Runs.{CarriesOut, EndsAt, IsWordRefused, IsCommandRun, Shows, WritesChecked, WritesShown, place_bytes, served_of};
 
 use crate::caring::{run_check, run_import, run_log, run_restore, run_rows, run_tree};
-use crate::remote::{check_remote, import_remote, run_move};
+use crate::remote::{import_remote, run_move};
 use app_admin::{FolderHome, Home, Layout, NewFolder};
 use app_admin_etcd::DocumentHome;
 use app_args::{DocumentPlace, Invocation, Options, WordError, WordsError, read_words};
@@ -121,10 +121,7 @@ where
             address,
             is_back,
         } => run_move(rt, files, &dir, &address, is_back, output, faults),
-        Invocation::Check { place } => match &place {
-            DocumentPlace::Folder(dir) => run_check(files, dir, output, faults),
-            DocumentPlace::Document(address) => check_remote(rt, address, output, faults),
-        },
+        Invocation::Check { place } => check(rt, files, &place, output, faults),
         Invocation::Log { place } => log(rt, files, &place, output, faults),
     }
 }
@@ -182,6 +179,41 @@ fn show_home<S: Shelf + Drop, H: Home<S>, W: Write, F: Write>(
     match layout {
         None => run_tree(alloc, home, subject, name, output, faults),
         Some(layout) => run_rows(alloc, home, subject, name, layout, output, faults),
+    }
+}
+
+// Tells what stands in a document's segments.
+fn check<R, W, F>(
+    rt: &R,
+    files: HostRuntime,
+    place: &DocumentPlace,
+    output: &mut W,
+    faults: &mut F,
+) -> u8
+where
+    R: Net<Stream = TcpStream> + Clock + RandomSource + AllocGlobal + Clone + Drop,
+    W: Write,
+    F: Write,
+    ensures { EndsAt place.now (WritesChecked place.now (W.contents output.old) (W.contents output.new)) result (F.contents faults.old) (F.contents faults.new) }
+{
+    let alloc = rt.alloc();
+    match place {
+        DocumentPlace::Folder(dir) => run_check(
+            alloc,
+            &mut FolderHome { files, dir },
+            Subject::Folder,
+            dir,
+            output,
+            faults,
+        ),
+        DocumentPlace::Document(address) => run_check(
+            alloc,
+            &mut DocumentHome::new(rt, address),
+            Subject::Document,
+            &address.name,
+            output,
+            faults,
+        ),
     }
 }
 
@@ -243,7 +275,8 @@ where
     I: Read,
     W: Write,
     F: Write,
-    ensures { EndsAt place.now (WritesImported (I.remaining input.old) (I.remaining input.new) (W.contents output.old) (W.contents output.new)) result (F.contents faults.old) (F.contents faults.new) }
+    ensures { EndsAt place.now (WritesImported (I.remaining input.old) (I.remaining input.new) (W.contents output.old) (W.contents output.new))
+        result (F.contents faults.old) (F.contents faults.new) }
 {
     match place {
         DocumentPlace::Folder(dir) => run_import(
@@ -275,7 +308,9 @@ where
         + Drop
         + 'static,
     F: Write,
-    ensures { IsServedUntilFault (served_of options.place) (place_bytes options.place) options.serving.port options.serving.clients options.serving.stop_file result (F.contents faults.old) (F.contents faults.new) }
+    ensures { IsServedUntilFault (served_of options.place) (place_bytes options.place)
+        options.serving.port options.serving.clients options.serving.stop_file
+        result (F.contents faults.old) (F.contents faults.new) }
 {
     let port = options.serving.port;
     let subject = served_of(&options.place);

@@ -1,4 +1,4 @@
-use Rattle.app_server.proofs.hosting.serve_document.Given as goal
+use Rattle.app_server.proofs.hosting.serve_taken.Given as goal
 
 -- the room that was just opened
 abbrev pub ghosts-host : goal.ghosts-host
