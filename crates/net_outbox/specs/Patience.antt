@@ -1,0 +1,17 @@
+-- When a peer is too slow.
+use Rattle.std.specs.Prelude.{◌≡◌, ◌⊎◌, ℕ, ◌-◌, ◌<◌, ◌≤◌, Option, None, Some}
+use Rattle.net_outbox.specs.declared.patience.Span.{Span}
+
+-- eight seconds have passed since a span began, or none has begun
+abbrev pub IsOver : Option Span → ℕ → Type 0
+IsOver None now = Unit {0}
+IsOver (Some s) now = 8000 ≤ now - s.at
+
+-- nothing has left since it began, or less than 32,000 bytes though more than 256 KiB waited then and wait now
+abbrev pub TakesTooLittle : Span → ℕ → ℕ → Type 0
+TakesTooLittle s taken waiting = (taken - s.taken ≡ 0) ⊎ ((taken - s.taken < 32000) × (262144 < s.waiting) × (262144 < waiting))
+
+-- something waits, a span is over, and too little has left in it
+abbrev pub IsSlow : Option Span → ℕ → ℕ → ℕ → Type 0
+IsSlow None now taken waiting = ⊥
+IsSlow (Some s) now taken waiting = (0 < waiting) × (8000 ≤ now - s.at) × TakesTooLittle s taken waiting
