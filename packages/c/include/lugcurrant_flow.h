@@ -96,8 +96,8 @@ static inline const char *lugcurrant_state_sentence(uint32_t number)
     case LUGCURRANT_STATE_NO_SEAT: return "every seat of the server is taken; it is tried again";
     case LUGCURRANT_STATE_REPLACED: return "another program uses this id; it begins anew, and makes again what waits";
     case LUGCURRANT_STATE_STRANGER: return "the server has another history; it begins anew, and makes again what waits";
-    case LUGCURRANT_STATE_TOO_LARGE: return "an edit is too large for the server; it is taken out, and the rest is made again";
-    case LUGCURRANT_STATE_UNREADABLE: return "the server can not read an edit; it is taken out, and the rest is made again";
+    case LUGCURRANT_STATE_TOO_LARGE: return "an edit is too large for the server; one that changes nothing takes its number";
+    case LUGCURRANT_STATE_UNREADABLE: return "the server can not read an edit; one that changes nothing takes its number";
     case LUGCURRANT_STATE_FULL: return "the server can take no more edits; others are heard";
     case LUGCURRANT_STATE_DISK_FAILED: return "the server's disk failed; what waits is sent again";
     case LUGCURRANT_STATE_DISK_FAILED_BEFORE: return "the server's disk failed before; what waits is sent again";
@@ -154,18 +154,19 @@ typedef struct lugcurrant_flow_options {
     uint32_t most_asks;    /* asks under way at once while catching up: 32 */
     double least_pause;    /* milliseconds between asks while news come: 5 */
     double most_pause;     /* milliseconds to which that pause grows while none come: 400 */
+    double beat;           /* milliseconds without a message after which a live connection is tried by an ask: 20000 */
 } lugcurrant_flow_options;
 
 /* The types of events. */
 enum {
     LUGCURRANT_FLOW_STATE = 1,     /* the state or its words are others */
     LUGCURRANT_FLOW_TOOK = 2,      /* the client took something, so the document or its id may be another */
-    LUGCURRANT_FLOW_REFUSED = 3,   /* the server refused an edit of this client */
+    LUGCURRANT_FLOW_REFUSED = 3,   /* the server refused an edit of this client, or can't take it */
     LUGCURRANT_FLOW_ANEW = 4,      /* the client has become another one, with another id and its edits made again */
-    LUGCURRANT_FLOW_CAUGHT_UP = 5  /* an answer ended and brought everything that the server had */
+    LUGCURRANT_FLOW_CAUGHT_UP = 5  /* an answer ended and brought everything that the server had; or the flow is settled again */
 };
 
-/* An edit that was not made again: the JSON of its change (docs/wire.md), with a zero after it. */
+/* An edit that was not made again, or was replaced: the JSON of its change (docs/wire.md), with a zero after it. */
 typedef struct lugcurrant_flow_edit {
     const char *change;
     size_t length;  /* of the change */
@@ -189,11 +190,11 @@ typedef struct lugcurrant_flow_event {
     uint64_t number;                       /* REFUSED: the number of the edit */
     const char *edit;                      /* REFUSED: "create", "set", "clear", "move" or "delete". It is never freed */
     lugcurrant_object_id id;               /* REFUSED: the object of the edit */
-    uint32_t reason;                       /* REFUSED: for lugcurrant_refusal_name and lugcurrant_refusal_sentence */
+    uint32_t reason;                       /* REFUSED: for lugcurrant_refusal_name; LUGCURRANT_NO_TOO_LARGE or _UNREADABLE if the edit is in `lost` */
 
     uint64_t made;                         /* ANEW: how many edits were made again, and wait now */
-    const lugcurrant_flow_edit *lost;      /* ANEW: those that could not be */
-    size_t lost_count;                     /* ANEW: their number */
+    const lugcurrant_flow_edit *lost;      /* ANEW: those that could not be. REFUSED: the edit, if the server can't take it */
+    size_t lost_count;                     /* ANEW, REFUSED: their number */
     const lugcurrant_flow_edit *unsure;    /* ANEW: those that may have been judged or not, and that the document doesn't show; no code */
     size_t unsure_count;                   /* ANEW: their number */
     const lugcurrant_flow_new_id *ids;     /* ANEW: the objects that have another id, by their former ids */
@@ -234,7 +235,8 @@ uint32_t lugcurrant_flow_hear(lugcurrant_flow *flow, const uint8_t *bytes, size_
 /* Takes the first event that wasn't taken yet. Take all events after each message: the flow keeps those that aren't taken. The lists of an
  * event belong to the flow and are valid until the next call of this function or lugcurrant_flow_free.
  * After a TOOK the client has left which objects may have changed, as by lugcurrant_receive_and_tell. Read it before the next call of
- * lugcurrant_flow_hear or lugcurrant_flow_next_outgoing. After ANEW any object may have changed.
+ * lugcurrant_flow_hear or lugcurrant_flow_next_outgoing. After ANEW any object may have changed, and so after a REFUSED with the edit in `lost`:
+ * the client keeps its id and the numbers of its edits, but that one changes nothing now.
  * DONE; NONE (there is none, `*event` is as it was). */
 uint32_t lugcurrant_flow_next_event(lugcurrant_flow *flow, lugcurrant_flow_event *event);
 
@@ -253,7 +255,8 @@ bool lugcurrant_flow_is_settled(const lugcurrant_flow *flow);
 size_t lugcurrant_flow_unanswered(const lugcurrant_flow *flow);
 
 /* Lets no edit above this number be sent: a program that keeps its client on disk sets the number of the last edit that it has saved there.
- * Without a call there is no limit. After ANEW the numbers begin at 1 again: set the limit before the next message is taken to be sent. */
+ * Without a call there is no limit. After ANEW the numbers begin at 1 again: set the limit before the next message is taken to be sent. After a
+ * REFUSED with the edit in `lost` the flow has lowered the limit below that edit: save the client, and set it again. */
 void lugcurrant_flow_set_limit(lugcurrant_flow *flow, uint64_t number);
 
 /* Says that the program has saved the client, with all its edits, by lugcurrant_save. Another program that loads the save sends the same

@@ -1,6 +1,9 @@
 /* A client that begins anew: it takes another id, looks through the log for its edits that were judged, and makes the others again. */
 #include "internal.h"
 
+#include <inttypes.h>
+#include <stdio.h>
+
 static const char STRANGER_WORDS[] = "the server has another history; it begins anew";
 static const char REPLACED_WORDS[] = "another program uses this id; it begins anew";
 
@@ -48,18 +51,9 @@ void lugcurrant_begin_anew(lugcurrant_flow *flow, uint32_t state, bool scans, ui
     flow->anew.state = state;
     flow->anew.from = from;
     flow->dropping = 0;
-    flow->missing = 0;
-    flow->top = 0;
-    flow->width = 1;
+    lugcurrant_leave(flow);
     const char *words = flow->state == state ? flow->words : STRANGER_WORDS;
     lugcurrant_set_state(flow, state, state == LUGCURRANT_STATE_REPLACED ? REPLACED_WORDS : words);
-}
-
-void lugcurrant_begin_anew_without(lugcurrant_flow *flow)
-{
-    uint32_t reason = flow->dropping;
-    lugcurrant_begin_anew(flow, flow->state, true, lugcurrant_version(flow->client));
-    flow->anew.drop = reason;
 }
 
 uint32_t lugcurrant_flow_begin_anew(lugcurrant_flow *flow)
@@ -231,7 +225,8 @@ uint32_t lugcurrant_look_at_part(lugcurrant_flow *flow, struct sent *head, uint8
     if (letter == ENTRY) {
         if (lugcurrant_look_at_entry(flow, message) != LUGCURRANT_DONE)
             return LUGCURRANT_MEMORY;
-        flow->anew.from++;
+        if (lugcurrant_number_at(message, 1) == flow->anew.from + 1) /* what comes unasked is of later ones */
+            flow->anew.from++;
     } else {
         flow->anew.from = lugcurrant_number_at(message, 1);
         flow->anew.done = done_of(message);
@@ -329,8 +324,7 @@ static uint32_t make_one_again(struct anew *anew, lugcurrant_span change)
         return LUGCURRANT_DONE;
     if (fate == UNSURE)
         return note_edit(&remaking->unsure, change, LUGCURRANT_DONE);
-    bool drops = anew->drop != 0 && remaking->next == 0;
-    uint32_t code = drops ? anew->drop : lugcurrant_remake(&anew->fresh, change, &remaking->ids);
+    uint32_t code = lugcurrant_remake(&anew->fresh, change, &remaking->ids);
     if (code == LUGCURRANT_MEMORY)
         return code;
     if (code != LUGCURRANT_DONE)
@@ -367,8 +361,210 @@ void lugcurrant_become_fresh(lugcurrant_flow *flow)
     flow->tried = 0;
     flow->saved = 0;
     flow->sent = 0;
+    flow->emptied = 0;
     flow->is_full = false;
     flow->is_caught_up = true;
+    lugcurrant_set_state(flow, LUGCURRANT_STATE_ONLINE, "");
+    lugcurrant_push_event(flow, LUGCURRANT_FLOW_CAUGHT_UP);
+}
+
+/* ---- an edit that the server can't take ---- */
+
+void lugcurrant_begin_replacing(lugcurrant_flow *flow, double now)
+{
+    uint32_t state = flow->dropping == LUGCURRANT_NO_TOO_LARGE ? LUGCURRANT_STATE_TOO_LARGE : LUGCURRANT_STATE_UNREADABLE;
+    lugcurrant_set_state(flow, state, lugcurrant_fault_sentence(flow->dropping)); /* the connection may be another one than that of the No */
+    lugcurrant_void_all(flow);
+    flow->anew.step = JOIN_ANEW;
+    flow->anew.replaces = true;
+    lugcurrant_leave(flow);
+    flow->ask_at = now;
+}
+
+uint32_t lugcurrant_load_observer(lugcurrant_flow *flow)
+{
+    static const char text[] = "[\"client\",[4294967295,0,0,0],[],[[[0,0],\"document\",null,[]]]]"; /* no server gives this id */
+    if (!flow->anew.replaces || lugcurrant_id(&flow->anew.fresh) != 0)
+        return LUGCURRANT_DONE;
+    return lugcurrant_load(&flow->anew.fresh, (const uint8_t *)text, sizeof text - 1);
+}
+
+void lugcurrant_count_own(lugcurrant_flow *flow, uint8_t letter, lugcurrant_span message)
+{
+    struct entry entry;
+    if (letter == COPY)
+        flow->anew.done = done_of(message);
+    else if (lugcurrant_read_entry(message, &entry) && entry.author == lugcurrant_id(flow->client))
+        flow->anew.done = entry.number;
+}
+
+/* A text that grows. */
+static bool append(lugcurrant_list *text, const void *bytes, size_t length)
+{
+    if (!lugcurrant_list_reserve(text, length))
+        return false;
+    memcpy(text->items + text->first + text->count, bytes, length);
+    text->count += length;
+    return true;
+}
+
+static bool append_word(lugcurrant_list *text, const char *word)
+{
+    return append(text, word, strlen(word));
+}
+
+static bool append_number(lugcurrant_list *text, uint64_t number, char end)
+{
+    char digits[32];
+    int length = snprintf(digits, sizeof digits, "%" PRIu64 "%c", number, end);
+    return append(text, digits, (size_t)length);
+}
+
+/* Checks whether the word is in the text. */
+static bool has_word(const lugcurrant_list *text, const char *word)
+{
+    size_t length = strlen(word);
+    const unsigned char *at = text->items, *end = at + text->count;
+    while ((size_t)(end - at) >= length && (at = memchr(at, word[0], (size_t)(end - at) - length + 1)) != NULL) {
+        if (memcmp(at, word, length) == 0)
+            return true;
+        at++;
+    }
+    return false;
+}
+
+/* Writes what the observer shows as a copy for the client. DONE, MEMORY. */
+static uint32_t write_copy(lugcurrant_flow *flow, lugcurrant_list *copy)
+{
+    size_t length;
+    uint32_t result = lugcurrant_save(&flow->anew.fresh);
+    if (result == LUGCURRANT_DONE)
+        result = lugcurrant_take_left(flow, &flow->anew.fresh, &length);
+    if (result != LUGCURRANT_DONE)
+        return result;
+    lugcurrant_span saved = {flow->message, length}, rows = saved;
+    lugcurrant_json_member(saved, 3, &rows);
+    bool is_written = append_word(copy, "[\"copy\",") && append_number(copy, lugcurrant_version(&flow->anew.fresh), ',') &&
+                      append_number(copy, lugcurrant_acknowledged(flow->client), ',') && append(copy, rows.at, rows.length) &&
+                      append_word(copy, "]");
+    return is_written ? LUGCURRANT_DONE : LUGCURRANT_MEMORY;
+}
+
+/* Writes the numbers of the client that is loaded, and the first edit: it clears a property that no object of the copy has. DONE, MEMORY. */
+static uint32_t write_first(lugcurrant_flow *flow, const lugcurrant_list *copy, lugcurrant_list *text)
+{
+    char name[] = "[\"________________________________\","; /* at most 32 bytes of it */
+    size_t length, shown = 3;
+    uint32_t result = lugcurrant_save(flow->client);
+    if (result == LUGCURRANT_DONE)
+        result = lugcurrant_take_left(flow, flow->client, &length);
+    if (result != LUGCURRANT_DONE)
+        return result;
+    lugcurrant_span saved = {flow->message, length}, numbers = saved;
+    lugcurrant_json_member(saved, 1, &numbers);
+    do {
+        shown++;
+        memcpy(name + shown - 1, "\",", 3);
+    } while (has_word(copy, name) && shown < 34 && memcpy(name + shown - 1, "__", 2) != NULL);
+    name[shown] = 0;
+    bool is_written = append_word(text, "[\"client\",[") && append_number(text, lugcurrant_number_at(numbers, 0), ',') &&
+                      append_number(text, lugcurrant_number_at(numbers, 1), ',') &&
+                      append_number(text, lugcurrant_version(&flow->anew.fresh) - 1, ',') &&
+                      append_number(text, lugcurrant_acknowledged(flow->client), ']') && append_word(text, ",[[\"clear\",[0,0],") &&
+                      append_word(text, name + 1) && append_word(text, "]");
+    return is_written ? LUGCURRANT_DONE : LUGCURRANT_MEMORY;
+}
+
+/* Writes the client that is loaded: its edits are the client's but for the first, and it has no document yet. DONE, MEMORY. */
+static uint32_t write_emptied(lugcurrant_flow *flow, const lugcurrant_list *copy, lugcurrant_list *text)
+{
+    lugcurrant_span change;
+    uint32_t result = write_first(flow, copy, text);
+    for (uint64_t i = 1; result == LUGCURRANT_DONE && (result = read_change(flow, i, &change)) == LUGCURRANT_DONE; i++)
+        if (!append_word(text, ",") || !append(text, change.at, change.length))
+            return LUGCURRANT_MEMORY;
+    if (result != LUGCURRANT_NONE)
+        return result;
+    return append_word(text, "],[[[0,0],\"document\",null,[]]]]") ? LUGCURRANT_DONE : LUGCURRANT_MEMORY;
+}
+
+/* The core has no call that replaces an edit, but it loads a client without a document, and that one receives the document as a copy. DONE,
+ * MEMORY. */
+static uint32_t load_emptied(lugcurrant_flow *flow, const lugcurrant_list *copy, const lugcurrant_list *text)
+{
+    lugcurrant_client *emptied = &flow->anew.emptied;
+    lugcurrant_span change;
+    uint32_t result = lugcurrant_load(emptied, text->items, text->count);
+    if (result == LUGCURRANT_DONE)
+        result = lugcurrant_receive(emptied, copy->items, copy->count) == LUGCURRANT_TOOK ? LUGCURRANT_DONE : LUGCURRANT_MEMORY;
+    if (result == LUGCURRANT_DONE)
+        result = read_change(flow, 0, &change);
+    if (result == LUGCURRANT_DONE)
+        result = note_edit(&flow->anew.remaking.lost, change, flow->dropping);
+    if (result == LUGCURRANT_DONE)
+        return result;
+    lugcurrant_free(emptied);
+    return LUGCURRANT_MEMORY;
+}
+
+/* Checks whether the observer has heard of just the edits of the client that the client has heard of. */
+static bool is_same_history(lugcurrant_flow *flow)
+{
+    return flow->anew.done == lugcurrant_acknowledged(flow->client) && lugcurrant_version(&flow->anew.fresh) > 0 &&
+           lugcurrant_version(&flow->anew.fresh) >= lugcurrant_version(flow->client);
+}
+
+uint32_t lugcurrant_make_emptied(lugcurrant_flow *flow)
+{
+    lugcurrant_list copy = {.size = 1}, text = {.size = 1};
+    if (!is_same_history(flow))
+        return LUGCURRANT_DONE;
+    uint32_t result = write_copy(flow, &copy);
+    if (result == LUGCURRANT_DONE)
+        result = write_emptied(flow, &copy, &text);
+    if (result == LUGCURRANT_DONE)
+        result = load_emptied(flow, &copy, &text);
+    lugcurrant_list_free(&copy);
+    lugcurrant_list_free(&text);
+    return result;
+}
+
+/* Tells of the edit that is replaced. It is in the list of those that are lost. */
+static void tell_replaced(lugcurrant_flow *flow, struct remaking *remaking)
+{
+    const lugcurrant_flow_edit *edit = lugcurrant_list_at(&remaking->lost, 0);
+    lugcurrant_span change = {(const uint8_t *)edit->change, edit->length}, word = change, id = change;
+    struct queued *queued = lugcurrant_push_event(flow, LUGCURRANT_FLOW_REFUSED);
+    lugcurrant_flow_event *event = &queued->event;
+    lugcurrant_json_member(change, 0, &word);
+    lugcurrant_json_member(change, 1, &id);
+    lugcurrant_json_id(id, &event->id);
+    event->version = lugcurrant_version(flow->client);
+    event->number = flow->emptied;
+    event->edit = lugcurrant_edit_word(word);
+    event->reason = edit->code;
+    queued->remaking = *remaking;
+}
+
+void lugcurrant_become_emptied(lugcurrant_flow *flow)
+{
+    uint64_t known = lugcurrant_acknowledged(flow->client);
+    if (!is_same_history(flow)) {
+        bool is_replaced = flow->anew.done > known;
+        lugcurrant_forget_anew(flow);
+        lugcurrant_begin_anew(flow, is_replaced ? LUGCURRANT_STATE_REPLACED : LUGCURRANT_STATE_STRANGER, true, 0);
+        return;
+    }
+    lugcurrant_free(flow->client);
+    *flow->client = flow->anew.emptied;
+    memset(&flow->anew.emptied, 0, sizeof flow->anew.emptied);
+    flow->dropping = 0;
+    flow->emptied = known + 1;
+    if (flow->limit != ENDLESS)
+        flow->limit = known; /* the client is to be kept before the edit is sent */
+    tell_replaced(flow, &flow->anew.remaking);
+    memset(&flow->anew.remaking, 0, sizeof flow->anew.remaking);
+    lugcurrant_forget_anew(flow);
     lugcurrant_set_state(flow, LUGCURRANT_STATE_ONLINE, "");
     lugcurrant_push_event(flow, LUGCURRANT_FLOW_CAUGHT_UP);
 }

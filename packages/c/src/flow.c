@@ -42,6 +42,7 @@ static void clear_remaking(struct remaking *remaking)
 void lugcurrant_forget_fresh(struct anew *anew)
 {
     lugcurrant_free(&anew->fresh);
+    lugcurrant_free(&anew->emptied);
     clear_remaking(&anew->remaking);
 }
 
@@ -137,11 +138,15 @@ static void reset(lugcurrant_flow *flow)
     flow->lately = 0;
     flow->missing = 0;
     flow->is_full = false;
+    flow->is_live = false;
+    flow->told_id = 0;
+    flow->live_at = 0;
+    flow->is_older = false;
 }
 
 static void set_options(lugcurrant_flow *flow, const lugcurrant_flow_options *given)
 {
-    static const lugcurrant_flow_options defaults = {64, 262144, 4, 32, 5, 400};
+    static const lugcurrant_flow_options defaults = {64, 262144, 4, 32, 5, 400, 20000};
     lugcurrant_flow_options *options = &flow->options;
     *options = given != NULL ? *given : defaults;
     if (options->window == 0)
@@ -156,6 +161,8 @@ static void set_options(lugcurrant_flow *flow, const lugcurrant_flow_options *gi
         options->least_pause = defaults.least_pause;
     if (options->most_pause == 0)
         options->most_pause = defaults.most_pause;
+    if (options->beat == 0)
+        options->beat = defaults.beat;
 }
 
 lugcurrant_flow *lugcurrant_flow_new(lugcurrant_client *client, const lugcurrant_flow_options *options)
@@ -208,10 +215,30 @@ void lugcurrant_flow_lost(lugcurrant_flow *flow)
 
 void lugcurrant_flow_wake(lugcurrant_flow *flow, double now)
 {
-    if (!flow->is_open)
+    if (!flow->is_open || lugcurrant_is_told(flow))
         return;
     flow->ask_at = lugcurrant_least_of(flow->ask_at, now);
     flow->pause = flow->options.least_pause;
+}
+
+void lugcurrant_leave(lugcurrant_flow *flow)
+{
+    flow->missing = 0;
+    flow->top = 0;
+    flow->width = 1;
+    flow->is_live = false;
+    if (!flow->is_older)
+        flow->live_at = 0;
+}
+
+bool lugcurrant_is_told(const lugcurrant_flow *flow)
+{
+    return flow->anew.step == NOT_ANEW && (flow->is_live || (flow->live_at == NEVER && !flow->is_older));
+}
+
+bool lugcurrant_is_missing(const lugcurrant_flow *flow)
+{
+    return flow->judged > lugcurrant_acknowledged(flow->client);
 }
 
 uint32_t lugcurrant_flow_state(const lugcurrant_flow *flow)
@@ -228,7 +255,7 @@ uint64_t lugcurrant_flow_unsent(const lugcurrant_flow *flow)
 
 bool lugcurrant_flow_is_settled(const lugcurrant_flow *flow)
 {
-    return flow->is_caught_up && flow->anew.step == NOT_ANEW && lugcurrant_waiting(flow->client) == 0;
+    return flow->is_caught_up && flow->anew.step == NOT_ANEW && lugcurrant_waiting(flow->client) == 0 && flow->edits == 0;
 }
 
 size_t lugcurrant_flow_unanswered(const lugcurrant_flow *flow)

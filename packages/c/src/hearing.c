@@ -7,6 +7,7 @@ enum {
 };
 
 static const double PROVEN_AFTER = 2000; /* milliseconds for which they must miss it */
+static const double MISSED_AFTER = 700;  /* milliseconds after which a live connection is asked for an edit that was answered and hasn't come */
 static const double MOST_WAIT = 10000;   /* milliseconds before what a server couldn't keep is sent again, at most */
 
 static void set_fault(lugcurrant_flow *flow, const char *words)
@@ -33,6 +34,17 @@ static void count_out(lugcurrant_flow *flow, const struct sent *end)
     } else if (end->is_counted) {
         flow->asking--;
     }
+}
+
+/* On a live connection the next ask is far off, whenever a message comes; but if an edit was answered and its entry doesn't come, it is asked
+ * for. `is_nearer`: what has come are entries up to another number. */
+static void rest(lugcurrant_flow *flow, bool is_nearer, double now)
+{
+    bool is_missing = lugcurrant_is_missing(flow);
+    if (!lugcurrant_is_told(flow))
+        return;
+    double at = now + (is_missing ? MISSED_AFTER : flow->options.beat);
+    flow->ask_at = is_missing && !is_nearer ? lugcurrant_least_of(flow->ask_at, at) : at;
 }
 
 void lugcurrant_hold(lugcurrant_flow *flow, double now)
@@ -88,7 +100,7 @@ static void hear_another(lugcurrant_flow *flow, uint8_t letter, lugcurrant_span 
         lugcurrant_begin_anew(flow, LUGCURRANT_STATE_STRANGER, true, 0);
 }
 
-static const char *edit_word(lugcurrant_span word)
+const char *lugcurrant_edit_word(lugcurrant_span word)
 {
     static const char *const words[] = {"create", "set", "clear", "move", "delete"};
     for (size_t k = 0; k < sizeof words / sizeof *words; k++)
@@ -114,31 +126,52 @@ static void note_refusal(lugcurrant_flow *flow, lugcurrant_span message)
     lugcurrant_flow_event *event = &lugcurrant_push_event(flow, LUGCURRANT_FLOW_REFUSED)->event;
     event->version = version;
     event->number = entry.number;
-    event->edit = edit_word(word);
+    event->edit = lugcurrant_edit_word(word);
     event->reason = (uint32_t)reason;
     lugcurrant_json_id(id, &event->id);
 }
 
-/* An entry or a copy: a part of the answer to the first message under way. */
-static void hear_part(lugcurrant_flow *flow, struct sent *head, uint8_t letter, lugcurrant_span message, uint32_t heard)
+/* What came unasked leaves something out, as no server does that keeps the protocol. It is asked for, and then `live` is sent once more. */
+static void hear_gap(lugcurrant_flow *flow, double now)
 {
-    bool is_own = flow->anew.step == NOT_ANEW;
+    if (!flow->is_live)
+        return;
+    flow->is_live = false;
+    flow->is_caught_up = false;
+    flow->live_at = now;
+    flow->ask_at = now;
+}
+
+/* Counts a part of the answer to the first message under way. */
+static void count_part(struct sent *head, uint8_t letter, uint32_t heard)
+{
     head->entries++;
-    if (letter == COPY)
-        head->is_copy = true;
-    if (letter == COPY && heard == LUGCURRANT_TOOK && !is_own)
-        flow->anew.looks = flow->anew.scans; /* the copy has hidden what came since the look */
+    head->is_copy |= letter == COPY;
+    head->took |= heard == LUGCURRANT_TOOK;
+    head->is_ahead |= heard == LUGCURRANT_AHEAD;
+}
+
+/* What an entry or a copy is to the client itself. */
+static void hear_own_part(lugcurrant_flow *flow, uint8_t letter, lugcurrant_span message, uint32_t heard)
+{
     if (heard == LUGCURRANT_TOOK) {
-        head->took = true;
-        if (is_own)
-            lugcurrant_push_event(flow, LUGCURRANT_FLOW_TOOK);
-        if (is_own && letter == ENTRY)
+        lugcurrant_push_event(flow, LUGCURRANT_FLOW_TOOK);
+        if (letter == ENTRY)
             note_refusal(flow, message);
-    } else if (heard == LUGCURRANT_AHEAD) {
-        head->is_ahead = true;
-    } else if (heard == LUGCURRANT_NOT_FOR_ME && is_own) {
+    } else if (heard == LUGCURRANT_NOT_FOR_ME) {
         hear_another(flow, letter, message);
     }
+}
+
+/* What it is to the one that hears in its place. */
+static void hear_part_anew(lugcurrant_flow *flow, uint8_t letter, lugcurrant_span message, uint32_t heard)
+{
+    if (heard != LUGCURRANT_TOOK)
+        return;
+    if (flow->anew.replaces)
+        lugcurrant_count_own(flow, letter, message);
+    else if (letter == COPY)
+        flow->anew.looks = flow->anew.scans; /* the copy has hidden what came since the look */
 }
 
 /* ---- the end of an answer ---- */
@@ -166,13 +199,20 @@ static void catch_up(lugcurrant_flow *flow, uint64_t last_judged, double now)
         return;
     }
     if (flow->anew.step != NOT_ANEW) {
-        lugcurrant_become_fresh(flow);
+        if (flow->anew.replaces)
+            lugcurrant_become_emptied(flow);
+        else
+            lugcurrant_become_fresh(flow);
         return;
     }
     flow->is_caught_up = true;
     look_for_missing(flow, last_judged, now);
-    if (flow->dropping != 0 && lugcurrant_acknowledged(flow->client) + 1 >= flow->dropped)
-        lugcurrant_begin_anew_without(flow);
+    if (flow->dropping != 0 && lugcurrant_acknowledged(flow->client) >= flow->dropped) {
+        flow->dropping = 0; /* it was judged before the No */
+        set_online(flow);
+    } else if (flow->dropping != 0 && lugcurrant_acknowledged(flow->client) + 1 >= flow->dropped) {
+        lugcurrant_begin_replacing(flow, now);
+    }
     lugcurrant_push_event(flow, LUGCURRANT_FLOW_CAUGHT_UP);
 }
 
@@ -219,8 +259,17 @@ static void hear_ask_answered(lugcurrant_flow *flow, const struct sent *ask, dou
         flow->width = flow->useful < MOST_AHEAD ? flow->useful : MOST_AHEAD;
     uncount_asks_ahead(flow);
     set_pause(flow, ask, now);
-    if (!ask->is_copy && !ask->is_ahead)
-        catch_up(flow, ask->last_judged, now);
+    if (ask->is_copy || ask->is_ahead)
+        return;
+    rest(flow, true, now);
+    catch_up(flow, ask->last_judged, now);
+}
+
+static void hear_live_answered(lugcurrant_flow *flow, const struct sent *live, double now)
+{
+    flow->told_id = live->id;
+    flow->is_live = live->id == lugcurrant_id(flow->client);
+    rest(flow, true, now);
 }
 
 /* The end of an answer, which isn't a No. */
@@ -234,6 +283,9 @@ static void hear_end(lugcurrant_flow *flow, const struct sent *end, double now)
             flow->judged = end->number;
         flow->hold_for = FIRST_WAIT;
         set_online(flow);
+        rest(flow, false, now);
+    } else if (end->what == GO_LIVE) {
+        hear_live_answered(flow, end, now);
     } else {
         lugcurrant_push_event(flow, LUGCURRANT_FLOW_TOOK);
         set_online(flow);
@@ -272,9 +324,12 @@ static void hear_no_to_edit(lugcurrant_flow *flow, const struct sent *edit, uint
         return;
     }
     lugcurrant_set_state(flow, state_of_no(no), lugcurrant_fault_sentence(no));
+    bool is_untaken = no == LUGCURRANT_NO_TOO_LARGE || no == LUGCURRANT_NO_UNREADABLE;
     if (no == LUGCURRANT_NO_FULL) {
         flow->is_full = true;
-    } else if (no == LUGCURRANT_NO_TOO_LARGE || no == LUGCURRANT_NO_UNREADABLE) {
+    } else if (is_untaken && edit->number == flow->emptied) {
+        set_fault(flow, lugcurrant_fault_sentence(no)); /* it takes no edit at all */
+    } else if (is_untaken) {
         flow->dropping = no;
         flow->dropped = edit->number;
         flow->ask_at = now;
@@ -286,6 +341,8 @@ static void hear_no_to_edit(lugcurrant_flow *flow, const struct sent *edit, uint
 /* The server doesn't know the id. If this begins anew it is the new one, which joins once more. */
 static void hear_no_stranger(lugcurrant_flow *flow)
 {
+    if (flow->anew.replaces)
+        lugcurrant_forget_anew(flow);
     if (flow->anew.step == NOT_ANEW) {
         lugcurrant_begin_anew(flow, LUGCURRANT_STATE_STRANGER, false, 0);
         return;
@@ -303,10 +360,27 @@ static void hear_no_to_ask(lugcurrant_flow *flow, uint32_t no, double now)
         lugcurrant_set_state(flow, LUGCURRANT_STATE_NO_MEMORY, lugcurrant_fault_sentence(no));
 }
 
+/* The server has another history, in which the id may have edits; no memory for now; or no such word. */
+static void hear_no_to_live(lugcurrant_flow *flow, uint32_t no, double now)
+{
+    if (no == LUGCURRANT_NO_STRANGER) {
+        lugcurrant_begin_anew(flow, LUGCURRANT_STATE_STRANGER, true, 0);
+        return;
+    }
+    if (no == LUGCURRANT_NO_NO_MEMORY)
+        flow->live_at = now + 1000;
+    else
+        flow->is_older = true;
+    flow->ask_at = now;
+    flow->pause = flow->options.least_pause;
+}
+
 static void hear_no(lugcurrant_flow *flow, const struct sent *end, uint32_t no, double now)
 {
     count_out(flow, end);
-    if (no == LUGCURRANT_NO_STRANGER) {
+    if (end->what == GO_LIVE) {
+        hear_no_to_live(flow, no, now);
+    } else if (no == LUGCURRANT_NO_STRANGER) {
         hear_no_stranger(flow);
     } else if (end->what == EDIT) {
         hear_no_to_edit(flow, end, no, now);
@@ -320,6 +394,18 @@ static void hear_no(lugcurrant_flow *flow, const struct sent *end, uint32_t no, 
 
 /* ---- a message ---- */
 
+/* What is told unasked from now on, or that nothing is. */
+static void pass_by_live(lugcurrant_flow *flow, const struct sent *live, uint8_t letter, lugcurrant_span message)
+{
+    uint64_t no = letter == IDLE ? 0 : lugcurrant_no_of(message);
+    if (letter == IDLE) {
+        flow->told_id = live->id;
+    } else if (no != LUGCURRANT_NO_STRANGER && no != LUGCURRANT_NO_NO_MEMORY) {
+        flow->is_older = true;
+        flow->live_at = NEVER;
+    }
+}
+
 /* An answer that is of no use any more, or one that is looked through for edits of this id. DONE, MEMORY. */
 static uint32_t pass_by(lugcurrant_flow *flow, struct sent *head, uint8_t letter, lugcurrant_span message, double now)
 {
@@ -329,6 +415,8 @@ static uint32_t pass_by(lugcurrant_flow *flow, struct sent *head, uint8_t letter
     struct sent end = *head;
     lugcurrant_list_shift(&flow->fifo);
     count_out(flow, &end);
+    if (end.what == GO_LIVE)
+        pass_by_live(flow, &end, letter, message);
     if (end.what == EDIT && letter == IDLE && end.number > flow->judged)
         flow->judged = end.number;
     if (end.what == EDIT && letter != IDLE && !is_unjudged(lugcurrant_no_of(message)))
@@ -345,33 +433,93 @@ static bool ends_anew(const lugcurrant_flow *flow, const struct sent *head, uint
            head->entries < MOST_ENTRIES && !head->is_copy && !head->is_ahead;
 }
 
-/* A message of the answer to `head`, the first message under way. DONE, MEMORY. */
-static uint32_t hear_answer(lugcurrant_flow *flow, struct sent *head, uint8_t letter, lugcurrant_span message, double now)
+/* Makes a copy of which no edit is the observer's own, as to it none is. DONE, MEMORY. */
+static uint32_t make_seen_by_no_one(lugcurrant_flow *flow, lugcurrant_span *copy)
+{
+    lugcurrant_span done;
+    if (!lugcurrant_json_member(*copy, 2, &done))
+        return LUGCURRANT_DONE;
+    if (!lugcurrant_reserve_message(flow, copy->length + 1))
+        return LUGCURRANT_MEMORY;
+    size_t before = (size_t)(done.at - copy->at), after = before + done.length;
+    memcpy(flow->message, copy->at, before);
+    flow->message[before] = '0';
+    memcpy(flow->message + before + 1, copy->at + after, copy->length - after);
+    copy->at = flow->message;
+    copy->length = copy->length - done.length + 1;
+    return LUGCURRANT_DONE;
+}
+
+/* Gives an entry or a copy to who hears in place of the client. DONE, MEMORY. */
+static uint32_t receive_anew(lugcurrant_flow *flow, uint8_t letter, lugcurrant_span message, uint32_t *heard)
+{
+    bool replaces = flow->anew.replaces;
+    if (!replaces && letter == ENTRY && lugcurrant_look_at_entry(flow, message) != LUGCURRANT_DONE)
+        return LUGCURRANT_MEMORY;
+    if (replaces && letter == COPY && make_seen_by_no_one(flow, &message) != LUGCURRANT_DONE)
+        return LUGCURRANT_MEMORY;
+    *heard = lugcurrant_receive(&flow->anew.fresh, message.at, message.length);
+    return LUGCURRANT_DONE;
+}
+
+/* Gives a message to the client that hears. A fault of the message is told. DONE, MEMORY, or NONE after a fault. */
+static uint32_t receive(lugcurrant_flow *flow, uint8_t letter, lugcurrant_span message, uint32_t *heard)
+{
+    if (flow->anew.step == NOT_ANEW)
+        *heard = lugcurrant_receive_and_tell(flow->client, message.at, message.length);
+    else if (receive_anew(flow, letter, message, heard) != LUGCURRANT_DONE)
+        return LUGCURRANT_MEMORY;
+    if (*heard == LUGCURRANT_MEMORY)
+        return LUGCURRANT_MEMORY;
+    if (*heard >= LUGCURRANT_TOOK)
+        return LUGCURRANT_DONE;
+    set_fault(flow, lugcurrant_fault_sentence(*heard));
+    return LUGCURRANT_NONE;
+}
+
+/* An entry or a copy: of the answer to `head`, or unasked if that is null. DONE, MEMORY. */
+static uint32_t hear_part(lugcurrant_flow *flow, struct sent *head, uint8_t letter, lugcurrant_span message, double now)
 {
     bool is_own = flow->anew.step == NOT_ANEW, is_twin = false;
+    uint64_t known = lugcurrant_acknowledged(flow->client);
+    uint32_t heard;
+    if (is_own && letter == COPY && flow->told_id != 0 && flow->told_id != lugcurrant_id(flow->client)) {
+        /* What comes unasked is for the id that was given up: the copy counts that one's edits. All is told again from the next `live` on. */
+        if (head != NULL)
+            head->is_ahead = true;
+        return LUGCURRANT_DONE;
+    }
     if (is_own && letter == COPY && lugcurrant_check_twin(flow, message, &is_twin) != LUGCURRANT_DONE)
         return LUGCURRANT_MEMORY;
     if (is_twin) {
         lugcurrant_begin_anew(flow, LUGCURRANT_STATE_REPLACED, true, lugcurrant_version(flow->client));
         return LUGCURRANT_DONE;
     }
-    if (!is_own && letter == ENTRY && lugcurrant_look_at_entry(flow, message) != LUGCURRANT_DONE)
-        return LUGCURRANT_MEMORY;
-    uint32_t heard = is_own ? lugcurrant_receive_and_tell(flow->client, message.at, message.length)
-                            : lugcurrant_receive(&flow->anew.fresh, message.at, message.length);
-    if (heard == LUGCURRANT_MEMORY)
-        return heard;
-    if (heard < LUGCURRANT_TOOK) {
-        set_fault(flow, lugcurrant_fault_sentence(heard));
-        return LUGCURRANT_DONE;
-    }
-    if (letter == ENTRY || letter == COPY) {
-        hear_part(flow, head, letter, message, heard);
-        return LUGCURRANT_DONE;
-    }
+    uint32_t result = receive(flow, letter, message, &heard);
+    if (result != LUGCURRANT_DONE)
+        return result == LUGCURRANT_NONE ? LUGCURRANT_DONE : result;
+    if (head != NULL)
+        count_part(head, letter, heard);
+    else if (heard == LUGCURRANT_AHEAD)
+        hear_gap(flow, now);
+    if (is_own)
+        hear_own_part(flow, letter, message, heard);
+    else
+        hear_part_anew(flow, letter, message, heard);
+    rest(flow, lugcurrant_acknowledged(flow->client) != known, now);
+    return LUGCURRANT_DONE;
+}
+
+/* The end of the answer to `head`, the first message under way. DONE, MEMORY. */
+static uint32_t hear_answer(lugcurrant_flow *flow, struct sent *head, uint8_t letter, lugcurrant_span message, double now)
+{
+    uint32_t heard, result = receive(flow, letter, message, &heard);
+    if (result != LUGCURRANT_DONE)
+        return result == LUGCURRANT_NONE ? LUGCURRANT_DONE : result;
     if (head->from > lugcurrant_version(lugcurrant_hearer_of(flow)))
         head->is_ahead = true; /* an ask, and the one before it was answered by a No */
-    if (ends_anew(flow, head, heard) && lugcurrant_make_again(flow) != LUGCURRANT_DONE)
+    if (ends_anew(flow, head, heard) &&
+        (flow->anew.replaces ? lugcurrant_make_emptied(flow) : lugcurrant_make_again(flow)) != LUGCURRANT_DONE)
         return LUGCURRANT_MEMORY;
     struct sent end = *head;
     lugcurrant_list_shift(&flow->fifo);
@@ -382,18 +530,29 @@ static uint32_t hear_answer(lugcurrant_flow *flow, struct sent *head, uint8_t le
     return LUGCURRANT_DONE;
 }
 
-uint32_t lugcurrant_flow_hear(lugcurrant_flow *flow, const uint8_t *bytes, size_t length, double now)
+static uint32_t hear(lugcurrant_flow *flow, uint8_t letter, lugcurrant_span message, double now)
 {
-    lugcurrant_span message = {bytes, length};
-    uint8_t letter = length > 2 ? bytes[2] : 0;
-    if (!lugcurrant_list_reserve(&flow->events, MOST_EVENTS))
-        return LUGCURRANT_MEMORY;
-    if (flow->fifo.count == 0) {
+    bool is_part = letter == ENTRY || letter == COPY;
+    struct sent *head = flow->fifo.count > 0 ? lugcurrant_list_at(&flow->fifo, 0) : NULL;
+    if (is_part && flow->told_id != 0 && (head == NULL || head->what != ASK)) /* unasked. Who begins anew asks for all by itself */
+        return flow->anew.step == NOT_ANEW ? hear_part(flow, NULL, letter, message, now) : LUGCURRANT_DONE;
+    if (head == NULL) {
         set_fault(flow, "an answer came that nobody has asked for");
         return LUGCURRANT_DONE;
     }
-    struct sent *head = lugcurrant_list_at(&flow->fifo, 0);
     if (flow->anew.step == SCAN || head->is_void)
         return pass_by(flow, head, letter, message, now);
-    return hear_answer(flow, head, letter, message, now);
+    return is_part ? hear_part(flow, head, letter, message, now) : hear_answer(flow, head, letter, message, now);
+}
+
+uint32_t lugcurrant_flow_hear(lugcurrant_flow *flow, const uint8_t *bytes, size_t length, double now)
+{
+    lugcurrant_span message = {bytes, length};
+    bool was_settled = lugcurrant_flow_is_settled(flow);
+    if (!lugcurrant_list_reserve(&flow->events, MOST_EVENTS))
+        return LUGCURRANT_MEMORY;
+    uint32_t result = hear(flow, length > 2 ? bytes[2] : 0, message, now);
+    if (result == LUGCURRANT_DONE && flow->is_live && !was_settled && lugcurrant_flow_is_settled(flow))
+        lugcurrant_push_event(flow, LUGCURRANT_FLOW_CAUGHT_UP);
+    return result;
 }

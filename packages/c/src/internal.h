@@ -121,7 +121,10 @@ static const double FIRST_WAIT = 1000; /* milliseconds before what a server coul
 
 enum { ENTRY = 'e', COPY = 'c', IDLE = 'i' }; /* the third byte of ["entry", ["copy", ["idle" */
 
-enum what { JOIN, EDIT, ASK };
+/* A time that never comes. */
+#define NEVER 1e300
+
+enum what { JOIN, EDIT, ASK, GO_LIVE };
 
 /* A message that was given to send, and what has come of its answer. */
 struct sent {
@@ -129,6 +132,7 @@ struct sent {
     size_t size;          /* of an edit: its bytes */
     uint64_t number;      /* of an edit */
     bool is_first;        /* an edit that was the first to wait */
+    uint32_t id;          /* of GO_LIVE: the client's */
     uint64_t from;        /* of an ask: the version after which it asks */
     double at;            /* when it was given */
     uint64_t last_judged; /* the flow's `judged` then */
@@ -155,23 +159,24 @@ struct remaking {
     lugcurrant_list fates;  /* unsigned char, an enum fate: of the edits that wait, in order */
     uint64_t next;          /* edits that are done with */
     uint64_t made;          /* those of them that were made again */
-    lugcurrant_list lost;   /* lugcurrant_flow_edit: those that could not be */
+    lugcurrant_list lost;   /* lugcurrant_flow_edit: those that could not be, or the one that is replaced */
     lugcurrant_list unsure; /* lugcurrant_flow_edit: those that may have been judged, or not */
     lugcurrant_list ids;    /* lugcurrant_flow_new_id */
 };
 
-/* A client that begins anew: why, and how far it is. */
+/* A client that begins anew, or hears the document again: why, and how far it is. */
 struct anew {
     enum step step;
     uint32_t state;
-    uint32_t drop;            /* why the first edit is taken out, or 0 */
+    bool replaces;            /* the fresh client is an observer: it hears the document again, for an edit that is replaced */
     bool scans;               /* the log is looked through for edits of this id */
     bool looks;               /* that is still to be done, or again */
     uint64_t from;            /* the version up to which it is done */
     bool is_asking;           /* the next part of it is under way */
-    uint64_t done;            /* edits of this id that a copy says to be judged */
+    uint64_t done;            /* edits of this id that a copy says to be judged, or of which an observer has heard */
     lugcurrant_list found;    /* struct found, by their numbers */
-    lugcurrant_client fresh;  /* what the client becomes, once it has heard what there is */
+    lugcurrant_client fresh;  /* what the client becomes, once it has heard what there is; or the observer */
+    lugcurrant_client emptied; /* what the client becomes once the observer has heard what there is */
     struct remaking remaking;
 };
 
@@ -190,8 +195,9 @@ struct lugcurrant_flow {
     uint64_t saved;         /* the number of the last edit in a save of the client */
     uint32_t state;
     const char *words;
-    uint32_t dropping;      /* why an edit must be taken out, or 0 */
+    uint32_t dropping;      /* why an edit must be replaced, or 0 */
     uint64_t dropped;       /* the number of that edit */
+    uint64_t emptied;       /* the number of the last one that was replaced */
     struct anew anew;
     lugcurrant_list events; /* struct queued */
     struct remaking told;   /* the lists of the event that was taken last */
@@ -220,6 +226,10 @@ struct lugcurrant_flow {
     uint32_t missing;       /* answers that missed an edit that was answered, and since when */
     double missing_since;
     bool is_full;           /* the server takes no more edits */
+    bool is_live;           /* what is published comes unasked */
+    uint32_t told_id;       /* the id for which it does, or 0: another one than the client's until the next `live` is answered */
+    double live_at;         /* when `live` may be sent; NEVER while one is under way, or if the server has no such word */
+    bool is_older;          /* it has none */
 };
 
 /* The members of ["entry",VERSION,[AUTHOR,NUMBER,WHAT,OUTCOME]] up to WHAT. */
@@ -257,7 +267,19 @@ void lugcurrant_set_state(lugcurrant_flow *flow, uint32_t state, const char *wor
 /* The server may have judged this edit, though it hasn't said so. */
 void lugcurrant_may_be_judged(lugcurrant_flow *flow, uint64_t number);
 
+/* Another client hears now. What is told unasked isn't for that one. */
+void lugcurrant_leave(lugcurrant_flow *flow);
+
+/* Checks whether what is published comes unasked, or will once `live` is answered. */
+bool lugcurrant_is_told(const lugcurrant_flow *flow);
+
+/* Checks whether an edit was answered whose entry hasn't come. */
+bool lugcurrant_is_missing(const lugcurrant_flow *flow);
+
 /* ---- outgoing.c ---- */
+
+/* Makes room for so many bytes in `message`. Returns false if out of memory. */
+bool lugcurrant_reserve_message(lugcurrant_flow *flow, size_t length);
 
 /* Returns the client that hears: the one that is begun anew, if there is one. It has no id until it has joined. */
 lugcurrant_client *lugcurrant_hearer_of(const lugcurrant_flow *flow);
@@ -292,8 +314,23 @@ void lugcurrant_void_all(lugcurrant_flow *flow);
  * as it can: the server may still read an edit that was sent over a connection that is lost. Room for an event is reserved already. */
 void lugcurrant_begin_anew(lugcurrant_flow *flow, uint32_t state, bool scans, uint64_t from);
 
-/* Begins anew without the edit that the server can't take, once those before it are judged. */
-void lugcurrant_begin_anew_without(lugcurrant_flow *flow);
+/* Begins to replace the edit that the server can't take, once those before it are judged. Its number is given to one that changes nothing, so
+ * that no later edit moves down. What it did to the view can't be taken back, as the client keeps no document without it: so an observer hears
+ * the document again. */
+void lugcurrant_begin_replacing(lugcurrant_flow *flow, double now);
+
+/* Loads the observer, if one is needed and isn't there. DONE, MEMORY. */
+uint32_t lugcurrant_load_observer(lugcurrant_flow *flow);
+
+/* Counts the client's edits up to what the observer has heard. */
+void lugcurrant_count_own(lugcurrant_flow *flow, uint8_t letter, lugcurrant_span message);
+
+/* Makes the client whose edit is replaced, once the observer has heard all. If it is out of memory nothing has changed. DONE, MEMORY. */
+uint32_t lugcurrant_make_emptied(lugcurrant_flow *flow);
+
+/* The client becomes the one whose edit is replaced, which was made already. If the server counts other edits of the client than it has heard
+ * of, the client begins anew: it has another history, or another program uses the id. */
+void lugcurrant_become_emptied(lugcurrant_flow *flow);
 
 /* Checks whether a copy counts edits as judged that aren't this program's, so that another one uses the id: the server never had them from
  * it, or the document has an object of theirs. The client would take such a copy, and its own edits of these numbers for judged. If it
@@ -302,6 +339,9 @@ uint32_t lugcurrant_check_twin(lugcurrant_flow *flow, lugcurrant_span copy, bool
 
 /* Keeps an entry if it is an edit of the id that is given up and may be one that waits. DONE, MEMORY. */
 uint32_t lugcurrant_look_at_entry(lugcurrant_flow *flow, lugcurrant_span message);
+
+/* Returns the word of an edit, or "" if it is none. It is never freed. */
+const char *lugcurrant_edit_word(lugcurrant_span word);
 
 /* An entry or a copy of the log that is looked through. DONE, MEMORY. */
 uint32_t lugcurrant_look_at_part(lugcurrant_flow *flow, struct sent *head, uint8_t letter, lugcurrant_span message);

@@ -15,7 +15,7 @@ lugcurrant_client *lugcurrant_hearer_of(const lugcurrant_flow *flow)
     return flow->anew.step == JOIN_ANEW ? (lugcurrant_client *)&flow->anew.fresh : flow->client;
 }
 
-static bool reserve_message(lugcurrant_flow *flow, size_t length)
+bool lugcurrant_reserve_message(lugcurrant_flow *flow, size_t length)
 {
     if (length <= flow->message_room)
         return true;
@@ -31,7 +31,7 @@ static bool reserve_message(lugcurrant_flow *flow, size_t length)
 uint32_t lugcurrant_take_left(lugcurrant_flow *flow, lugcurrant_client *client, size_t *length)
 {
     *length = lugcurrant_length(client);
-    if (!reserve_message(flow, *length))
+    if (!lugcurrant_reserve_message(flow, *length))
         return LUGCURRANT_MEMORY;
     return lugcurrant_read(client, flow->message, *length);
 }
@@ -72,8 +72,30 @@ static uint32_t next_edit(lugcurrant_flow *flow, double now, size_t *length)
     flow->sent = sent + 1;
     flow->edits++;
     flow->bytes += size;
-    flow->ask_at = now;
-    flow->pause = flow->options.least_pause;
+    if (!lugcurrant_is_told(flow)) {
+        flow->ask_at = now;
+        flow->pause = flow->options.least_pause;
+    }
+    return LUGCURRANT_DONE;
+}
+
+static bool may_go_live(const lugcurrant_flow *flow)
+{
+    return flow->is_caught_up && flow->anew.step == NOT_ANEW && !flow->is_live && flow->live_at != NEVER;
+}
+
+static uint32_t next_live(lugcurrant_flow *flow, double now, size_t *length)
+{
+    if (!may_go_live(flow) || now < flow->live_at)
+        return LUGCURRANT_NONE;
+    if (!lugcurrant_reserve_message(flow, ASK_ROOM))
+        return LUGCURRANT_MEMORY;
+    struct sent live = {.what = GO_LIVE, .id = lugcurrant_id(flow->client)};
+    int size = snprintf((char *)flow->message, ASK_ROOM, "[\"live\",%" PRIu32 ",%" PRIu64 "]", live.id, lugcurrant_version(flow->client));
+    *length = (size_t)size;
+    lugcurrant_list_push(&flow->fifo, &live);
+    flow->live_at = NEVER;
+    flow->ask_at = now + flow->options.beat;
     return LUGCURRANT_DONE;
 }
 
@@ -94,10 +116,10 @@ static bool may_ask(const lugcurrant_flow *flow)
 
 static uint32_t give_ask(lugcurrant_flow *flow, const struct sent *ask, size_t *length)
 {
-    if (!reserve_message(flow, ASK_ROOM))
+    if (!lugcurrant_reserve_message(flow, ASK_ROOM))
         return LUGCURRANT_MEMORY;
-    int size = snprintf((char *)flow->message, ASK_ROOM, "[\"ask\",%" PRIu32 ",%" PRIu64 "]", lugcurrant_id(lugcurrant_hearer_of(flow)),
-                        ask->from);
+    uint32_t id = lugcurrant_id(flow->anew.replaces ? flow->client : lugcurrant_hearer_of(flow)); /* an observer has none of the server's */
+    int size = snprintf((char *)flow->message, ASK_ROOM, "[\"ask\",%" PRIu32 ",%" PRIu64 "]", id, ask->from);
     *length = (size_t)size;
     lugcurrant_list_push(&flow->fifo, ask);
     flow->asking++;
@@ -122,7 +144,8 @@ static uint32_t next_ask(lugcurrant_flow *flow, double now, size_t *length)
     }
     flow->top = from + MOST_ENTRIES;
     flow->asked_at = now;
-    flow->ask_at = now + lugcurrant_greatest_of(flow->options.least_pause, flow->trip / lugcurrant_steady(flow));
+    double pause = lugcurrant_greatest_of(flow->options.least_pause, flow->trip / lugcurrant_steady(flow));
+    flow->ask_at = now + (lugcurrant_is_told(flow) ? flow->options.beat : pause);
     return LUGCURRANT_DONE;
 }
 
@@ -144,7 +167,7 @@ uint32_t lugcurrant_flow_next_outgoing(lugcurrant_flow *flow, double now, const 
     size_t size = 0;
     if (!flow->is_open)
         return LUGCURRANT_NONE;
-    if (!lugcurrant_list_reserve(&flow->fifo, 1))
+    if (!lugcurrant_list_reserve(&flow->fifo, 1) || lugcurrant_load_observer(flow) != LUGCURRANT_DONE)
         return LUGCURRANT_MEMORY;
     if (flow->anew.step == SCAN) {
         result = next_scan(flow, now, &size);
@@ -153,6 +176,8 @@ uint32_t lugcurrant_flow_next_outgoing(lugcurrant_flow *flow, double now, const 
     } else {
         if (flow->anew.step == NOT_ANEW && !flow->is_full && flow->dropping == 0)
             result = next_edit(flow, now, &size);
+        if (result == LUGCURRANT_NONE)
+            result = next_live(flow, now, &size);
         if (result == LUGCURRANT_NONE)
             result = next_ask(flow, now, &size);
     }
@@ -171,9 +196,10 @@ double lugcurrant_flow_due(const lugcurrant_flow *flow, double now)
         return flow->anew.is_asking || flow->fifo.count > 0 ? -1 : lugcurrant_greatest_of(0, flow->hold_until - now);
     if (lugcurrant_id(lugcurrant_hearer_of(flow)) == 0)
         return flow->fifo.count > 0 ? -1 : lugcurrant_greatest_of(0, flow->hold_until - now);
-    bool holds = flow->hold_until > now && lugcurrant_waiting(flow->client) > 0;
-    if (!may_ask(flow))
-        return holds ? flow->hold_until - now : -1;
-    double wait = flow->ask_at - now;
-    return lugcurrant_greatest_of(0, holds ? lugcurrant_least_of(wait, flow->hold_until - now) : wait);
+    double wait = may_ask(flow) ? flow->ask_at - now : NEVER;
+    if (flow->hold_until > now && lugcurrant_waiting(flow->client) > 0)
+        wait = lugcurrant_least_of(wait, flow->hold_until - now);
+    if (may_go_live(flow))
+        wait = lugcurrant_least_of(wait, flow->live_at - now);
+    return wait == NEVER ? -1 : lugcurrant_greatest_of(0, wait);
 }

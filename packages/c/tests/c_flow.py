@@ -16,7 +16,7 @@ from lugcurrant._api import FAULTS, NO_REASONS, REFUSALS, Handle  # noqa: E402
 
 DONE, MEMORY, NONE, NO = 0, 10, 22, 60
 STATES = list(State)
-COUNTED = ["malloc=counting_malloc", "free=counting_free", "lugcurrant_new=counting_client_new", "lugcurrant_free=counting_client_free"]
+COUNTED = ["malloc=counting_malloc", "free=counting_free", "lugcurrant_new=counting_client_new", "lugcurrant_load=counting_client_load", "lugcurrant_free=counting_client_free"]
 
 _N, _L, _D, _S, _P, _B = ctypes.c_uint32, ctypes.c_uint64, ctypes.c_double, ctypes.c_size_t, ctypes.c_void_p, ctypes.c_char_p
 
@@ -29,7 +29,7 @@ class Id(ctypes.Structure):
 
 
 class Options(ctypes.Structure):
-    _fields_ = [("window", _N), ("window_bytes", _S), ("asks", _N), ("most_asks", _N), ("least_pause", _D), ("most_pause", _D)]
+    _fields_ = [("window", _N), ("window_bytes", _S), ("asks", _N), ("most_asks", _N), ("least_pause", _D), ("most_pause", _D), ("beat", _D)]
 
 
 class Edit(ctypes.Structure):
@@ -56,8 +56,9 @@ class CEvent(ctypes.Structure):
         if self.type == 1:
             return Event("state", {"state": STATES[self.state], "words": self.words.decode()})
         if self.type == 3:
-            name, words = REFUSALS[self.reason]
-            return Event("refused", {"version": self.version, "number": self.number, "edit": self.edit.decode(), "id": self.id.id(), "name": name, "words": words})
+            name, words = REFUSALS.get(self.reason) or NO_REASONS[self.reason - NO]
+            told = {"version": self.version, "number": self.number, "edit": self.edit.decode(), "id": self.id.id(), "name": name, "words": words}
+            return Event("refused", told | {"change": self.lost[0].text()} if self.lost_count else told)
         if self.type == 4:
             lost = [(self.lost[k].text(), self.lost[k].reason()) for k in range(self.lost_count)]
             unsure = [self.unsure[k].text() for k in range(self.unsure_count)]

@@ -53,6 +53,13 @@ uint32_t counting_client_new(lugcurrant_client *client)
     return result;
 }
 
+uint32_t counting_client_load(lugcurrant_client *client, const uint8_t *bytes, size_t length)
+{
+    uint32_t result = lugcurrant_load(client, bytes, length);
+    failing_clients += result == LUGCURRANT_DONE;
+    return result;
+}
+
 uint32_t counting_client_free(lugcurrant_client *client)
 {
     uint32_t result = lugcurrant_free(client);

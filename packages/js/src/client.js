@@ -136,8 +136,24 @@ export class Client {
     return saved;
   }
 
-  // A client without an id in the same module's memory.
-  sibling() { return new Client(this.#calls); }
+  // A client in the same module's memory: one without an id, or the one that was saved so.
+  sibling(saved = null) { return new Client(this.#calls, saved); }
+
+  // This client with its first edit that waits replaced by one that changes nothing: it clears a property that no object has. `heard` shows the document
+  // by which all edits before that one are judged, and none since; it has no edits. The core has no call for it: it loads such a client without a
+  // document, and that one receives the document as a copy.
+  emptied(heard) {
+    const [, id, counter] = /^\["client",\[(\d+),(\d+),/.exec(this.#savedText()), { acknowledged } = this, version = BigInt(heard.version);
+    const rows = heard.#savedText().replace(/^\["client",\[[\d,]+\],\[\],/, '').slice(0, -1), changes = [...this.messages()].map((it) => /^\["edit",\d+,\d+,(.*)\]$/s.exec(fromUtf8.decode(it))[1]);
+    let name = '_';
+    while (rows.includes(`["${name}",`)) name += '_';
+    changes[0] = `["clear",[0,0],"${name}"]`;
+    const made = this.sibling(`["client",[${id},${counter},${version - 1n},${acknowledged}],[${changes}],[[[0,0],"document",null,[]]]]`);
+    made.receive(`["copy",${version},${acknowledged},${rows}]`);
+    made.#savedTo = this.#savedTo;
+    return made;
+  }
+  #savedText() { return fromUtf8.decode(this.#left(this.#calls.lugcurrant_save(this.#handle))); }
 
   // Becomes another client of the same module, which is no client any more then: whoever holds this one goes on with it.
   become(other) {
@@ -145,7 +161,7 @@ export class Client {
     const bytes = this.#bytes(other.#handle, HANDLE_BYTES);
     this.#bytes(this.#handle, HANDLE_BYTES).set(bytes);
     bytes.fill(0);
-    for (const at of [other.#made, other.#buffer, other.#handle]) this.#calls.memory_give(at);
+    other.#giveBack();
     this.#savedTo = other.#savedTo;
     this.#shown.touchAll();
     this.#tell('anew', null);
@@ -164,6 +180,10 @@ export class Client {
     this.#signals ??= new Signals(this.#shown);
     return this.#signals;
   }
+
+  // Ends a client that nobody will call again.
+  discard() { this.free(); this.#giveBack(); }
+  #giveBack() { for (const at of [this.#made, this.#buffer, this.#handle]) this.#calls.memory_give(at); }
 
   // Ends the client, with all that waits.
   free() { this.#need(this.#calls.lugcurrant_free(this.#handle)); this.#shown.touchAll(); }

@@ -23,7 +23,7 @@ export class Link extends EventTarget {
   static findWebSocket = async () => globalThis.WebSocket;
 
   #flow; #Socket; #kept; #socket = null; #timer = null; #ended = false; #isOffline = false; #guards; #follows; #isTold = false; #pauses; #patience; #unwatch;
-  #sleep = null; #keptTo = 0n; #keeping = false; #isPumping = false; #isSoon = false; #unsent = 0; #ready; #settling = []; #silent = null; #isSettled = false; #fault = null;
+  #sleep = null; #keptTo = 0n; #keptTurn = 0; #keeping = false; #isPumping = false; #isSoon = false; #unsent = 0; #ready; #settling = []; #silent = null; #isSettled = false; #fault = null;
 
   // `options`: `document` the identity where it is known, or false to go without the guard; `follow` to begin anew where the server has another one; `kept` what keeps the client; `WebSocket`; `state`,
   // `changed`, `refused`, `anew` as functions, in place of events; and numbers (index.d.ts).
@@ -276,8 +276,20 @@ export class Link extends EventTarget {
     if (!this.#kept.isKeeping) { this.#flow.limit = 1n << 62n; return; }
     const last = BigInt(this.client.lastEdit);
     if (this.#keeping || last <= this.#keptTo) return;
+    const turn = this.#keptTurn;
     this.#keeping = true;
-    this.#kept.flush().then(() => { this.#keeping = false; this.#keptTo = last; this.#flow.limit = last; this.#pump(); });
+    this.#kept.flush().then(() => {
+      this.#keeping = false;
+      if (turn === this.#keptTurn) this.#flow.limit = this.#keptTo = last;
+      this.#pump();
+    });
+  }
+
+  // The client has become another one: of its edits those up to this number are kept.
+  #forgetKept(number) {
+    this.#keptTurn += 1;
+    this.#keptTo = number;
+    if (this.#kept?.isKeeping) this.#flow.limit = number;
   }
 
   #count() {
@@ -290,9 +302,9 @@ export class Link extends EventTarget {
     let isChanged = false;
     for (const event of events) {
       if (event.type === 'took') isChanged = true;
-      else if (event.type === 'refused') this.#fire('refused', event);
+      else if (event.type === 'refused') { if (event.change) { this.#forgetKept(BigInt(this.client.acknowledged)); isChanged = true; } this.#fire('refused', event); }
       else if (event.type === 'state') { this.#tell(event.state, event.words); if (event.state === 'fault') this.#drop(); }
-      else if (event.type === 'anew') { this.#keptTo = 0n; if (this.#kept?.isKeeping) this.#flow.limit = 0n; isChanged = true; this.#fire('anew', event); }
+      else if (event.type === 'anew') { this.#forgetKept(0n); isChanged = true; this.#fire('anew', event); }
       else if (event.type === 'caught up') this.#caughtUp();
     }
     if (isChanged) this.#fire('change', false);

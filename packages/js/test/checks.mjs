@@ -102,8 +102,6 @@ class Remade {
   }
 
   #lost({ code }, change) {
-    if (code === 'too large') { assert(JSON.stringify(change).length > 180, 'it is not too large'); return; }
-    if (code === 'unreadable') { assert.equal(change[2], 'unread'); return; }
     const now = this.#now(change);
     if (now[0] === 'create') now[1] = [this.id, (this.counters.get(this.id) ?? 0) + 1];
     const [outcome] = judge(this.doc, this.counters, this.id, now);

@@ -79,17 +79,18 @@ export function treeText(doc) {
   return `${lines.join('\n')}\n`;
 }
 
-const rowsOf = (doc) => [...doc].map(([id, o]) => [ids(id), o.kind, o.place, [...o.props].sort(([a], [b]) => (a < b ? -1 : 1))]).sort(([a], [b]) => a[0] - b[0] || a[1] - b[1]);
+export const docOf = (rows) => new Map(rows.map(([id, kind, place, props]) => [word(id), { kind, place, props: new Map(props) }]));
+export const rowsOf = (doc) => [...doc].map(([id, o]) => [ids(id), o.kind, o.place, [...o.props].sort(([a], [b]) => (a < b ? -1 : 1))]).sort(([a], [b]) => a[0] - b[0] || a[1] - b[1]);
 
 export class FakeServer {
-  constructor({ largest = 1 << 20, dice = Math.random } = {}) {
-    Object.assign(this, { largest, dice, doc: newDoc(), counters: new Map(), done: new Map(), clients: 0, log: [], floor: 0, trouble: 0, asks: 0, edits: 0, repeats: 0 });
+  constructor({ largest = 1 << 20, dice = Math.random, isLive = false } = {}) {
+    Object.assign(this, { largest, dice, isLive, doc: newDoc(), counters: new Map(), done: new Map(), clients: 0, log: [], floor: 0, trouble: 0, asks: 0, edits: 0, repeats: 0 });
   }
 
   get version() { return this.log.length; }
 
-  // The texts that answer a message.
-  answer(text) {
+  // The texts that answer a message. `line` is the connection's, and gets the place after which it is told what is published.
+  answer(text, line = {}) {
     let message;
     try { message = JSON.parse(text); } catch { return ['["no",9]']; }
     const [what, id] = message;
@@ -100,13 +101,19 @@ export class FakeServer {
       this.done.set(this.clients, 0);
       return [`["welcome",${this.clients}]`];
     }
+    if (what === 'live' && !this.isLive) return ['["no",9]'];
     if (!this.done.has(id)) return ['["no",1]'];
+    if (what === 'live') {
+      if (this.trouble && this.dice() < 0.3) return ['["no",7]'];
+      if (message[2] > this.version) return ['["no",1]'];
+      line.place = { id, version: message[2] };
+      return ['["idle"]'];
+    }
     if (what === 'ask') {
       this.asks += 1;
       if (this.trouble && this.dice() < 0.3) return ['["no",7]'];
       const version = message[2];
-      if (version < this.floor) return [JSON.stringify(['copy', this.version, this.done.get(id), rowsOf(this.doc)]), '["idle"]'];
-      return [...this.log.slice(version, version + 64).map((entry, k) => JSON.stringify(['entry', version + k + 1, entry])), '["idle"]'];
+      return [...this.#after(id, version), '["idle"]'];
     }
     const [, , number, change] = message, done = this.done.get(id);
     if (number <= done) { this.repeats += 1; return ['["idle"]']; }
@@ -119,6 +126,20 @@ export class FakeServer {
     this.done.set(id, number);
     this.log.push([id, number, change, judge(this.doc, this.counters, id, change)]);
     return ['["idle"]'];
+  }
+
+  // What a client is told after this version: up to 64 entries, or a copy.
+  #after(id, version) {
+    if (version < this.floor) return [JSON.stringify(['copy', this.version, this.done.get(id), rowsOf(this.doc)])];
+    return this.log.slice(version, version + 64).map((entry, k) => JSON.stringify(['entry', version + k + 1, entry]));
+  }
+
+  // What is told next unasked on a connection, if there is news after its place.
+  told({ place }) {
+    if (!place || place.version >= this.version || !this.done.has(place.id)) return [];
+    const messages = this.#after(place.id, place.version);
+    place.version = JSON.parse(messages.at(-1))[1];
+    return messages;
   }
 
   checkpoint() { this.floor = this.version; }
@@ -160,7 +181,7 @@ export class Plain {
     if (what === 'copy') {
       const [version, done, rows] = rest;
       if (version <= this.version || done < this.acknowledged || done > this.acknowledged + this.waiting.length) return;
-      this.base = new Map(rows.map(([id, kind, place, props]) => [word(id), { kind, place, props: new Map(props) }]));
+      this.base = docOf(rows);
       this.waiting.splice(0, done - this.acknowledged);
       Object.assign(this, { version, acknowledged: done });
     }
@@ -198,15 +219,22 @@ export class Plain {
   text() { return treeText(this.view()); }
 }
 
-// A WebSocket class whose connections lead to a made-up server, and end after a No.
+// A WebSocket class whose connections lead to a made-up server, and end after a No to an edit.
 export const socketsTo = (fake) => class {
   readyState = 0;
-  constructor() { setTimeout(() => { this.readyState = 1; this.onopen(); }); }
+  static #open = new Set();
+  static get lines() { return [...this.#open].map(({ line }) => line); }
+  // Tells each live connection what was published.
+  static tell() { for (const socket of this.#open) socket.hear(fake.told(socket.line)); }
+
+  line = {};
+  constructor() { setTimeout(() => { this.readyState = 1; this.constructor.#open.add(this); this.onopen(); }); }
   send(bytes) {
-    for (const answer of this.readyState === 1 ? fake.answer(Buffer.from(bytes).toString()) : []) {
-      setTimeout(() => this.onmessage({ data: Buffer.from(answer) }));
-      if (answer.startsWith('["no",')) this.close();
-    }
+    if (this.readyState !== 1) return;
+    const message = Buffer.from(bytes).toString(), answers = fake.answer(message, this.line);
+    this.hear([...answers, ...fake.told(this.line)]);
+    if (answers[0].startsWith('["no",') && message.startsWith('["edit"')) this.close();
   }
-  close() { this.readyState = 3; setTimeout(() => this.onclose()); }
+  hear(messages) { for (const message of messages) setTimeout(() => this.onmessage({ data: Buffer.from(message) })); }
+  close() { this.readyState = 3; this.constructor.#open.delete(this); setTimeout(() => this.onclose()); }
 };

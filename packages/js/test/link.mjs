@@ -218,11 +218,12 @@ async function otherOrigin(first) {
   site.close();
 }
 
-// The connection ends right after the No to an edit. The edit is lost for the reason of that No, whatever the state is on the next connection.
+// The connection ends right after the No to an edit. The edit is lost for the reason of that No, whatever the state is on the next connection, and the
+// client goes on under its id.
 async function takenOutLater() {
   const largest = 200, edits = { 'too large': ['a', 'x'.repeat(largest)], unreadable: ['unread', 1] };
-  for (const [reason, edit] of Object.entries(edits)) {
-    const anew = [], states = [], options = { document: false, WebSocket: socketsTo(new FakeServer({ largest })), anew: (event) => anew.push(event) };
+  for (const [reason, edit] of Object.entries(edits)) for (const isLive of [false, true]) {
+    const refused = [], states = [], options = { document: false, WebSocket: socketsTo(new FakeServer({ largest, isLive })), refused: (event) => refused.push(event) };
     const link = await open({ ...options, state: ({ state }) => states.push(state) });
     await link.ready;
     const id = link.client.createLast('page', ROOT);
@@ -230,18 +231,54 @@ async function takenOutLater() {
     link.client.set(id, ...edit);
     link.client.set(id, 'b', 2);
     await link.settled();
-    assert.deepEqual(anew.map(({ made, lost, unsure }) => [made, lost.map(({ code }) => code), unsure]), [[1, [reason], []]]);
+    assert.deepEqual(refused.map(({ number, name, change }) => [number, name, JSON.parse(change)[2]]), [[2, reason, edit[0]]]);
     assert.deepEqual(states, ['online', reason, 'online']);
-    assert.deepEqual(link.client.object(id).properties, { b: 2 });
+    assert.deepEqual([link.client.id, link.client.acknowledged, { ...link.client.object(id).properties }], [1, 3, { b: 2 }]);
     tried += 1;
     await closed(link);
   }
 }
 
-// A program that goes offline when its client begins anew is offline, whatever else came of the same message.
+// The client whose edit was replaced is kept before that edit is sent.
+async function takenOutAndKept() {
+  const fake = new FakeServer({ largest: 200, isLive: true }), WebSocket = socketsTo(fake), answer = fake.answer.bind(fake), all = [];
+  const shelf = { read: async () => ({ all: null, journal: [] }), put: async (bytes) => { await sleep(20); all.push(Buffer.from(bytes).toString()); }, add: async () => sleep(20), end: async () => {}, close: async () => {} };
+  const kept = new Kept(shelf), client = await kept.load(), link = new Link(client, server.url, { document: false, WebSocket, kept });
+  fake.answer = (message, line) => {
+    if (message.includes('["clear",[0,0],"_"]')) assert(all.at(-1).includes('[["clear",[0,0],"_"]'), 'the client is kept first');
+    return answer(message, line);
+  };
+  await link.ready;
+  client.set(ROOT, 'a', 'x'.repeat(200));
+  client.set(ROOT, 'b', 2);
+  await link.settled();
+  assert.deepEqual([client.id, client.acknowledged, { ...client.object(ROOT).properties }], [1, 2, { b: 2 }]);
+  tried += 1;
+  await closed(link);
+}
+
+// On a live connection a link asks no more, and hears of its own edits and of others' without that.
+async function live() {
+  const fake = new FakeServer({ isLive: true }), WebSocket = socketsTo(fake), link = await open({ document: false, WebSocket });
+  await link.settled();
+  await until(() => WebSocket.lines.some(({ place }) => place));
+  await sleep(50);
+  const { asks } = fake;
+  const page = link.client.createLast('page', ROOT);
+  for (let k = 0; k < 20; k += 1) { link.client.set(page, 'a', k); await link.settled(); }
+  fake.answer('["join",2]');
+  fake.answer('["edit",2,1,["set",[0,0],"name","theirs"]]');
+  WebSocket.tell();
+  assert(await until(() => link.client.object(ROOT).properties.name === 'theirs'));
+  assert.deepEqual([fake.asks, link.unsent, link.client.text()], [asks, 0, fake.text()]);
+  tried += 1;
+  await closed(link);
+}
+
+// A program that goes offline when it is told of an edit that is too large is offline, whatever else came of the same message.
 async function offlineAtOnce() {
   const largest = 200, states = [], options = { document: false, WebSocket: socketsTo(new FakeServer({ largest })), state: ({ state }) => states.push(state) };
-  const link = await open({ ...options, anew: () => { link.offline = true; } });
+  const link = await open({ ...options, refused: () => { link.offline = true; } });
   await link.ready;
   link.client.set(ROOT, 'a', 'x'.repeat(largest));
   await becomes(link, 'offline');
@@ -314,6 +351,8 @@ await closed(second);
 await keptInFile(page);
 await belowPath(first);
 await takenOutLater();
+await takenOutAndKept();
+await live();
 await offlineAtOnce();
 if (existsSync('/usr/bin/chromium')) await otherOrigin(first);
 await olderBackup(page);

@@ -3,7 +3,7 @@
 import { existsSync, readFileSync } from 'node:fs';
 import { KINDS, NUMBERS as N } from '../src/api.js';
 import { Client, compile } from '../src/client.js';
-import { BEARS, Plain, depth, height, below, middle, parentOf, treeText, word } from './fake.mjs';
+import { BEARS, Plain, below, depth, docOf, height, middle, parentOf, rowsOf, treeText, word } from './fake.mjs';
 
 const MODULE = new URL('../canvas.wasm', import.meta.url);
 const DEEPEST = 100, PROPERTY = /^[a-z0-9_]+$/;
@@ -104,11 +104,13 @@ class Model {
   }
   take(message, ids) { this.plain.receive(message); this.changed(); return { answer: N.TOOK, ids }; }
 
-  save() { const { plain } = this; return JSON.stringify(['stand-in', this.counter, { ...plain, base: [...plain.base].map(([id, o]) => [id, { ...o, props: [...o.props] }]) }]); }
+  // In the form of docs/embedding.md; but the rows are those of the server's document, without what waits.
+  save() { const { id, version, acknowledged, waiting, base } = this.plain; return JSON.stringify(['client', [id, this.counter, version, acknowledged], waiting, rowsOf(base)]); }
   static load(words) {
-    const model = new Model(), [, counter, plain] = JSON.parse(words);
+    const model = new Model(), [word, [id, counter, version, acknowledged], waiting, rows] = JSON.parse(words);
+    if (word !== 'client') throw new Error('no saved client');
     model.counter = counter;
-    Object.assign(model.plain, plain, { base: new Map(plain.base.map(([id, o]) => [id, { ...o, props: new Map(o.props) }])) });
+    Object.assign(model.plain, { id, version, acknowledged, waiting, base: docOf(rows) });
     return model;
   }
 }

@@ -6,17 +6,19 @@
 //   back         the server has an older log, under another identity
 //   behind       the server has forgotten that a client's last edit was judged, or the client, and has the same identity
 //   full         the server takes no more edits in the end
+//   live         the server tells unasked what is published (`live`)
+//   mixed        now it does, now an older one stands in its place, that doesn't
+//   skips        it leaves something out now and then, against the protocol
 import assert from 'node:assert';
-import { readFileSync } from 'node:fs';
-import { Client, ClientError, compile } from '../src/client.js';
+import { ClientError } from '../src/client.js';
 import { Flow } from '../src/flow.js';
 import { changeOf } from '../src/remake.js';
 import { FakeServer, Plain } from './fake.mjs';
+import { newClient } from './standin.mjs';
 import { Agenda } from './agenda.mjs';
 import { checkAnew, checkCopy, checkOnce } from './checks.mjs';
 import { trace, traceEvents, tracedClient, tracedFlow } from './trace.mjs';
 
-const module = await compile(readFileSync(new URL('../canvas.wasm', import.meta.url)));
 const text = (bytes) => Buffer.from(bytes).toString();
 const pick = (dice, list) => list[Math.floor(dice() * list.length)];
 
@@ -33,7 +35,7 @@ export class World {
     this.agenda = new Agenda();
     this.kinds = this.#kinds();
     this.checkpointRate = this.kinds.checkpoints ? pick(this.dice, [0.02, 0.003]) : 0;
-    this.server = new FakeServer({ largest: this.kinds.noes ? 220 : 1 << 20, dice: this.dice });
+    this.server = new FakeServer({ largest: this.kinds.noes ? 220 : 1 << 20, dice: this.dice, isLive: this.kinds.live });
     this.server.trouble = this.kinds.noes ? 5 : 0;
     this.senders = new Map();                          // of each version an edit came to: the player, and whether its connection was lost by then
     this.made = new Map();                             // the values that were set, each another one, and by whom
@@ -43,12 +45,13 @@ export class World {
     this.looked = new Map();                           // those that were made again, and the version up to which they were looked for
     this.shared = new Set();                           // those of edits that waited in a twin's save
     this.players = [];
-    this.stat = { messages: 0, cuts: 0, anew: 0, made: 0, lost: 0, unsure: 0, hidden: 0, late: 0, both: 0, edits: 0, most: 0 };
+    this.stat = { messages: 0, unasked: 0, cuts: 0, anew: 0, replaced: 0, made: 0, lost: 0, unsure: 0, hidden: 0, late: 0, both: 0, edits: 0, most: 0 };
   }
 
   #kinds() {
     const has = (chance) => this.dice() < chance;
-    const kinds = { noes: has(0.3), twins: has(0.3), back: has(0.1), behind: has(0.1), full: has(0.03), checkpoints: has(0.4) };
+    const kinds = { noes: has(0.3), twins: has(0.3), back: has(0.1), behind: has(0.1), full: has(0.03), checkpoints: has(0.4), live: has(0.6) };
+    Object.assign(kinds, { mixed: kinds.live && has(0.2), skips: kinds.live && has(0.1) });
     if (kinds.back) kinds.behind = false;
     if (kinds.back || kinds.behind) kinds.twins = false;
     return kinds;
@@ -59,7 +62,7 @@ export class World {
   // ---- players ----
 
   async player(saved = null) {
-    const { dice } = this, client = await Client.load(module, saved), n = this.players.length;
+    const { dice } = this, client = await newClient(saved), n = this.players.length;
     const options = { window: pick(dice, [1, 4, 64]), windowBytes: pick(dice, [300, 262144]), asks: pick(dice, [1, 4]), mostAsks: pick(dice, [1, 32]) };
     trace('new', n, saved ? text(saved) : null, options);
     const player = { client, flow: tracedFlow(new Flow(client, options), n), plain: new Plain(), plainOn: !saved, link: null, quietAt: 0,
@@ -68,7 +71,7 @@ export class World {
     player.savedTo = player.reachedTo = Number(client.lastEdit);
     client.watch((what) => {
       if (what === 'edit') this.#noteEdit(player);
-      if (what === 'anew') this.#noteAnew(player);
+      if (what === 'anew') { if (player.flow.dropping) this.#noteReplaced(player); else this.#noteAnew(player); }
     });
     this.players.push(player);
     this.connect(player);
@@ -89,6 +92,17 @@ export class World {
     const { own, reachedTo, savedTo } = player;
     Object.assign(player, { plainOn: false, before: { own, maybeTo: Math.max(reachedTo, savedTo) }, own: new Map(), savedTo: 0, reachedTo: 0 });
     this.#noteWaiting(player);
+  }
+
+  // Its first edit that waits changes nothing now; the document was heard again, up to another version.
+  #noteReplaced(player) {
+    const { client, own, plain } = player, number = Number(client.acknowledged) + 1;
+    this.stat.replaced += 1;
+    own.set(number, changeOf(text(client.editMessage(1))));
+    if (!player.plainOn) return;
+    plain.waiting[0] = JSON.parse(own.get(number));
+    Object.assign(plain, { version: Number(client.version), base: this.server.stateAt(Number(client.version)).doc });
+    assert.equal(client.text(), plain.text(), 'an edit that was replaced is laid over nothing');
   }
 
   // Another program goes on from a save: with edits that weren't sent yet, or that are under way. The first program may be away for long.
@@ -122,7 +136,7 @@ export class World {
   // ---- connections ----
 
   connect(player) {
-    const link = player.link = { isOpen: true, up: this.now, down: this.now, lastUp: Infinity, stall: 0, until: null, rest: [], edits: [] };
+    const link = player.link = { place: null, isTelling: false, lag: pick(this.dice, [0, 5, 5, 100, 1500]), isOpen: true, up: this.now, down: this.now, lastUp: Infinity, stall: 0, until: null, rest: [], edits: [] };
     this.at(player.delay, () => { if (player.link !== link) return; player.flow.open(this.now); this.pump(player); });
   }
 
@@ -160,16 +174,40 @@ export class World {
   serve(player, link, message, isStalled = false) {
     if (link.lastUp < 0 || (!isStalled && this.now > link.lastUp)) return;
     if (!link.isOpen && link.stall && !isStalled) { this.#stall(player, link, message); return; }
-    const before = this.server.version, answers = this.server.answer(message), [what, id, number] = JSON.parse(message);
+    const before = this.server.version, answers = this.server.answer(message, link), [what, id, number] = JSON.parse(message);
     if (what === 'edit' && this.server.version > before) this.senders.set(this.server.version, { n: player.n, isLate: !link.isOpen });
     if (what === 'edit' && id === player.client.id && !/^\["no",[3489]/.test(answers[0])) player.reachedTo = Math.max(player.reachedTo, number);
-    const { reachedTo } = player;
-    for (const answer of answers) {
-      const due = Math.max(link.down, this.now + player.delay * (0.5 + this.dice()));
-      link.down = due;
-      this.at(due - this.now, () => this.hear(player, link, answer, reachedTo, what === 'edit'));
-    }
+    for (const answer of answers) this.#send(player, link, answer, what === 'edit');
     if (this.dice() < this.checkpointRate) this.server.checkpoint();
+    this.tellAll();
+  }
+
+  #send(player, link, message, isOfEdit = false) {
+    const { reachedTo } = player, due = Math.max(link.down, this.now + player.delay * (0.5 + this.dice()));
+    link.down = due;
+    this.at(due - this.now, () => this.hear(player, link, message, reachedTo, isOfEdit));
+  }
+
+  // What was published is told a little later on each live connection, between answers; more of it once that has left.
+  tellAll() { for (const player of this.players) if (player.link?.place) this.#tell(player, player.link); }
+  #tell(player, link) {
+    if (link.isTelling || this.server.version <= link.place.version) return;
+    link.isTelling = true;
+    this.at(this.dice() * link.lag, () => {
+      link.isTelling = false;
+      if (player.link !== link) return;
+      const told = this.server.told(link), isMore = told.length > 0;
+      if (this.kinds.skips && this.dice() < 0.1) told.splice(Math.floor(this.dice() * told.length), 1);
+      for (const message of told) this.#send(player, link, message);
+      this.stat.unasked += told.length;
+      if (isMore) this.#tell(player, link);
+    });
+  }
+
+  // In place of the server stands an older one, or one that is live again.
+  exchange() {
+    for (const it of this.players) this.cut(it);
+    this.server.isLive = !this.server.isLive;
   }
 
   // The server reads the rest of a lost connection later, or when it hurts most: when the client has looked through the log, or has gone on.
@@ -214,6 +252,7 @@ export class World {
 
   #take(player, event, before) {
     if (event.type === 'anew') checkAnew(this, player, event, before);
+    if (event.type === 'refused' && event.change) this.#takeReplaced(player, event);
     if (event.type !== 'state') return;
     assert.notEqual(event.state, 'fault', event.words);
     if (event.state === 'replaced') {
@@ -222,6 +261,15 @@ export class World {
       if (this.dice() < 0.7) this.at(this.dice() * player.delay / 2, () => this.cut(player, 100, 8000, pick(this.dice, ['looked', 'gone on'])));
     }
     if (event.state === 'stranger') assert(this.kinds.back || this.kinds.behind, 'the server has one history');
+  }
+
+  // An edit that the server can't take is told, and its number stands for one that changes nothing.
+  #takeReplaced({ client, own }, { number, name, change }) {
+    if (name === 'too large') assert(change.length > 180, 'it is not too large');
+    else assert.equal(JSON.parse(change)[2], 'unread');
+    assert.deepEqual([name === 'too large' || name === 'unreadable', own.get(number), Number(client.acknowledged)], [true, '["clear",[0,0],"_"]', number - 1]);
+    const [what, , , value] = JSON.parse(change);
+    if (what === 'set') this.lost.add(value);
   }
 
   // ---- what happens ----
@@ -319,6 +367,7 @@ export class World {
       if (this.kinds.twins && this.dice() < 0.5) this.race();
       if (this.dice() < 0.06) this.cut(pick(this.dice, this.players));
       if (k === backAt) { for (const it of this.players) this.cut(it); this.run(this.now + 500); this.goBack(); }
+      if (this.kinds.mixed && this.dice() < 0.06) this.exchange();
       if (this.kinds.behind && k >= middle && this.dice() < 0.3) this.fallBehind();
       if (this.kinds.full && k === steps - 3) this.server.isFull = true;
       this.run(this.now + this.dice() * 150);
@@ -334,7 +383,25 @@ export class World {
     assert(isSettled(), `not settled: ${this.players.map(told)}`);
     for (const { client } of this.players) assert.equal(client.text(), this.server.text(), 'all show the server\'s document');
     checkOnce(this);
+    if (this.server.isLive && !this.kinds.skips && !this.kinds.behind) this.#endLive();
     return this.stat;
+  }
+
+  // In the end all are live: one edits, the others hear of it at once, and nobody asks.
+  #endLive() {
+    const one = this.players[0], slowest = Math.max(...this.players.map(({ delay }) => delay));
+    this.server.trouble = 0;
+    this.run(this.now + 30000, () => this.players.every(({ client, flow, link }) => link && flow.isLive && !flow.fifo.length && client.version === this.server.version));
+    assert(this.players.every(({ flow }) => flow.isLive), `all are live: ${this.players.map(({ flow }) => flow.isLive)}`);
+    this.run(this.now + 3000);          // what was under way on lost connections arrives
+    const { asks } = this.server;
+    for (const { link } of this.players) link.lag = 5;
+    tracedClient(one.client, one.n).set('0:0', 'a', 'last');
+    this.pump(one);
+    this.run(this.now + 3.1 * slowest + 1500);
+    for (const { client, flow } of this.players) assert(flow.isSettled && client.version === this.server.version, 'all have heard of an edit');
+    this.run(this.now + 10000);
+    assert.equal(this.server.asks, asks, 'nobody has asked');
   }
 
   #endFull() {

@@ -1,5 +1,5 @@
 #!/usr/bin/env node
-// Plants mistakes into copies of flow.js and remake.js, each of which the random worlds have to find:  wrong.mjs [WORLDS [NAME]]
+// Plants mistakes into copies of flow.js and remake.js, each of which live.mjs or the random worlds have to find:  wrong.mjs [WORLDS [NAME]]
 // With a part of a name those mistakes alone are planted.
 import { cpSync, mkdtempSync, readFileSync, rmSync, writeFileSync } from 'node:fs';
 import { spawn } from 'node:child_process';
@@ -13,7 +13,6 @@ const FLOW = [
   ['the window is one larger', 'this.edits < this.window', 'this.edits <= this.window'],
   ['an own entry of another is passed by', "? this.beginAnew('replaced', { scan: true }) :", '? undefined :'],
   ['what was judged is made again', "return entry === change ? 'judged' : 'open'", "return 'open'"],
-  ['an edit that is too large stays', 'drop && k === 0 ? state :', ''],
   // The server has other edits of the client than it believes.
   ['a first gap is waited out', "head.isFirst ? this.beginAnew('stranger', { scan: false }) : undefined", 'head.isFirst ? this.#hold(now) : undefined'],
   ['a first gap is passed by', "head.isFirst ? this.beginAnew('stranger', { scan: false }) : undefined", 'undefined'],
@@ -22,7 +21,6 @@ const FLOW = [
   // Edits that are made again.
   ['after one that is lost, all are', 'if (code) lost.push', 'if (code || lost.length) lost.push'],
   ['what is lost is not told', 'if (code) lost.push({ change, code }); else made += 1;', 'made += 1;'],
-  ['the first edit is lost', 'drop && k === 0 ? state', 'k === 0 ? state'],
   ['what is judged counts on for the new id', 'this.judged = 0n;\n    this.tried', 'this.tried'],
   // Twins, and copies that hide the log.
   ['a copy is taken whatever it counts', '(done > this.#mostTried || ', '('],
@@ -39,6 +37,28 @@ const FLOW = [
   ['what was tried counts on for the new id', 'this.tried = 0n;', ''],
   ['the look ends where the server has no memory', 'reasonOf(bytes) === 7;', 'false;'],
   ['nothing is looked for', 'if (this.anew?.looks) {', 'if (false) {'],
+  // Live connections.
+  ['live: it is never asked for', 'if (!this.#mayLive() || now < this.liveAt) return;', 'return;'],
+  ['live: asks go on', "  #rest(now, isNearer = true) {\n", '  #rest(now, isNearer = true) {\n    return;\n'],
+  ['live: edits are followed by asks', 'if (pushed && !this.#isTold)', 'if (pushed)'],
+  ['live: what comes unasked is a fault', 'if (isPart && this.told !== null &&', 'if (false &&'],
+  ['live: what comes unasked is passed by', 'return this.anew ? undefined : this.#part(null, letter, bytes, now);', 'return undefined;'],
+  ['live: what is left out is not missed', 'else if (isAhead) this.#gap(now);', ''],
+  ['live: an entry that is late is not asked for', '(this.#isMissing ? MISSED_AFTER : this.beat)', 'this.beat'],
+  ['live: the connection is never tried', 'now + (this.#isMissing ? MISSED_AFTER : this.beat)', 'this.#isMissing ? now + MISSED_AFTER : Infinity'],
+  ['live: an older server is waited for', 'else this.isOlder = true;\n', 'else this.isOlder = false;\n'],
+  ['live: a server that is behind is no stranger', "if (reason === 1) { this.beginAnew('stranger', { scan: true, from: 0n }); return; }", ''],
+  ['live: without memory it is given up', 'if (reason === 7) this.liveAt = now + 1000; else', ''],
+  ['live: a new id is not told', 'if (!this.isOlder) this.liveAt = 0;', ''],
+  ['live: a copy of the old id is taken', '#isToldOther() { return this.told', '#isToldOther() { return false && this.told'],
+  ['live: nobody is told that nothing waits', "if (this.isLive && !wasSettled && this.isSettled) this.events.push({ type: 'caught up' });", ''],
+  // An edit that the server can't take.
+  ['replaced: nothing is done', 'if (this.dropping && BigInt(this.client.acknowledged) >= this.dropped - 1n) this.#beginReplacing(now);', ''],
+  ['replaced: a copy has edits of the observer', 'isCopy && anew?.replaces ? seenByNoOne(bytes) : bytes', 'bytes'],
+  ['replaced: own edits are not counted', 'if (isTaken) this.#countOwn(letter, bytes);', ''],
+  ['replaced: the observer asks under its own id', 'this.anew?.replaces ? this.client.id : client.id', 'client.id'],
+  ['replaced: it is not told', "this.events.push({ type: 'refused', version: Number(this.client.version)", "0 && this.events.push({ type: 'refused', version: Number(this.client.version)"],
+  ['replaced: no edit may be sent any more', 'this.dropping = 0;\n    this.emptied', 'this.emptied'],
 ];
 const REMAKE = [
   ['an object whose position is taken is lost', "if (!(fault instanceof ClientError) || fault.code !== 'Taken') throw fault;\n        made", 'throw fault;\n        made'],
@@ -56,14 +76,20 @@ const REMAKE = [
 const here = fileURLToPath(new URL('..', import.meta.url)), top = mkdtempSync(join(tmpdir(), 'wrong-')), [worlds = '150', wanted = ''] = process.argv.slice(2);
 const mistakes = [...FLOW.map((it) => ['src/flow.js', ...it]), ...REMAKE.map((it) => ['src/remake.js', ...it])].filter(([, name]) => name.includes(wanted));
 
-// What the worlds say of the package with the mistake: null if they don't find it, or don't end in time.
-function found(room) {
+// What a test says of the package with the mistake: null if it doesn't find it, or doesn't end in time.
+function said(room, ...words) {
   return new Promise((resolve) => {
-    const run = spawn('node', [join(room, 'test/worlds.mjs'), '1', worlds, '--first'], { stdio: ['ignore', 'ignore', 'pipe'], timeout: 300000 });
-    let said = '';
-    run.stderr.on('data', (bytes) => { said += bytes; });
-    run.on('close', (status) => resolve(status ? said.split('\n')[0].replace(/^world (\d+).*?: /, 'world $1: ').slice(0, 110) : null));
+    const run = spawn('node', [join(room, 'test', words[0]), ...words.slice(1)], { stdio: ['ignore', 'ignore', 'pipe'], timeout: 300000 });
+    let text = '';
+    run.stderr.on('data', (bytes) => { text += bytes; });
+    run.on('close', (status) => resolve(status ? text : null));
   });
+}
+
+async function found(room) {
+  const live = await said(room, 'live.mjs');
+  if (live) return `live.mjs: ${/^\w*Error.*$/m.exec(live)?.[0] ?? 'it ends'}`.slice(0, 110);
+  return (await said(room, 'worlds.mjs', '1', worlds, '--first'))?.split('\n')[0].replace(/^world (\d+).*?: /, 'world $1: ').slice(0, 110);
 }
 
 async function plant([file, name, from, to], k) {

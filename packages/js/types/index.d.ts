@@ -136,8 +136,15 @@ export declare class Client {
   tree(): CanvasObject;
   /** What has become other since the last call: objects that are new or changed, each before its children, and ids that are gone. */
   changed(): Changes;
-  /** A client without an id in the same module's memory. */
-  sibling(): Client;
+  /** A client in the same module's memory: one without an id, or the one that was saved as these bytes. */
+  sibling(saved?: Uint8Array | string | null): Client;
+  /**
+   * This client with its first edit that waits replaced by one that changes nothing, under its number. `heard` has no edits and shows the document by
+   * which all edits before that one are judged, and none since.
+   */
+  emptied(heard: Client): Client;
+  /** Ends a client that nobody will call again, with its buffers. */
+  discard(): void;
   /** Becomes another client of the same module, which is none any more then. */
   become(other: Client): void;
   /** Calls `told` after each edit, each message that was taken, and each `become`. Answers a function that ends it. */
@@ -194,9 +201,9 @@ export interface Changes {
   /** The ids of objects that are in the tree no more. */
   gone: ObjectId[];
 }
-/** An edit that the server refused. */
+/** An edit that the server refused, or can't take. */
 export interface Refusal {
-  /** The version of the entry that says so. */
+  /** The version of the entry that says so, or the client's. */
   version: Whole;
   /** The number of the edit. */
   number: Whole;
@@ -205,9 +212,11 @@ export interface Refusal {
   /** The object of the edit. */
   id: ObjectId;
   /** The name of the reason. */
-  name: RefusalName;
+  name: RefusalName | 'too large' | 'unreadable';
   /** The reason in words. */
   words: string;
+  /** The edit as its JSON (docs/wire.md), if it is too large for the server or can't be read. Its number stands for one that changes nothing then. */
+  change?: string;
 }
 /** An edit that couldn't be made again, as its JSON (docs/wire.md), and why. */
 export interface LostEdit { change: string; code: string }
@@ -264,6 +273,8 @@ export interface FlowOptions {
   leastPause?: number;
   /** Milliseconds to which the pause between asks grows while nothing comes. */
   mostPause?: number;
+  /** Milliseconds without a message after which a live connection is tried by an ask. */
+  beat?: number;
 }
 
 /** What a link is made with. Functions are called as listeners of the events are. */
@@ -426,7 +437,7 @@ export declare class Flow {
   /** Takes a message of the server. */
   hear(bytes: Uint8Array, now: number): void;
   /** Goes on as another client, with what waits made again. */
-  beginAnew(state: LinkState, how?: { scan?: boolean; drop?: boolean; from?: bigint }): void;
+  beginAnew(state: LinkState, how?: { scan?: boolean; from?: bigint }): void;
 }
 /** Returns the change of the text of an edit's message. */
 export declare function changeOf(message: string): string;

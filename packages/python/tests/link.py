@@ -42,14 +42,25 @@ async def becomes(link: Link, state: State) -> None:
 
 
 class Refusing:
-    """A made-up server that takes pages and whole numbers, and answers any other edit by the No `no`. It ends the connection then."""
+    """A made-up server that takes pages and whole numbers, and answers any other edit by the No `no`. It ends the connection then. With `live` it
+    tells unasked what it has."""
 
-    def __init__(self, no: int) -> None:
-        self.no, self.clients, self.log = no, 0, []
+    def __init__(self, no: int, live: bool) -> None:
+        self.no, self.live, self.clients, self.log = no, live, 0, []
 
     async def talk(self, socket, path=None) -> None:
+        place = None
         async for message in socket:
-            for answer in self.answers(*json.loads(message)):
+            what, *given = json.loads(message)
+            if what == "live":
+                place = given[1] if self.live else None
+                await socket.send(b'["no",9]' if place is None else b'["idle"]')
+                continue
+            answers = self.answers(what, *given)
+            if place is not None and answers != [["no", self.no]]:
+                answers += self.answers("ask", given[0], place)[:-1]
+                place = len(self.log)
+            for answer in answers:
                 await socket.send(json.dumps(answer, separators=(",", ":")).encode())
                 if answer[0] == "no":
                     return
@@ -68,19 +79,20 @@ class Refusing:
         return [["idle"]]
 
 
-async def taken_out_later(no: int, reason: State) -> None:
-    """The connection ends right after the No to an edit. The edit is lost for the reason of that No, whatever the state is on the next connection."""
-    anew, states = [], []
-    async with websockets.serve(Refusing(no).talk, "127.0.0.1", 0) as server:
+async def taken_out_later(no: int, reason: State, live: bool) -> None:
+    """The connection ends right after the No to an edit. The edit is lost for the reason of that No, whatever the state is on the next connection, and
+    the client goes on under its id."""
+    refused, states = [], []
+    async with websockets.serve(Refusing(no, live).talk, "127.0.0.1", 0) as server:
         url = f"ws://127.0.0.1:{server.sockets[0].getsockname()[1]}/"
-        async with Link(Client(), url, document=False, retry=0.05, anew=anew.append, state=lambda it: states.append(it.state)) as link:
+        async with Link(Client(), url, document=False, retry=0.05, refused=refused.append, state=lambda it: states.append(it.state)) as link:
             page = link.client.create_last("page", ROOT)
             await link.settled()
             link.client.set(page, "a", "text")
             link.client.set(page, "b", 2)
             await link.settled()
-            assert link.client.object(page).properties == {"b": 2}
-    assert [(it["made"], [code for _, code in it["lost"]], it["unsure"]) for it in anew] == [(1, [reason.value], [])], anew
+            assert (link.client.id, link.client.acknowledged, link.client.object(page).properties) == (1, 3, {"b": 2})
+    assert [(it["number"], it["name"], json.loads(it["change"])[2]) for it in refused] == [(2, reason.value, "a")], refused
     assert states == [State.ONLINE, reason, State.ONLINE, State.CLOSED], states
 
 
@@ -105,8 +117,9 @@ async def offline(link: Link) -> None:
 
 
 async def main(program: str) -> None:
-    await taken_out_later(8, State.TOO_LARGE)
-    await taken_out_later(9, State.UNREADABLE)
+    for live in (False, True):
+        await taken_out_later(8, State.TOO_LARGE, live)
+        await taken_out_later(9, State.UNREADABLE, live)
     folder = pathlib.Path(tempfile.mkdtemp())
     server = Server(program, folder)
     server.run()

@@ -2,6 +2,7 @@
 
 import ctypes
 import json
+import re
 from dataclasses import dataclass, field
 from typing import Callable
 
@@ -90,6 +91,24 @@ class Client:
         saved = self._text(self._calls("save", self._handle))
         self._saved_to = self.last_edit
         return saved
+
+    def emptied(self, heard: "Client") -> "Client":
+        """This client with its first edit that waits replaced by one that changes nothing: it clears a property that no object has. `heard` shows
+        the document by which all edits before that one are judged, and none since; it has no edits. The core has no call for it: it loads such a
+        client without a document, and that one receives the document as a copy."""
+        numbers = re.match(rb'\["client",\[(\d+),(\d+),', self._text(self._calls("save", self._handle)))
+        assert numbers
+        rows = re.sub(rb'^\["client",\[[\d,]+\],\[\],', b"", heard._text(heard._calls("save", heard._handle)), count=1)[:-1]
+        name = b"_"
+        while b'["%b",' % name in rows:
+            name += b"_"
+        changes = [b'["clear",[0,0],"%b"]' % name]
+        changes += [re.sub(rb'^\["edit",\d+,\d+,', b"", message, count=1)[:-1] for message in self.messages()[1:]]
+        begun = b"%b,%b,%d,%d" % (numbers.group(1), numbers.group(2), heard.version - 1, self.acknowledged)
+        made = Client(b'["client",[%b],[%b],[[[0,0],"document",null,[]]]]' % (begun, b",".join(changes)))
+        made.receive(b'["copy",%d,%d,%b]' % (heard.version, self.acknowledged, rows))
+        made._saved_to = self._saved_to
+        return made
 
     def close(self) -> None:
         """Ends the client, with all that waits."""

@@ -19,6 +19,9 @@ ENDLESS = 1 << 62
 MOST_AHEAD = 4  # asks at once where a round trip's news fill more than one answer
 MOST_WAIT = 10  # seconds before what a server couldn't keep is sent again
 PROVEN, PROVEN_AFTER = 3, 2  # asks that must miss an edit that was answered, and for how long
+MISSED_AFTER = 0.7  # seconds after which a live connection is asked for an edit that was answered and hasn't come
+OBSERVER = b'["client",[4294967295,0,0,0],[],[[[0,0],"document",null,[]]]]'  # a client of an id that no server gives
+NEVER = float("inf")
 
 _UNJUDGED = (3, 4, 8, 9)  # reasons of a No to an edit that wasn't judged
 _HELD = (State.DISK_FAILED, State.DISK_FAILED_BEFORE, State.NO_MEMORY)
@@ -45,6 +48,7 @@ class _Sent:
     what: str
     size: int
     number: int = 0
+    id: int | None = None
     first: bool = False
     start: int = 0
     at: float = 0.0
@@ -61,16 +65,15 @@ class _Sent:
 
 @dataclass
 class _Anew:
-    state: State
-    scans: bool  # whether the log is to be looked through
-    start: int
-    drop: bool
+    scans: bool = False  # whether the log is to be looked through
+    start: int = 0
     looks: bool = False  # whether it is still to be
     client: Client = field(default_factory=Client)
     step: str = "join"
     found: dict[int, str] = field(default_factory=dict)
     done: int = 0
     asking: bool = False
+    replaces: bool = False  # the client is an observer: it hears the document again, for an edit that is replaced
 
 
 class Flow:
@@ -78,11 +81,12 @@ class Flow:
     came; `events` has what came of it."""
 
     def __init__(self, client: Client, window: int = 64, window_bytes: int = 262144, asks: int = 4, most_asks: int = 32,
-                 least_pause: float = 0.005, most_pause: float = 0.4, second: float = 1.0) -> None:  # fmt: skip
+                 least_pause: float = 0.005, most_pause: float = 0.4, second: float = 1.0, beat: float | None = None) -> None:  # fmt: skip
         self.client = client
         self.second = second  # how much of the clock is a second
         self.window, self.window_bytes, self.asks, self.most_asks = window, window_bytes, asks, most_asks
         self.least_pause, self.most_pause = least_pause, most_pause
+        self.beat = 20 * second if beat is None else beat  # without a message for so long, a live connection is tried by an ask
         self.limit = ENDLESS  # edits above this number aren't sent yet: they aren't kept
         self.judged = 0  # the greatest number of an edit that was answered by idle
         self.tried = client.last_edit  # the same of one that may have been judged without an answer: sent over a connection that was lost, or before
@@ -90,8 +94,9 @@ class Flow:
         self.words = ""
         self.fifo: list[_Sent] = []
         self.anew: _Anew | None = None
-        self.dropping = 0  # the reason of the No for which an edit must be taken out, or 0
+        self.dropping = 0  # the reason of the No for which an edit must be replaced, or 0
         self.dropped = 0  # the number of that edit
+        self.emptied = 0  # the number of the last one that was replaced
         self.events: list[Event] = []
         self._reset()
 
@@ -112,6 +117,10 @@ class Flow:
         self.trip, self.lately = 0.0, 0
         self._missing: tuple[float, int] | None = None
         self.is_full = False
+        self.is_live = False  # what is published comes unasked
+        self.told: int | None = None  # the id for which it does: another one than the client's until the next `live` is answered
+        self.live_at = 0.0  # when `live` may be sent; never while one is under way, or where the server has no such word
+        self.is_older = False  # it has none
 
     def open(self, now: float) -> None:
         """A connection is open."""
@@ -127,7 +136,7 @@ class Flow:
 
     def wake(self, now: float) -> None:
         """Something is to be sent, or heard: no pause is waited out."""
-        if self.is_open:
+        if self.is_open and not self._is_told():
             self.ask_at = min(self.ask_at, now)
             self.pause = self.least_pause
 
@@ -139,7 +148,7 @@ class Flow:
     @property
     def is_settled(self) -> bool:
         """Whether nothing waits, and what there is was heard."""
-        return self.is_caught_up and self.anew is None and self.client.waiting == 0
+        return self.is_caught_up and self.anew is None and self.client.waiting == 0 and self.edits == 0
 
     # What to send.
 
@@ -156,6 +165,7 @@ class Flow:
         else:
             if self.anew is None and not self.is_full and not self.dropping:
                 self._send_edits(out, now)
+            self._live(out, now)
             self._ask(out, now)
         return out
 
@@ -170,6 +180,8 @@ class Flow:
         waits = [self.ask_at - now] if self._may_ask() else []
         if self.hold_until > now and self.client.waiting:
             waits.append(self.hold_until - now)
+        if self._may_live():
+            waits.append(self.live_at - now)
         return max(0.0, min(waits)) if waits else None
 
     def _hearer(self) -> Client:
@@ -195,9 +207,27 @@ class Flow:
             self.bytes += len(message)
             self._push(out, message, _Sent("edit", 0, number=self.sent, first=self.sent == known + 1))
             pushed = True
-        if pushed:
+        if pushed and not self._is_told():
             self.ask_at = now
             self.pause = self.least_pause
+
+    def _may_live(self) -> bool:
+        return self.is_caught_up and self.anew is None and not self.is_live and self.live_at < NEVER
+
+    def _live(self, out: list[bytes], now: float) -> None:
+        if not self._may_live() or now < self.live_at:
+            return
+        self.live_at = NEVER
+        self.ask_at = now + self.beat
+        self._push(out, f'["live",{self.client.id},{self.client.version}]'.encode(), _Sent("live", 0, id=self.client.id))
+
+    def _is_told(self) -> bool:
+        """Whether what is published comes unasked, or will once `live` is answered."""
+        return self.anew is None and (self.is_live or (self.live_at == NEVER and not self.is_older))
+
+    def _is_missing(self) -> bool:
+        """Whether an edit was answered whose entry hasn't come."""
+        return self.judged > self.client.acknowledged
 
     def _may_ask(self) -> bool:
         return self.asking < (self.width if self.width > 1 else self._steady())
@@ -216,58 +246,123 @@ class Flow:
             self.top = start + MOST_ENTRIES
             self.asking += 1
             self.asked_at = now
-            self._push(out, _ask_text(client.id, start), _Sent("ask", 0, start=start, at=now, last_judged=self.judged, counted=True, round=self.round))
-            self.ask_at = now + max(self.least_pause, self.trip / self._steady())
+            asker = self.client if self.anew and self.anew.replaces else client
+            self._push(out, _ask_text(asker.id, start), _Sent("ask", 0, start=start, at=now, last_judged=self.judged, counted=True, round=self.round))
+            self.ask_at = now + (self.beat if self._is_told() else max(self.least_pause, self.trip / self._steady()))
+
+    def _rest(self, now: float, nearer: bool = True) -> None:
+        """On a live connection the next ask is far off, whenever a message comes; but where an edit was answered and its entry doesn't come, it is
+        asked for."""
+        if not self._is_told():
+            return
+        missing = self._is_missing()
+        at = now + (MISSED_AFTER * self.second if missing else self.beat)
+        self.ask_at = min(self.ask_at, at) if missing and not nearer else at
 
     # What is heard.
 
     def hear(self, message: bytes, now: float) -> None:
         """A message of the server. What came of it stands in `events`."""
+        was_settled = self.is_settled
+        self._hear(message, now)
+        if self.is_live and not was_settled and self.is_settled:
+            self.events.append(Event("caught up"))
+
+    def _hear(self, message: bytes, now: float) -> None:
         letter = message[2:3]  # of ["welcome", ["entry", ["copy", ["idle"], ["no"
-        if not self.fifo:
+        is_part = letter in (b"e", b"c")
+        head = self.fifo[0] if self.fifo else None
+        if is_part and self.told is not None and (head is None or head.what != "ask"):
+            return self._part_unasked(letter, message, now)
+        if head is None:
             return self._fault("an answer came that nobody has asked for")
-        head = self.fifo[0]
         if head.void or (self.anew and self.anew.step == "scan"):
             return self._pass(head, letter, message, now)
-        client = self._hearer()
-        if letter == b"c" and client is self.client and self._hides_twin(message):
-            return self.begin_anew(State.REPLACED, scan=True)
+        if is_part:
+            return self._part(head, letter, message, now)
         try:
-            heard = client.receive(message)
+            heard = self._hearer().receive(message)
         except (ClientError, MemoryError) as fault:
             return self._fault(str(fault) or "there is no memory left")
-        if letter in (b"e", b"c"):
-            head.entries += 1
-            head.copy = head.copy or letter == b"c"
-            if heard.took:
-                head.took = True
-                if client is self.client:
-                    self.events.append(Event("took"))
-                    self._tell_refusal(message, letter)
-            elif heard.what is What.AHEAD:
-                head.ahead = True
-            elif heard.what is What.NOT_FOR_ME and client is self.client:
-                self._another(letter, message)
-            if self.anew and self.anew.client is client and letter == b"e":
-                self._find(message)
-            elif self.anew and self.anew.client is client and heard.took:
-                self.anew.looks = self.anew.scans  # a copy has hidden what came since
-            return None
         self.fifo.pop(0)
         if heard.what is What.NO:
             return self._no(head, heard.reason, now)
         if head.what == "edit":
-            self._left(head)
-            self.judged = max(self.judged, head.number)
-            self.hold_for = self.second
-            self._online()
+            self._judged_to(head, now)
         elif head.what == "ask":
             self._answered(head, now)
+        elif head.what == "live":
+            self._gone_live(head, now)
         else:
             self.events.append(Event("took"))
             self._online()
             self.ask_at = now
         return None
+
+    def _part_unasked(self, letter: bytes, message: bytes, now: float) -> None:
+        """An entry or a copy that comes unasked. Who begins anew asks for all by itself."""
+        if self.anew is None:
+            self._part(None, letter, message, now)
+
+    def _part(self, head: _Sent | None, letter: bytes, message: bytes, now: float) -> None:
+        """An entry or a copy: of the answer to `head`, or unasked where that is None."""
+        anew, known = self.anew, self.client.acknowledged
+        if letter == b"c" and anew is None and self._is_told_other():
+            if head:
+                head.ahead = True
+            return None
+        if letter == b"c" and anew is None and self._hides_twin(message):
+            return self.begin_anew(State.REPLACED, scan=True)
+        try:
+            heard = self._hearer().receive(_seen_by_no_one(message) if letter == b"c" and anew and anew.replaces else message)
+        except (ClientError, MemoryError) as fault:
+            return self._fault(str(fault) or "there is no memory left")
+        if head:
+            head.entries += 1
+            head.copy = head.copy or letter == b"c"
+            head.took = head.took or heard.took
+            head.ahead = head.ahead or heard.what is What.AHEAD
+        elif heard.what is What.AHEAD:
+            self._gap(now)
+        if anew:
+            self._part_anew(anew, letter, message, heard.took)
+        elif heard.took:
+            self.events.append(Event("took"))
+            self._tell_refusal(message, letter)
+        elif heard.what is What.NOT_FOR_ME:
+            self._another(letter, message)
+        return self._rest(now, self.client.acknowledged != known)
+
+    def _part_anew(self, anew: _Anew, letter: bytes, message: bytes, took: bool) -> None:
+        if anew.replaces:
+            if took:
+                self._count_own(anew, letter, message)
+        elif letter == b"e":
+            self._find(message)
+        elif took:
+            anew.looks = anew.scans  # a copy has hidden what came since
+
+    def _gap(self, now: float) -> None:
+        """What came unasked leaves something out, as no server does that keeps the protocol. It is asked for, and then `live` is sent once more."""
+        if self.is_live:
+            self.is_live = self.is_caught_up = False
+            self.live_at = self.ask_at = now
+
+    def _gone_live(self, head: _Sent, now: float) -> None:
+        self.told = head.id
+        self.is_live = head.id == self.client.id
+        self._rest(now)
+
+    def _is_told_other(self) -> bool:
+        """Where what comes unasked is for the id that was given up, a copy counts that one's edits. All is told again from the next `live` on."""
+        return self.told is not None and self.told != self.client.id
+
+    def _judged_to(self, head: _Sent, now: float) -> None:
+        self._left(head)
+        self.judged = max(self.judged, head.number)
+        self.hold_for = self.second
+        self._online()
+        self._rest(now, nearer=False)
 
     def _left(self, head: _Sent) -> None:
         if head.what == "edit":
@@ -301,18 +396,21 @@ class Flow:
         spaced = self.asked_at + max(self.pause, self.trip / steady) if steady > 1 else now + self.pause
         self.ask_at = now if head.copy or head.ahead else max(now, spaced)
         if not head.copy and not head.ahead:
+            self._rest(now)
             self._caught_up(head, now)
 
     def _caught_up(self, head: _Sent, now: float) -> None:
         if self.anew and self.anew.looks:
             self.anew.step = "scan"
             return None
+        if self.anew and self.anew.replaces:
+            return self._replace(self.anew)
         if self.anew:
             return self._swap()
         self.is_caught_up = True
         self._misses(head, now)
         if self.dropping and self.client.acknowledged >= self.dropped - 1:
-            self._begin_anew_without()
+            self._begin_replacing(now)
         self.events.append(Event("caught up"))
         return None
 
@@ -371,6 +469,8 @@ class Flow:
         name, words = NO_REASONS.get(reason, ("fault", f"the server refuses for the reason {reason}"))
         state = State(name) if name in _STATES else State.FAULT  # no server that keeps the protocol sends the others here
         self._left(head)
+        if head.what == "live":
+            return self._not_live(reason, now)
         if reason == 1:
             return self._unknown()
         if head.what == "ask":
@@ -394,15 +494,31 @@ class Flow:
         self._tell(state, words)
         if reason == 4:
             self.is_full = True
-        elif reason in (8, 9):
+        elif reason not in (8, 9):
+            self._hold(now)
+        elif head.number == self.emptied:
+            self._fault(words)  # it takes no edit at all
+        else:
             self.dropping, self.dropped = reason, head.number
             self.ask_at = now
+        return None
+
+    def _not_live(self, reason: int, now: float) -> None:
+        """The server has another history, in which the id may have edits; no memory for now; or no such word."""
+        if reason == 1:
+            return self.begin_anew(State.STRANGER, scan=True, start=0)
+        if reason == 7:
+            self.live_at = now + self.second
         else:
-            self._hold(now)
+            self.is_older = True
+        self.ask_at = now
+        self.pause = self.least_pause
         return None
 
     def _unknown(self) -> None:
         """The server doesn't know the id. While this begins anew it is the new one, which joins once more."""
+        if self.anew and self.anew.replaces:
+            self.anew = None
         if self.anew is None:
             return self.begin_anew(State.STRANGER)
         for it in self.fifo:
@@ -420,15 +536,19 @@ class Flow:
         scan = self.anew if self.anew and self.anew.step == "scan" and head.scan else None
         if scan and not ends:
             head.entries += 1
-            if letter == b"e":
-                self._find(message)
-                scan.start += 1
-            else:
+            if letter == b"c":
                 scan.start, scan.done = _head_of_copy(message)
+            else:
+                self._find(message)
+                scan.start += _version_of(message) == scan.start + 1  # what comes unasked is of later ones
         if not ends:
             return
         self.fifo.pop(0)
         self._left(head)
+        if head.what == "live" and letter == b"i":
+            self.told = head.id
+        elif head.what == "live" and _reason_of(message) not in (1, 7):
+            self.is_older, self.live_at = True, NEVER
         if head.what == "edit" and letter == b"i":
             self.judged = max(self.judged, head.number)
         elif head.what == "edit" and _reason_of(message) not in _UNJUDGED:
@@ -436,9 +556,12 @@ class Flow:
         if scan:
             self._scanned(scan, head, letter, message, now)
 
+    def _is_own_entry(self, message: bytes) -> bool:
+        return message.startswith(f"[{self.client.id},".encode(), message.find(b",", 9) + 1)  # behind ["entry",VERSION,
+
     def _find(self, message: bytes) -> None:
         """Notes an entry of the id that is given up."""
-        if self.anew is None or not message.startswith(f"[{self.client.id},".encode(), message.find(b",", 9) + 1):  # behind ["entry",VERSION,
+        if self.anew is None or not self._is_own_entry(message):
             return
         _, number, what, _ = members(members(message.decode())[2])
         self.anew.found[int(number)] = what
@@ -456,26 +579,26 @@ class Flow:
 
     # Beginning anew.
 
-    def begin_anew(self, state: State, scan: bool = False, drop: bool = False, start: int | None = None) -> None:
+    def begin_anew(self, state: State, scan: bool = False, start: int | None = None) -> None:
         """Goes on as another client: joins and hears what there is; then looks through the log, if `scan`, for what was judged of the edits that
         wait; hears what came meanwhile; and makes again what waits and was never judged."""
         if self.anew or self.client.id is None:
             return  # without an id it has neither edits nor news
         for it in self.fifo:
             it.void = True
-        self.anew = _Anew(state, scan, self.client.version if start is None else start, drop, looks=scan)
+        self.anew = _Anew(scan, self.client.version if start is None else start, looks=scan)
         self.dropping = 0
-        self._missing = None
-        self.top, self.width = 0, 1
+        self._leave()
         words = "another program uses this id; it begins anew" if state is State.REPLACED else self.words if state is self.state else "the server has another history; it begins anew"
         self._tell(state, words)
 
-    def _begin_anew_without(self) -> None:
-        """Begins anew without the edit that the server can't take, once those before it are judged. The connection may be another one than that
-        of the No, so the state is that of its reason again."""
-        name, words = NO_REASONS[self.dropping]
-        self._tell(State(name), words)
-        self.begin_anew(self.state, scan=True, drop=True)
+    def _leave(self) -> None:
+        """Another client hears now. What is told unasked isn't for that one."""
+        self._missing = None
+        self.top, self.width = 0, 1
+        self.is_live = False
+        if not self.is_older:
+            self.live_at = 0.0
 
     def _scan(self, out: list[bytes], now: float) -> None:
         assert self.anew is not None
@@ -516,25 +639,68 @@ class Flow:
         first = self.client.acknowledged + 1
         changes = [change_of(message) for message in self.client.messages()]
         fates = [self._fate(anew, number, change) for number, change in enumerate(changes, first)]  # before what is made again changes what is shown
-        for number, (change, fate) in enumerate(zip(changes, fates), first):
+        for change, fate in zip(changes, fates):
             if fate == "judged":
                 continue
             if fate == "unsure":
                 unsure.append(change)
                 continue
-            code = anew.state.value if anew.drop and number == first else remake(anew.client, change, ids)
+            code = remake(anew.client, change, ids)
             if code:
                 lost.append((change, code))
             else:
                 made += 1
         self.anew = None
-        self.judged = self.tried = self.sent = 0
+        self.judged = self.tried = self.sent = self.emptied = 0
         self.is_full = False
         self.client.become(anew.client)
         self.events.append(Event("anew", {"made": made, "lost": lost, "unsure": unsure, "ids": ids}))
         self.is_caught_up = True
         self._tell(State.ONLINE, "")
         self.events.append(Event("caught up"))
+
+    # An edit that the server can't take.
+
+    def _begin_replacing(self, now: float) -> None:
+        """Once those before it are judged, its number is given to one that changes nothing. What it did to the view can't be taken back, as the
+        client keeps no document without it: so an observer hears the document again. The connection may be another one than that of the No."""
+        if self.client.acknowledged >= self.dropped:  # it was judged before the No
+            self.dropping = 0
+            return self._online()
+        name, words = NO_REASONS[self.dropping]
+        self._tell(State(name), words)
+        for it in self.fifo:
+            it.void = True
+        self.anew = _Anew(client=Client(OBSERVER), replaces=True)
+        self._leave()
+        self.ask_at = now
+        return None
+
+    def _count_own(self, anew: _Anew, letter: bytes, message: bytes) -> None:
+        if letter == b"c":
+            anew.done = _head_of_copy(message)[1]
+        elif self._is_own_entry(message):
+            anew.done = int(members(members(message.decode())[2])[1])
+
+    def _replace(self, anew: _Anew) -> None:
+        """The observer has heard all. If the server counts other edits of the client than it has heard of, it has another history, or another program
+        uses the id."""
+        known, (name, words) = self.client.acknowledged, NO_REASONS[self.dropping]
+        self.anew = None
+        if anew.done != known or anew.client.version < max(1, self.client.version):
+            return self.begin_anew(State.REPLACED if anew.done > known else State.STRANGER, scan=True, start=0)
+        change = change_of(self.client.messages()[0])
+        edit, at, *_ = members(change)
+        self.client.become(self.client.emptied(anew.client))
+        self.dropping = 0
+        self.emptied = known + 1
+        if self.limit != ENDLESS:
+            self.limit = known  # the client is to be kept before the edit is sent
+        told = {"version": self.client.version, "number": known + 1, "edit": json.loads(edit), "id": ObjectId(*json.loads(at)), "name": name, "words": words, "change": change}
+        self.events.append(Event("refused", told))
+        self._tell(State.ONLINE, "")
+        self.events.append(Event("caught up"))
+        return None
 
     # States.
 
@@ -555,6 +721,16 @@ class Flow:
 
 def _ask_text(id: int | None, version: int) -> bytes:
     return f'["ask",{id},{version}]'.encode()
+
+
+def _seen_by_no_one(copy: bytes) -> bytes:
+    """A copy for an observer, to which no edit is its own."""
+    return re.sub(rb'^(\["copy",\d+,)\d+', rb"\g<1>0", copy, count=1)
+
+
+def _version_of(message: bytes) -> int:
+    found = re.match(rb'\["[a-z]+",(\d+)', message)
+    return int(found.group(1)) if found else 0
 
 
 def _head_of_copy(copy: bytes) -> tuple[int, int]:

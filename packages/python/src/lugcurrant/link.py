@@ -329,15 +329,18 @@ class Link:
     def _take_event(self, event: Event) -> bool:
         if event.type == "state":
             self._tell(event.detail["state"], event.detail["words"])
-        elif event.type == "refused" and self._callbacks[2]:
-            self._callbacks[2](event.detail)
+        elif event.type == "refused":
+            if "change" in event.detail:
+                self._kept_to = self.client.acknowledged
+            if self._callbacks[2]:
+                self._callbacks[2](event.detail)
         elif event.type == "anew":
             self._kept_to = 0
             if self._callbacks[3]:
                 self._callbacks[3](event.detail)
         elif event.type == "caught up":
             self._caught_up = True
-        return event.type in ("took", "anew")
+        return event.type in ("took", "anew") or "change" in event.detail
 
     def _change(self, own: bool) -> None:
         self._tick += 1
