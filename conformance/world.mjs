@@ -126,6 +126,24 @@ class Player {
   // Hears what was held back, the last one first.
   release() { for (const part of this.held.splice(0).reverse()) this.hear(part); }
 
+  // Sends the i-th of the edits that wait, before the answers to those before it have come; hears so many of these answers.
+  sendAhead(i) { return this.send(i, { hold: [0] }); }
+  hearHeld(count) { for (const part of this.held.splice(0, count)) this.hear(part); }
+
+  // Sends it over a connection that is lost before the server reads it.
+  sendInVain(i) { this.lines.push(`["send",${Buffer.from(this.client.editMessage(i)).toString()}]`); }
+
+  // Hears what a live server tells unasked: so many messages of what comes after the version, but for those that are lost. The world asks for it.
+  async told(count = 64, { lose = [] } = {}) {
+    const answer = await this.connection.round(Buffer.from(this.client.askMessage()).toString());
+    answer.slice(0, -1).slice(0, count).forEach((part, at) => { if (!lose.includes(at)) this.hear(part); });
+  }
+
+  async reconnect() {
+    this.connection.close();
+    this.connection = await Connection.open(this.world.server.url);
+  }
+
   join(how) { return this.round(Buffer.from(this.client.joinMessage()).toString(), how); }
   ask(how) { return this.round(Buffer.from(this.client.askMessage()).toString(), how); }
   send(i, how) { return this.round(Buffer.from(this.client.editMessage(i)).toString(), how); }

@@ -361,6 +361,81 @@ export const worlds = {
     await world.settle();
   },
 
+  // What a live connection brings: messages that nobody has asked for, between the answers to edits that were sent ahead.
+  async unasked(world) {
+    const { s, a, b, page, frame, x, y } = await furnished(world);
+    await s.set(x, 'fill', 1);
+    await a.told();
+    a.set(x, 'fill', 2);
+    a.set(frame, 'name', 'mine');
+    a.move(y, page);
+    for (const i of [1, 2, 3]) await a.sendAhead(i);
+    b.set(x, 'fill', 3);
+    await b.send(1);
+    a.hearHeld(1);
+    await a.told(1);
+    a.set(x, 'fill', 4);
+    a.hearHeld(2);
+    await a.told(2);
+    await b.told();
+    await s.set(frame, 'name', 'theirs');
+    await s.move(y, frame, 'k');
+    await a.told(64, { lose: [0] });
+    await a.told();
+    await a.sendAhead(1);
+    const made = b.create('shape', frame, x);
+    b.set(made, 'fill', 5);
+    await b.sendAhead(1);
+    await b.sendAhead(2);
+    b.hearHeld(2);
+    await b.told();
+    a.hearHeld(1);
+    await a.told(2);
+    a.delete(made);
+    await a.told();
+    a.create('frame', page);
+    await s.set(page, 'name', 'hidden by a copy');
+    await world.restart();
+    await a.told();
+    await b.told();
+    await world.settle();
+  },
+
+  // Edits under way where a connection is lost: of some the answers never came, others were never read, and more were made. All are sent again.
+  async loss(world) {
+    const { s, a, b, page, frame, x, y, z } = await furnished(world);
+    a.set(x, 'fill', 1);
+    const made = a.create('shape', frame, x);
+    a.move(y, page);
+    a.delete(z);
+    await a.send(1, { lose: 'all' });
+    await a.send(2, { lose: 'all' });
+    for (const i of [3, 4]) a.sendInVain(i);
+    await a.reconnect();
+    b.set(x, 'fill', 2);
+    b.set(z, 'fill', 3);
+    b.move(y, frame, x);
+    await b.sendAll();
+    a.set(made, 'fill', 4);
+    for (const i of [1, 2, 3, 4, 5]) await a.sendAhead(i);
+    await a.told(3);
+    a.hearHeld(2);
+    a.set(x, 'fill', 5);
+    a.hearHeld(3);
+    await a.ask();
+    await a.send(1, { lose: 'all' });
+    a.clear(made, 'fill');
+    a.sendInVain(2);
+    await a.reconnect();
+    await s.set(made, 'fill', 6);
+    await world.restart();
+    await a.ask();
+    for (const i of [1]) await a.sendAhead(i);
+    a.hearHeld(1);
+    await b.ask();
+    await world.settle();
+  },
+
   // Messages that aren't for this client, or come at a wrong time: made by hand, and heard by the proved client.
   async strange(world) {
     const a = await world.player('a');
