@@ -43,8 +43,9 @@ static void tell(const lugcurrant_flow_event *event)
         if (event->state != LUGCURRANT_STATE_ONLINE)
             fprintf(stderr, "page: %s: %s\n", lugcurrant_state_name(event->state), event->words);
     } else if (event->type == LUGCURRANT_FLOW_REFUSED) {
+        bool is_untaken = event->lost_count > 0; /* the server can't take it */
         fprintf(stderr, "page: edit %" PRIu64 " (%s) was refused: %s\n", event->number, event->edit,
-                lugcurrant_refusal_sentence(event->reason));
+                is_untaken ? lugcurrant_fault_sentence(event->reason) : lugcurrant_refusal_sentence(event->reason));
     } else if (event->type == LUGCURRANT_FLOW_ANEW) {
         for (size_t k = 0; k < event->lost_count; k++)
             fprintf(stderr, "page: lost %s: %s\n", event->lost[k].change, lugcurrant_fault_sentence(event->lost[k].code));

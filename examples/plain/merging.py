@@ -120,23 +120,35 @@ class Client:
         """Sends what waits, and asks until an answer brings the client no further."""
         if self.id is None:
             self.round(link, ["join", 2])
-        for number, change in enumerate(list(self.waiting), self.acknowledged + 1):
-            self.round(link, ["edit", self.id, number, change])
+        for at in range(len(self.waiting)):
+            number = self.acknowledged + 1 + at
+            if self.round(link, ["edit", self.id, number, self.waiting[at]]) == "no":
+                self.empty(at)
+                self.round(link, ["edit", self.id, number, self.waiting[at]])
         before = None
         while before != self.version:
             before = self.version
             self.round(link, ["ask", self.id, self.version])
 
+    def empty(self, at):
+        """Puts an edit that changes nothing in the place of one that the server can't take. No edit gets another number: the server may still
+        read one of the old number from a connection that is lost, and would judge it in place of the one that has the number now."""
+        name = "_"
+        while name in self.base[ROOT]["props"]:
+            name += "_"
+        self.waiting[at] = ["clear", list(ROOT), name]
+
     def round(self, link, message):
-        """Sends a message, and receives its answer up to the message that ends it."""
+        """Sends a message, and receives its answer up to the message that ends it. The word of that: `no` says that an edit is too large or can't
+        be read."""
         link.send(message)
         while True:
             answer = link.receive()
             self.receive(answer)
-            if answer[0] == "no":
+            if answer[0] == "no" and (message[0] != "edit" or answer[1] not in (8, 9)):
                 raise RuntimeError(f"{message} was answered no {answer[1]}")
-            if answer[0] in ("welcome", "idle"):
-                return
+            if answer[0] in ("welcome", "idle", "no"):
+                return answer[0]
 
 
 def place_after(view, parent, after, moved=None):
