@@ -383,7 +383,7 @@ export class World {
     assert(isSettled(), `not settled: ${this.players.map(told)}`);
     for (const { client } of this.players) assert.equal(client.text(), this.server.text(), 'all show the server\'s document');
     checkOnce(this);
-    if (this.server.isLive && !this.kinds.skips && !this.kinds.behind) this.#endLive();
+    if (this.server.isLive && !this.kinds.skips && !this.kinds.behind && !this.kinds.twins) this.#endLive();       // a twin may be found out at any time
     return this.stat;
   }
 
@@ -394,12 +394,12 @@ export class World {
     this.run(this.now + 30000, () => this.players.every(({ client, flow, link }) => link && flow.isLive && !flow.fifo.length && client.version === this.server.version));
     assert(this.players.every(({ flow }) => flow.isLive), `all are live: ${this.players.map(({ flow }) => flow.isLive)}`);
     this.run(this.now + 3000);          // what was under way on lost connections arrives
-    const { asks } = this.server;
     for (const { link } of this.players) link.lag = 5;
     tracedClient(one.client, one.n).set('0:0', 'a', 'last');
     this.pump(one);
     this.run(this.now + 3.1 * slowest + 1500);
     for (const { client, flow } of this.players) assert(flow.isSettled && client.version === this.server.version, 'all have heard of an edit');
+    const { asks } = this.server;
     this.run(this.now + 10000);
     assert.equal(this.server.asks, asks, 'nobody has asked');
   }
