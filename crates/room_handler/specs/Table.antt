@@ -1,5 +1,5 @@
 -- What is answered a client's message at a seat.
-use Rattle.std.specs.Prelude.{◌≡◌, ◌⊎◌, ℕ, true, false, List, [], ◌∷◌, ◌++◌}
+use Rattle.std.specs.Prelude.{◌≡◌, ◌<◌, ◌≤◌, ◌⊎◌, ℕ, true, false, List, [], ◌∷◌, ◌++◌, Option, None, Some}
 use Rattle.canvas_model.specs.State.{joined}
 use Rattle.canvas_model.specs.Log.{What, Join, Edit, Entry}
 use Rattle.canvas_model.specs.Verdict.{Outcome, Joined}
@@ -84,6 +84,12 @@ TellsTexts b client from texts = (answer : List Message) × TellsNews b client f
 -- what is answered an Ask: the news of the board that was seen, or a No to a client that hasn't joined by then
 abbrev pub AnswersAsk : Served → ℕ → ℕ → List Message → Type 0
 AnswersAsk b client from answer = TellsNews b client from answer ⊎ ((joined b.state client ≡ false) × (answer ≡ refusal_alone no.Stranger))
+
+-- what a client is told unasked that was told all up to a version: nothing where nothing is published after that, or where it hasn't joined; and
+-- else what an Ask from there is answered, without its Idle
+abbrev pub IsPush : Served → ℕ → ℕ → Option (List Message) → Type 0
+IsPush b client from None = (b.version ≤ from) ⊎ (joined b.state client ≡ false)
+IsPush b client from (Some told) = (from < b.version) × TellsNews b client from (told ++ Idle ∷ [])
 
 -- what is answered a message, and what has been seen then: by the kind of the message
 abbrev pub IsAnswerToMessage : Opening → List Mark → Message → List Message → List Mark → Type 0

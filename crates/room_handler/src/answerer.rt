@@ -1,11 +1,14 @@
 // A seat as what answers the clients of connections.
-ghost use Rattle.std.specs.Prelude.{◌≡◌, IfOk, IfSome, map};
+ghost use Rattle.std.specs.Prelude.{◌≡◌, ◌↔◌, IfOk, IfSome, IsTrue, map};
+ghost use Rattle.std.specs.Option.{option_map};
 ghost use Rattle.canvas_model.specs.Messages as messages;
 ghost use Rattle.canvas_judge.specs.Seen.{seen_message};
 ghost use Rattle.canvas_nodes.specs.Answers.{GivesTexts, IsAnswer};
-ghost use Rattle.room_handler.specs.Table.{Gives, SeesOn};
+ghost use Rattle.canvas_board.specs.Marks.{board};
+ghost use Rattle.canvas_board.specs.News.{HasReached};
+ghost use Rattle.room_handler.specs.Table.{Gives, IsPush, SeesOn};
 
-use crate::asking::answer_ask;
+use crate::asking::{answer_ask, push};
 use crate::{CHECKPOINT_AT, SharedCopy, answer};
 use canvas_board::RoomName;
 use canvas_journal::Keeper;
@@ -98,6 +101,38 @@ impl<K: Keeper + Drop, N: RoomName, R: Wait + Drop, W: Wait + Drop> SeatAnswerer
 }
 
 impl<N: RoomName, D: Drop, W: Drop> SeatAnswerer<N, D, W> {
+    /// Checks whether a client has joined, and so many entries are published. Never blocks. Errors: the room has ended.
+    pub fn has_reached(&mut self, client: u32, version: u64) -> Result<bool, AllocError>
+        ensures reached { IfOk result (λ answer. IsTrue answer ↔ HasReached (board N.opening self.new) client version) }
+        ensures sees { SeesOn N.opening self.old self.new }
+    {
+        match self.seat.has_reached(client, version) {
+            Ok(answer) => Ok(answer),
+            // A seat keeps its room, so it is never closed.
+            Err(_) => Err(AllocError),
+        }
+    }
+
+    /// How many entries are published. Never blocks. Errors: the room has ended.
+    pub fn version(&mut self) -> Result<u64, AllocError>
+        ensures version { IfOk result (λ version. version ≡ (board N.opening self.new).version) }
+        ensures sees { SeesOn N.opening self.old self.new }
+    {
+        match self.seat.version() {
+            Ok(version) => Ok(version),
+            // A seat keeps its room, so it is never closed.
+            Err(_) => Err(AllocError),
+        }
+    }
+
+    /// What a client is told unasked that was told all up to this version: `push`.
+    pub fn push(&mut self, client: u32, version: u64) -> Result<Option<Vec<Message>>, AllocError>
+        ensures tells { IfOk result (λ told. IsPush (board N.opening self.new) client version (option_map (λ messages. map seen_message messages.items) told)) }
+        ensures sees { SeesOn N.opening self.old self.new }
+    {
+        push(self.alloc, &mut self.seat, client, version)
+    }
+
     /// The texts of what is answered an Ask, where a copy has to be sent out of a copy that many are sent. That is `held`, if it is of version
     /// `least` or a later one, the client asks from below its floor, had joined by then, and the seat hasn't seen more; else one that is
     /// made now, and held from then on. Never blocks. Errors: out of memory.

@@ -1,10 +1,11 @@
-// What is answered an Ask.
+// What is answered an Ask, and what is told unasked.
 ghost use Rattle.std.specs.Prelude.{◌≡◌, ◌+◌, ◌<◌, ◌^◌, ◌++◌, ◌∷◌, [], IfOk, length, map};
+ghost use Rattle.std.specs.Option.{option_map};
 ghost use Rattle.canvas_model.specs.Messages.{Idle};
 ghost use Rattle.canvas_judge.specs.Seen.{seen_copy, seen_message};
 ghost use Rattle.canvas_board.specs.Marks.{board};
 ghost use Rattle.room_handler.specs.News.{tells};
-ghost use Rattle.room_handler.specs.Table.{AnswersAsk, SeesOn};
+ghost use Rattle.room_handler.specs.Table.{AnswersAsk, IsPush, SeesOn};
 
 use crate::messages::alone;
 use canvas_board::{News, RoomName, SeatError};
@@ -34,17 +35,48 @@ pub fn answer_ask<N: RoomName, D: Drop>(
     }
 }
 
-// The entries after this version, each with its own, and an Idle. Errors: out of memory.
-fn told(alloc: Global, from: u64, entries: Vec<Entry>) -> Result<Vec<Message>, AllocError>
-    requires { from + length entries.items < 2 ^ 64 }
-    ensures { IfOk result (λ told. map seen_message told.items ≡ tells from entries.items ++ Idle ∷ []) }
+/// What a client is told unasked that was told all up to this version: what an Ask from there is answered, without its Idle. `None` if nothing
+/// is published after it, or the client hasn't joined. Never blocks. Errors: out of memory.
+pub fn push<N: RoomName, D: Drop>(
+    alloc: Global,
+    seat: &mut Seat<N, D>,
+    client: u32,
+    version: u64,
+) -> Result<Option<Vec<Message>>, AllocError>
+    ensures tells { IfOk result (λ told. IsPush (board N.opening seat.new) client version (option_map (λ messages. map seen_message messages.items) told)) }
+    ensures sees { SeesOn N.opening seat.old seat.new }
 {
+    match seat.next(alloc, client, version, MOST_ENTRIES) {
+        Ok(None) => Ok(None),
+        Ok(Some(News::Stranger)) => Ok(None),
+        Ok(Some(News::Entries(entries))) => Ok(Some(entry_messages(alloc, version, entries)?)),
+        Ok(Some(News::Copy(copy))) => Ok(Some(alone(alloc, Message::Copy(copy))?)),
+        // A seat keeps its room, so it is never closed.
+        Err(SeatError::Closed | SeatError::Memory) => Err(AllocError),
+    }
+}
+
+// The entries after this version, each with its own. Errors: out of memory.
+fn entry_messages(alloc: Global, from: u64, entries: Vec<Entry>) -> Result<Vec<Message>, AllocError>
+    requires { from + length entries.items < 2 ^ 64 }
+    ensures { IfOk result (λ told. map seen_message told.items ≡ tells from entries.items) }
+{
+    // With a place for an Idle.
     let mut told = Vec::with_capacity(alloc, entries.len().saturating_add(1))?;
     let mut version = from;
     for entry in entries {
         version += 1;
         told.push(Message::Entry { version, entry })?;
     }
+    Ok(told)
+}
+
+// The entries after this version, each with its own, and an Idle. Errors: out of memory.
+fn told(alloc: Global, from: u64, entries: Vec<Entry>) -> Result<Vec<Message>, AllocError>
+    requires { from + length entries.items < 2 ^ 64 }
+    ensures { IfOk result (λ told. map seen_message told.items ≡ tells from entries.items ++ Idle ∷ []) }
+{
+    let mut told = entry_messages(alloc, from, entries)?;
     told.push(Message::Idle)?;
     Ok(told)
 }

@@ -1,5 +1,5 @@
-//! A seat of a room that answers clients: what is answered each message, which edits are too large for a server, an answerer for connections,
-//! and a link in the same process.
+//! A seat of a room that answers clients: what is answered each message, what is told unasked, which edits are too large for a server, an
+//! answerer for connections, and a link in the same process.
 #![tactic(auto)]
 
 mod answerer;
@@ -12,6 +12,7 @@ mod seat_link;
 mod shared_copy;
 
 pub use answerer::SeatAnswerer;
+pub use asking::push;
 pub use large::is_too_large;
 pub use laws::every_exchange;
 pub use messages::{CHECKPOINT_AT, answer};

@@ -2,7 +2,7 @@ use Rattle.std.proofs.Common.{◌≡◌, ◌+◌, ◌<◌, ◌^◌, ◌++◌, le
 use Rattle.std.specs.Vec.Iter.{into_iter_items, into_iter_len}
 use Rattle.canvas_judge.specs.Seen.{seen_message}
 use Rattle.room_handler.specs.News.{tells}
-use Rattle.room_handler.proofs.asking.told.Given as goal
+use Rattle.room_handler.proofs.asking.entry_messages.Given as goal
 
 -- what was told and what is left to tell are all
 abbrev pub invariant-loop-entry : goal.invariant-loop-entry
