@@ -15,6 +15,7 @@ ghost use Rattle.net_idle.specs.Pausing.{IsDue, MayPause, counted};
 mod frames;
 
 use frames::Frames;
+use net_outbox::Backlog;
 use std::io::{self, ErrorKind, Read, Write};
 
 /// So many bytes are much: 256 KiB.
@@ -100,6 +101,14 @@ impl<S> Pausing<S> {
         }
         self.has_paused = true;
         true
+    }
+}
+
+impl<S: Backlog> Backlog for Pausing<S> {
+    ghost waits = { λ p. S.waits p.stream };
+
+    fn waiting(&self) -> usize {
+        self.stream.waiting()
     }
 }
 
