@@ -1,5 +1,6 @@
-//! Tests of `canvas_nodes`: the rounds of an exchange over a list of answers, frames of each kind over sockets in memory, and links over
-//! sockets. And of `room_handler`: that a connection is sent what a seat answers, in a long talk, and exchanges over a link to a seat.
+//! Tests of `canvas_nodes`: the rounds of an exchange over a list of answers, frames of each kind over sockets in memory, turns over a stream
+//! that would wait, and links over sockets. And of `room_handler`: that a connection is sent what a seat answers, in a long talk, and
+//! exchanges over a link to a seat.
 #![tactic(auto)]
 
 #[cfg(test)]
@@ -18,3 +19,5 @@ mod rounds;
 mod socket_links;
 #[cfg(test)]
 mod sockets;
+#[cfg(test)]
+mod turns;

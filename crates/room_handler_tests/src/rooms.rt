@@ -5,8 +5,10 @@ ghost use Rattle.canvas_nodes.specs.Answers.{IsAnswer, EndsAnswer};
 
 use canvas_doc::Change;
 use canvas_judge::{Entry, Message, NoReason};
-use canvas_nodes::Answerer;
+use canvas_nodes::{Answerer, answered};
 use canvas_server::{Request, Server, TakeError, Took};
+use canvas_sockets::Replier;
+use canvas_turns::{Handler, Push};
 use std::alloc::{AllocError, Global};
 use std::test::Fail;
 
@@ -131,4 +133,34 @@ impl Answerer for Room {
             _ => alone(self.alloc, Message::No(NoReason::NotRead)),
         }
     }
+}
+
+impl Replier for Room {
+    ghost replies = { λ _ _ _ _. Unit {0} };
+
+    fn reply(&mut self, alloc: Global, bytes: &[u8]) -> Result<Vec<Vec<u8>>, NoReason> {
+        answered(alloc, self, bytes)
+    }
+}
+
+impl Handler for Room {
+    ghost tells = { λ _ _ _. Unit {0} };
+
+    ghost goes_to = { λ _ _ _. Unit {0} };
+
+    fn place(&self) -> Option<u64> {
+        None
+    }
+
+    fn push(&mut self, alloc: Global) -> Result<Push, AllocError> {
+        Ok(Push {
+            texts: Vec::new(alloc),
+            versions: Vec::new(alloc),
+            is_held: false,
+        })
+    }
+
+    fn go_to(&mut self, _version: u64) {}
+
+    fn rest(&mut self) {}
 }

@@ -14,8 +14,13 @@ fn served(alloc: Global, bytes: &[u8]) -> Result<Vec<u8>, Fail> {
     Ok(server.into_inner().writer)
 }
 
+/// The lines by which a new server answers a client that sends these bytes.
+pub fn lines_to(alloc: Global, bytes: &[u8]) -> Result<Vec<u8>, Fail> {
+    let told = served(alloc, bytes)?;
+    Ok(heard(alloc, &told)?)
+}
+
 /// Checks whether a new server answers a client that sends these bytes by these lines.
 pub fn answers(alloc: Global, bytes: &[u8], answered: &str) -> Result<bool, Fail> {
-    let told = served(alloc, bytes)?;
-    Ok(heard(alloc, &told)?.as_slice() == answered.as_bytes())
+    Ok(lines_to(alloc, bytes)?.as_slice() == answered.as_bytes())
 }

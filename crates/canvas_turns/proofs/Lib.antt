@@ -1,0 +1,4 @@
+pub mod Joined
+pub mod Steps
+pub mod Stepping
+pub mod Telling

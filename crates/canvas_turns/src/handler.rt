@@ -1,0 +1,46 @@
+// What serves a connection.
+ghost use Rattle.std.specs.Prelude.{◌≡◌, [], IfErr, IfOk, map};
+
+use canvas_sockets::Replier;
+use std::alloc::{AllocError, Global};
+
+/// What there is to tell a client unasked: the texts of messages, in order, and the version that each of them leads to.
+#[derive(Drop)]
+pub struct Push {
+    /// The texts.
+    pub texts: Vec<Vec<u8>>,
+    /// The versions.
+    pub versions: Vec<u64>,
+    /// Whether there is more to tell that can't be told now, and is to be asked for in a moment.
+    pub is_held: bool,
+}
+
+/// What serves a connection turn by turn: it replies to messages, tells what is published to a client that wants to be told unasked, and learns
+/// once all that was said has left.
+pub trait Handler: Replier {
+    ghost use Rattle.std.specs.Prelude.{ℕ, List};
+    ghost use Rattle.canvas_model.specs.Messages as messages;
+    ghost use Rattle.canvas_turns.specs.Told.{TellsInTexts};
+
+    /// What it may tell unasked, in this order, and how it stands that has looked for it.
+    ghost tells: { Self → List messages.Message → Self → Type 0 };
+
+    /// How it stands once its client was told all up to this version.
+    ghost goes_to: { Self → ℕ → Self → Type 0 };
+
+    /// The version up to which its client was told all; `None` if that isn't told unasked.
+    fn place(&self) -> Option<u64>;
+
+    /// What there is to tell unasked, maybe nothing. Errors: out of memory.
+    fn push(&mut self, alloc: Global) -> Result<Push, AllocError>
+        ensures tells { IfOk result (λ push. TellsInTexts tells self.old (map (λ text. text.items) push.texts.items) push.versions.items self.new) }
+        ensures fails { IfErr result (λ _. tells self.old [] self.new) };
+
+    /// Its client was told all up to this version.
+    fn go_to(&mut self, version: u64)
+        ensures { goes_to self.old version self.new };
+
+    /// Called where nothing waits to leave. It is for what a handler keeps that contracts don't see, as permits.
+    fn rest(&mut self)
+        ensures { self.new ≡ self.old };
+}

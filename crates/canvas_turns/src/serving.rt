@@ -1,0 +1,233 @@
+// A connection, turn by turn, to its end.
+ghost use Rattle.std.specs.Prelude.{◌≡◌, ◌↔◌, IfErr, IfOk, IsTrue, OnOk};
+ghost use Rattle.canvas_sockets.specs.declared.turning.TurnEnd.TheVariants as turn;
+ghost use Rattle.canvas_turns.specs.Lines.{end_of};
+ghost use Rattle.canvas_turns.specs.Served.{IsAfterTurn, IsStep, IsWaited, ServedInTurns};
+ghost use Rattle.canvas_turns.specs.Told.{MayTell, Pings, StopsTelling};
+
+use crate::sides::{Inlet, line_over, next_line};
+use crate::{Handler, LineEnd, Waits, Woken};
+use bytes::Bytes;
+use canvas_sockets::{Line, TurnEnd, take_turn, write_some};
+use net_idle::MUCH;
+use net_outbox::{Backlog, MUCH_WAITS, Outbox};
+use std::alloc::Global;
+use std::io::{Read, Write};
+use tungstenite::{CloseCode, CloseFrame, Error, Message as Frame, Utf8Bytes, WebSocketConfig};
+
+// How many messages are read before what was written leaves.
+const MOST_READ: u32 = 64;
+
+// What a connection does next.
+#[derive(Clone, Copy, Debug, PartialEq, Eq)]
+enum Next {
+    // It takes a turn.
+    Goes,
+    // It takes a turn by new sockets.
+    Renews,
+    // It pings the peer, and takes a turn.
+    Pings,
+    // It has ended so.
+    Ends(LineEnd),
+}
+
+/// Serves a connection of a server, whose handshake is done, until it ends: reads from the one stream, and lets the other take what is written.
+/// Says how it ended.
+///
+/// In each turn it reads messages that have come, at most 64, and none while 256 KiB or more wait to leave. Then the peer takes what it takes
+/// now. Where nothing waits any more, a client that wants to be told unasked is told what is published, until 256 KiB wait. If no more has come,
+/// or too much waits, the peer is waited for. After a closing frame nothing is read, and it ends once all has left, or the peer takes too
+/// little. Once much has passed, new sockets go on, so that none keeps what a large message took.
+pub fn serve_turns<H: Handler, I: Read + Drop, O: Read + Write + Drop, W: Waits>(
+    alloc: Global,
+    handler: &mut H,
+    input: I,
+    output: O,
+    config: WebSocketConfig,
+    waits: &mut W,
+) -> LineEnd
+    ensures { ServedInTurns H.replies H.tells H.goes_to I.remaining O.contents 18446744073709551615 input output result handler.old handler.new }
+{
+    let mut line = line_over(alloc, input, output, config);
+    let mut since = 0;
+    for _turn in 0..u64::MAX {
+        match step(alloc, handler, &mut line, since, waits) {
+            Next::Goes => {}
+            Next::Renews => {
+                since = line.writer.get_ref().taken();
+                line = next_line(alloc, line, config);
+            }
+            Next::Pings => if let Err(error) = ping(alloc, &mut line) {
+                return end_of(&error);
+            },
+            Next::Ends(end) => return end,
+        }
+    }
+    LineEnd::Left
+}
+
+// Takes a turn, lets leave what the peer takes now, and tells what is published. Then it waits, if there is nothing to do now.
+fn step<H: Handler, I: Read + Drop, O: Read + Write + Drop, W: Waits>(
+    alloc: Global,
+    handler: &mut H,
+    line: &mut Line<Inlet<I>, Outbox<O>>,
+    since: u64,
+    waits: &mut W,
+) -> Next
+    ensures { IsStep H.replies H.tells H.goes_to I.remaining O.contents result handler.old line.old handler.new line.new }
+{
+    let end = match take_turn(alloc, handler, line, MOST_READ, MUCH_WAITS) {
+        Ok(end) => end,
+        Err(error) => return Next::Ends(failed(line, waits, &error)),
+    };
+    let has_said = line.writer.get_ref().waiting() > 0;
+    if let Err(error) = line.writer.flush() {
+        return Next::Ends(end_of(&error));
+    }
+    if has_closed(end) {
+        leave(line, waits);
+        return Next::Ends(LineEnd::Left);
+    }
+    match tell(alloc, handler, line, waits, has_said) {
+        Ok(true) => Next::Goes,
+        Ok(false) => after_turn(line, waits, end, since),
+        Err(error) => Next::Ends(end_of(&error)),
+    }
+}
+
+// Checks whether a closing frame has ended a turn.
+fn has_closed(end: TurnEnd) -> bool
+    ensures { IsTrue result ↔ end ≡ turn.Closed }
+{
+    matches!(end, TurnEnd::Closed)
+}
+
+// Tells a client that wants to be told unasked what is published, if nothing waits to leave and it is time. Returns whether it told something.
+fn tell<H: Handler, I: Drop, O: Read + Write + Drop, W: Waits>(
+    alloc: Global,
+    handler: &mut H,
+    line: &mut Line<Inlet<I>, Outbox<O>>,
+    waits: &mut W,
+    has_said: bool,
+) -> Result<bool, Error>
+    ensures tells { IfOk result (λ has. MayTell H.tells H.goes_to O.contents has handler.old line.old handler.new line.new) }
+    ensures stops { IfErr result (λ e. StopsTelling H.tells H.goes_to O.contents e handler.old line.old handler.new line.new) }
+{
+    if line.writer.get_ref().waiting() > 0 {
+        return Ok(false);
+    }
+    handler.rest();
+    let Some(version) = handler.place() else {
+        return Ok(false);
+    };
+    if !waits.listens(version, has_said) {
+        return Ok(false);
+    }
+    let push = handler.push(alloc)?;
+    let count = write_some(alloc, &mut line.writer, &push.texts, MUCH_WAITS)?;
+    if count > 0 || push.is_held {
+        waits.told(count);
+    }
+    if count == 0 {
+        return Ok(false);
+    }
+    handler.go_to(push.versions[count - 1]);
+    line.writer.flush()?;
+    Ok(true)
+}
+
+// What is done after a turn that ended so, behind which nothing was told: the peer is waited for, if there is nothing to do now.
+fn after_turn<I: Drop, O: Drop, W: Waits>(
+    line: &Line<Inlet<I>, Outbox<O>>,
+    waits: &mut W,
+    end: TurnEnd,
+    since: u64,
+) -> Next
+    ensures { IsAfterTurn result }
+{
+    match end {
+        TurnEnd::Most | TurnEnd::Closed => Next::Goes,
+        TurnEnd::Full if line.writer.get_ref().waiting() < MUCH_WAITS => Next::Goes,
+        TurnEnd::Dry if is_renewed(line, since) => Next::Renews,
+        TurnEnd::Full | TurnEnd::Dry => rest(line, waits),
+    }
+}
+
+// Pings the peer.
+fn ping<I: Drop, O: Read + Write + Drop>(
+    alloc: Global,
+    line: &mut Line<Inlet<I>, Outbox<O>>,
+) -> Result<(), Error>
+    ensures pings { OnOk result (Pings O.contents line.old line.new) }
+{
+    let nothing = Bytes::copy_from_slice(alloc, b"")?;
+    line.writer.write(Frame::Ping(nothing))
+}
+
+// Checks whether new sockets are to go on: the reader's stream has paused, or all has left, and much since so many bytes had.
+fn is_renewed<I: Drop, O: Drop>(line: &Line<Inlet<I>, Outbox<O>>, since: u64) -> bool {
+    let outbox = line.writer.get_ref();
+    let left = outbox.taken().saturating_sub(since);
+    line.reader.get_ref().reader.has_paused() || (outbox.waiting() == 0 && left >= MUCH as u64)
+}
+
+// Waits until the peer may have sent more, or may take more of what waits.
+fn rest<I: Drop, O: Drop, W: Waits>(line: &Line<Inlet<I>, Outbox<O>>, waits: &mut W) -> Next
+    ensures { IsWaited result }
+{
+    let outbox = line.writer.get_ref();
+    match waits.wait(outbox.taken(), outbox.waiting()) {
+        Woken::Goes => Next::Goes,
+        Woken::Pings => Next::Pings,
+        Woken::Silent => Next::Ends(LineEnd::Silent),
+        Woken::Slow => Next::Ends(LineEnd::Slow),
+    }
+}
+
+// Lets leave what waits, for as long as the peer takes it.
+fn leave<I: Drop, O: Read + Write + Drop, W: Waits>(
+    line: &mut Line<Inlet<I>, Outbox<O>>,
+    waits: &mut W,
+) {
+    for _turn in 0..u64::MAX {
+        let is_over = line.writer.flush().is_err() || line.writer.get_ref().waiting() == 0;
+        if is_over || matches!(rest(line, waits), Next::Ends(_)) {
+            return;
+        }
+    }
+}
+
+// How a connection ended that failed. A client whose message is too large is told, and what was answered before leaves.
+fn failed<I: Drop, O: Read + Write + Drop, W: Waits>(
+    line: &mut Line<Inlet<I>, Outbox<O>>,
+    waits: &mut W,
+    error: &Error,
+) -> LineEnd
+    ensures { result ≡ end_of error.now }
+{
+    if let Error::Capacity(_) = error {
+        let _ = line.writer.close(Some(too_big()));
+    }
+    leave(line, waits);
+    end_of(error)
+}
+
+// How a connection ended by this error.
+fn end_of(error: &Error) -> LineEnd
+    ensures { result ≡ end_of error.now }
+{
+    match error {
+        Error::Capacity(_) => LineEnd::TooLarge,
+        Error::Io(_) => LineEnd::Failed,
+        Error::OutOfMemory => LineEnd::Memory,
+        _ => LineEnd::Broken,
+    }
+}
+
+// What a client is told whose message is too large (RFC 6455, section 7.4.1).
+fn too_big() -> CloseFrame {
+    CloseFrame {
+        code: CloseCode::Size,
+        reason: Utf8Bytes::from_static("the message is too large"),
+    }
+}
