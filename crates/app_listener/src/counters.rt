@@ -21,6 +21,8 @@ pub struct Figures {
     clients: AtomicU64,
     connections: AtomicU64,
     turned_away: AtomicU64,
+    live: AtomicU64,
+    pushes: AtomicU64,
     requests: AtomicU64,
     noes: NoCounts,
     notes: Notes,
@@ -43,6 +45,8 @@ impl Figures {
             clients: AtomicU64::new(0),
             connections: AtomicU64::new(0),
             turned_away: AtomicU64::new(0),
+            live: AtomicU64::new(0),
+            pushes: AtomicU64::new(0),
             requests: AtomicU64::new(0),
             noes: NoCounts::new(),
             notes,
@@ -129,6 +133,21 @@ impl Figures {
         self.clients.fetch_sub(1, Ordering::SeqCst);
     }
 
+    /// A client is told unasked from now on.
+    pub fn begin_live(&self) {
+        self.live.fetch_add(1, Ordering::SeqCst);
+    }
+
+    /// A client that was told unasked is gone.
+    pub fn end_live(&self) {
+        self.live.fetch_sub(1, Ordering::SeqCst);
+    }
+
+    /// A client was told something unasked.
+    pub fn push(&self) {
+        self.pushes.fetch_add(1, Ordering::SeqCst);
+    }
+
     /// A client was turned away.
     pub(crate) fn turn_away(&self) {
         self.turned_away.fetch_add(1, Ordering::SeqCst);
@@ -158,7 +177,9 @@ impl Figures {
             objects: self.objects.load(Ordering::SeqCst),
             clients: self.clients.load(Ordering::SeqCst),
             connections: self.connections.load(Ordering::SeqCst),
+            live: self.live.load(Ordering::SeqCst),
             turned_away: self.turned_away.load(Ordering::SeqCst),
+            pushes: self.pushes.load(Ordering::SeqCst),
             requests: self.requests.load(Ordering::SeqCst),
             edits: self.meter.edits(),
             refusals: self.meter.refusals(),

@@ -22,8 +22,10 @@ document_text n =
 abbrev pub clients_text : Numbers → List ℕ
 clients_text n =
     gauge (codes "lugcurrant_clients") n.clients
+    ++ gauge (codes "lugcurrant_live_clients") n.live
     ++ counter (codes "lugcurrant_connections_total") n.connections
     ++ counter (codes "lugcurrant_turned_away_total") n.turned_away
+    ++ counter (codes "lugcurrant_pushes_total") n.pushes
     ++ counter (codes "lugcurrant_requests_total") n.requests
 
 -- a number of edits that the rules refused, for a reason

@@ -18,10 +18,14 @@ pub struct Numbers {
     pub objects: u64,
     /// How many clients are connected.
     pub clients: u64,
+    /// How many of them are told unasked what is published.
+    pub live: u64,
     /// How many clients have connected.
     pub connections: u64,
     /// How many clients were turned away, as all seats were taken.
     pub turned_away: u64,
+    /// How often a client was told something unasked.
+    pub pushes: u64,
     /// How many requests that aren't a client's were answered.
     pub requests: u64,
     /// How many edits were judged.

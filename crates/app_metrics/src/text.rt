@@ -82,16 +82,23 @@ impl fmt::Display for ClientsText<'_> {
     fn fmt<W: fmt::Write>(&self, f: &mut fmt::Formatter<W>) -> fmt::Result {
         let Numbers {
             clients,
+            live,
             connections,
             turned_away,
+            pushes,
             requests,
             ..
         } = *self.0;
         let clients = Gauge("lugcurrant_clients", clients);
+        let live = Gauge("lugcurrant_live_clients", live);
         let connections = Counter("lugcurrant_connections_total", connections);
         let turned_away = Counter("lugcurrant_turned_away_total", turned_away);
+        let pushes = Counter("lugcurrant_pushes_total", pushes);
         let requests = Counter("lugcurrant_requests_total", requests);
-        write!(f, "{clients}{connections}{turned_away}{requests}")
+        write!(
+            f,
+            "{clients}{live}{connections}{turned_away}{pushes}{requests}"
+        )
     }
 }
 
