@@ -364,8 +364,8 @@ def metrics(seconds, **numbers):
 
     return "".join([
         gauge("version", "version"), gauge("published_version", "version"), gauge("floor_version", "floor"), gauge("objects", "objects"),
-        gauge("clients", "clients"), counter("connections", "connections"), counter("turned_away", "turned_away"),
-        counter("requests", "requests"), counter("edits", "edits"), by_reason("refused", REASONS), by_reason("no", NOES),
+        gauge("clients", "clients"), gauge("live_clients", "live"), counter("connections", "connections"),
+        counter("turned_away", "turned_away"), counter("pushes", "pushes"), counter("requests", "requests"), counter("edits", "edits"), by_reason("refused", REASONS), by_reason("no", NOES),
         counter("entries", "entries"), counter("syncs", "syncs"), counter("checkpoints", "checkpoints"),
         counter("checkpoints_refused", "checkpoints_refused"),
         family("checkpoint_seconds_total", "counter", seconds), gauge("checkpoint_bytes", "checkpoint_bytes")])

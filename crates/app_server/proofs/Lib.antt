@@ -1,2 +1,3 @@
 pub mod Sends
 mod Faults
+mod Live

@@ -17,13 +17,28 @@ use Rattle.canvas_board.specs.declared.history.RoomName.{Ghosts}
 use Rattle.canvas_board.proofs.history.Front.TheSendSync as front
 use Rattle.room_handler.specs.contracts.shared_copy.SharedCopy as SharedCopy
 use Rattle.crossbeam_channel.specs.contracts.channel.Receiver as Receiver
+use Rattle.canvas_bell.proofs.Bell.TheSendSync as bell
 use Rattle.app_listener.proofs.options.Shared.TheSendSync as shared
 use Rattle.app_server.proofs.glancing.Seen.TheSendSync as seen
 use Rattle.app_server.proofs.permits.Permits.TheSendSync as permits
+use Rattle.app_server.proofs.polling.Caller.TheSendSync as caller
+use Rattle.app_server.proofs.polling.Post.TheSendSync as post
 use Rattle.app_server.specs.contracts.copies.Copies as Copies
 use Rattle.app_server.specs.contracts.copies.Held as Held
 use Rattle.app_server.specs.contracts.glancing.GlanceTask as GlanceTask
 use Rattle.app_server.specs.contracts.tasks.SeatTask as SeatTask
+
+-- what a bell and those who hear it are made of
+ruleset rings = (
+  bell.the_send,
+  bell.the_sync,
+  bell.the_field_send,
+  bell.the_field_sync,
+  caller.the_send,
+  caller.the_sync,
+  caller.the_field_send,
+  caller.the_field_sync,
+)
 
 -- the connections that a seat is given
 pub Connections-send : IsSend (Receiver.the_row Stream.the_row Heap.the_row ghosts)
@@ -46,7 +61,7 @@ Copies-sync N g n = let h = Held-send N g n in declared_sync (Copies.the_type N 
 pub SeatTask-send : (N D R : RattleType) (g : Ghosts N.Denot) → IsSend N → IsSend (Seat.the_row N D g) → IsSend R → IsSend (SeatTask.the_row N D R g)
 SeatTask-send N D R g n s r =
     recorded_send (SeatTask.the_field N D R g).row _ _ (SeatTask.the_type N D R g).to_one
-    (struct_send (shape (SeatTask.the_type N D R g)) (r, (s, (Arc-send _ shared.the_send shared.the_sync, (Arc-send _ (Copies-send N g n) (Copies-sync N g n), (Connections-send, tt))))))
+    (struct_send (shape (SeatTask.the_type N D R g)) (r, (s, (Arc-send _ shared.the_send shared.the_sync, (Arc-send _ (Copies-send N g n) (Copies-sync N g n), (Connections-send, (post.the_field_send, (search (rings, sendable, crosses) depth 40 fits 4000, tt))))))))
 
 module _ (K N R : RattleType) (k : keeper.Ghosts K.Denot) (g : Ghosts N.Denot) where
   -- a room

@@ -1,3 +1,3 @@
-pub mod Connections
 pub mod Rooms
 pub mod Seats
+pub mod Live

@@ -1,34 +1,30 @@
 // A seat's thread: it serves one connection after the other.
-ghost use Rattle.std.specs.Prelude.{◌≡◌, ◌⊎◌};
-ghost use Rattle.websocket.specs.declared.protocol.config.Role.TheVariants as role;
-ghost use Rattle.tungstenite.specs.Socket.{IsFresh};
-ghost use Rattle.app_server.specs.Connections.{IsNextSocket, ServedThrough, end_of};
 
-use crate::seated::Seated;
+use crate::live_seat::LiveSeat;
+use crate::polling::{Caller, Post, Watch};
 use app_listener::{Limits, Shared};
+use canvas_bell::Bell;
 use canvas_board::RoomName;
 use canvas_journal::Keeper;
-use canvas_nodes::Answerer;
 use canvas_room::Lock;
-use canvas_sockets::serve_one;
+use canvas_turns::{Handler, LineEnd, serve_turns};
 use crossbeam_channel::Receiver;
 use http::{HeaderName, HeaderValue, Request, Response};
-use net_idle::Pausing;
 use std::alloc::Global;
-use std::io::{self, Eprint, Read, Write};
+use std::io::{self, Eprint};
 use std::net::TcpStream;
 use std::sync::Wait;
 use std::time::{Clock, Duration};
 use tungstenite::handshake::server::ErrorResponse;
-use tungstenite::{
-    Callback, CloseCode, CloseFrame, Error, NoMask, Role, Utf8Bytes, WebSocket, WebSocketConfig,
-};
+use tungstenite::{Callback, WebSocketConfig};
 
 /// Serves each connection that comes at a seat, one after the other. Ends once no more can come.
 pub(crate) fn serve_each<K, N, L, R>(
     rt: &R,
     shared: &Shared,
-    seat: &mut Seated<'_, N, Lock<K, N, L>, R>,
+    seat: &mut LiveSeat<'_, N, Lock<K, N, L>, R>,
+    post: &mut Post,
+    bell: &Bell<Caller>,
     connections: &Receiver<TcpStream, Global>,
 )
 where
@@ -43,8 +39,8 @@ where
         };
         let number = shared.figures.begin();
         tell(rt, shared, number, "begins");
-        let end = serve(rt.alloc(), shared, seat, stream);
-        seat.rest();
+        let end = serve(rt, shared, seat, post, bell, &stream);
+        seat.leave();
         shared.figures.end();
         tell(rt, shared, number, end.words());
     }
@@ -63,38 +59,44 @@ fn tell<R: Eprint>(rt: &R, shared: &Shared, number: u64, what: &str) {
 enum End {
     SocketFailed,
     NoHandshake,
-    Left,
-    TooLarge,
-    Silent,
-    Memory,
-    Broken,
+    Served(LineEnd),
 }
 
 impl End {
     // What is told of it.
     fn words(self) -> &'static str {
         match self {
-            End::SocketFailed => "has ended: the socket failed",
+            End::SocketFailed | End::Served(LineEnd::Failed) => "has ended: the socket failed",
             End::NoHandshake => "has ended: the handshake failed",
-            End::Left => "has ended: the client left",
-            End::TooLarge => "has ended: a message was too large",
-            End::Silent => "has ended: it was silent too long, or the socket failed",
-            End::Memory => "has ended: out of memory",
-            End::Broken => "has ended: the client broke the protocol, or went without a word",
+            End::Served(LineEnd::Left) => "has ended: the client left",
+            End::Served(LineEnd::TooLarge) => "has ended: a message was too large",
+            End::Served(LineEnd::Silent) => "has ended: it was silent too long",
+            End::Served(LineEnd::Slow) => "has ended: it took too little of what waited for it",
+            End::Served(LineEnd::Memory) => "has ended: out of memory",
+            End::Served(LineEnd::Broken) => {
+                "has ended: the client broke the protocol, or went without a word"
+            }
         }
     }
 }
 
 // Serves a connection until it ends, and says how it ended.
-fn serve<A: Answerer>(alloc: Global, shared: &Shared, answerer: &mut A, stream: TcpStream) -> End {
-    if limit(&stream, shared.limits).is_err() {
+fn serve<H: Handler, R: Clock + AllocGlobal>(
+    rt: &R,
+    shared: &Shared,
+    handler: &mut H,
+    post: &mut Post,
+    bell: &Bell<Caller>,
+    stream: &TcpStream,
+) -> End {
+    if limit(stream, shared.limits).is_err() {
         return End::SocketFailed;
     }
     let naming = Naming {
-        alloc,
+        alloc: rt.alloc(),
         document: shared.site.identity.as_str(),
     };
-    let Ok(accepted) = tungstenite::accept_hdr(alloc, stream, naming) else {
+    let Ok(accepted) = tungstenite::accept_hdr(rt.alloc(), stream, naming) else {
         return End::NoHandshake;
     };
     let most = Some(shared.limits.message_bytes.saturating_mul(2));
@@ -102,61 +104,34 @@ fn serve<A: Answerer>(alloc: Global, shared: &Shared, answerer: &mut A, stream: 
         .get_config()
         .max_message_size(most)
         .max_frame_size(most);
-    let stream = Pausing::new(accepted.into_inner());
-    serve_through(alloc, answerer, stream, config)
-}
-
-// Serves a connection until it ends, by a new WebSocket after each pause, so that none keeps what a large message took.
-fn serve_through<A: Answerer, S: Read + Write + Drop>(
-    alloc: Global,
-    answerer: &mut A,
-    stream: Pausing<S>,
-    config: WebSocketConfig,
-) -> End
-    ensures { ServedThrough A.gives S.remaining S.contents 18446744073709551615 stream result answerer.old answerer.new }
-{
-    let mut socket = socket_over(alloc, stream, config);
-    for _turn in 0..u64::MAX {
-        let error = match serve_one(alloc, answerer, &mut socket) {
-            Ok(()) => return End::Left,
-            Err(error) => error,
-        };
-        if !socket.get_ref().has_paused() {
-            return ended(&mut socket, &error);
-        }
-        socket = next_socket(alloc, socket, config);
+    if post.begin(stream).is_err() {
+        return End::SocketFailed;
     }
-    End::Left
+    let end = match Watch::new(rt, post, bell, shared.limits.idle_seconds) {
+        Ok(mut watch) => serve_accepted(rt.alloc(), handler, &mut watch, stream, config),
+        Err(_) => End::SocketFailed,
+    };
+    post.end(stream);
+    end
 }
 
-// The WebSocket that goes on where this one has paused.
-fn next_socket<S: Drop>(
+// Serves a connection whose handshake is done until it ends, by a thread that waits for it between its turns.
+fn serve_accepted<H: Handler, R: Clock>(
     alloc: Global,
-    socket: WebSocket<Pausing<S>, NoMask>,
+    handler: &mut H,
+    watch: &mut Watch<'_, R>,
+    stream: &TcpStream,
     config: WebSocketConfig,
-) -> WebSocket<Pausing<S>, NoMask>
-    ensures { IsNextSocket socket result }
-{
-    let mut stream = socket.into_inner();
-    stream.go_on();
-    socket_over(alloc, stream, config)
+) -> End {
+    let end = serve_turns(alloc, handler, stream, stream, config, watch);
+    watch.leave();
+    End::Served(end)
 }
 
-// A WebSocket of a server over a stream whose handshake is done.
-fn socket_over<S: Drop>(
-    alloc: Global,
-    stream: Pausing<S>,
-    config: WebSocketConfig,
-) -> WebSocket<Pausing<S>, NoMask>
-    ensures { IsFresh result stream role.Server }
-{
-    WebSocket::from_raw_socket(alloc, stream, NoMask, Role::Server, Some(config))
-}
-
-// How long one write may wait. A client that reads nothing ends up to three of them, before others have waited in vain for its permit.
+// How long one write of a handshake may wait.
 const MOST_UNREAD_SECONDS: u64 = 8;
 
-// Bounds how long a connection may be silent, and how long it may leave an answer unread.
+// Bounds how long a handshake may be silent, and how long its answer may be left unread.
 fn limit(stream: &TcpStream, limits: Limits) -> io::Result<()> {
     let idle = Some(Duration::from_secs(limits.idle_seconds));
     let unread = Some(Duration::from_secs(limits.idle_seconds.min(MOST_UNREAD_SECONDS)));
@@ -164,29 +139,6 @@ fn limit(stream: &TcpStream, limits: Limits) -> io::Result<()> {
     stream.set_nodelay(true)?;
     stream.set_read_timeout(idle)?;
     stream.set_write_timeout(unread)
-}
-
-// How a connection ended that failed. A client whose message is too large is told.
-fn ended<S: Read + Write + Drop>(socket: &mut WebSocket<S, NoMask>, error: &Error) -> End
-    ensures { result ≡ end_of error.now }
-{
-    match error {
-        Error::Capacity(_) => {
-            let _ = socket.close(Some(too_big()));
-            End::TooLarge
-        }
-        Error::Io(_) => End::Silent,
-        Error::OutOfMemory => End::Memory,
-        _ => End::Broken,
-    }
-}
-
-// What a client is told whose message is too large (RFC 6455, section 7.4.1).
-fn too_big() -> CloseFrame {
-    CloseFrame {
-        code: CloseCode::Size,
-        reason: Utf8Bytes::from_static("the message is too large"),
-    }
 }
 
 // Names the document in the answer to a handshake.

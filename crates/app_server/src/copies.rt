@@ -65,6 +65,16 @@ impl<N: RoomName> Copies<N> {
         may
     }
 
+    /// A client wants a copy, if one may be on its way now. Returns whether one may.
+    pub(crate) fn begin_now<R: Wait + Clock>(&self, rt: &R) -> bool {
+        self.want(rt);
+        let may = self.permits.take_now(rt);
+        if !may {
+            self.leave(rt);
+        }
+        may
+    }
+
     /// A copy that was begun has left, or never will.
     pub(crate) fn end<R: Wait>(&self, rt: &R) {
         self.permits.give(rt);

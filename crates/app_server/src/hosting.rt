@@ -9,6 +9,7 @@ use crate::folders::take_folder;
 use crate::glancing::{GlanceTask, Seen};
 use crate::opening::opened;
 use crate::own_document::{OwnDocument, OwnRoom};
+use crate::polling::{Caller, Post};
 use crate::standby::await_document;
 use crate::stopping::StopFile;
 use crate::tasks::{DoorTask, SeatTask};
@@ -18,6 +19,7 @@ use app_faults::Fault;
 use app_identity::Address;
 use app_listener::{Figures, Limits, Shared, read_page};
 use app_storage::begin_task;
+use canvas_bell::Bell;
 use canvas_board::RoomName;
 use canvas_folder::Removed;
 use canvas_journal::Keeper;
@@ -25,6 +27,7 @@ use canvas_room::{BlankRoom, Lock, Room, Seat};
 use crossbeam_channel::{Receiver, Sender, bounded};
 use net_http::{PageFile, Site};
 use std::alloc::Global;
+use std::collections::VecDeque;
 use std::io::{Eprint, ErrorKind};
 use std::marker::Brand;
 use std::net::{Net, TcpListener, TcpStream};
@@ -210,7 +213,7 @@ fn serve_taken<K, R>(
 ) -> Fault
 where
     K: Keeper + Drop + Send + 'static,
-    R: Threads + Wait + Clock + Eprint + AllocGlobal + Clone + Send + Sync + Drop + 'static,
+    R: Net + Threads + Wait + Clock + Eprint + AllocGlobal + Clone + Send + Sync + Drop + 'static,
     requires { IsIdentity (string_bytes document.identity) }
     ensures { IsRunningFault result ⊎ IsStopFault stop.path result }
 {
@@ -285,7 +288,7 @@ fn host<N, K, R>(
 where
     N: RoomName + Send + Sync + 'static,
     K: Keeper + Drop + Send + 'static,
-    R: Threads + Wait + Clock + Eprint + AllocGlobal + Clone + Send + Sync + Drop + 'static,
+    R: Net + Threads + Wait + Clock + Eprint + AllocGlobal + Clone + Send + Sync + Drop + 'static,
     requires book { room.book ≡ N.book }
     requires opening { room.opening ≡ N.opening }
     ensures { IsRunningFault result ⊎ IsStopFault ends.now.stop.path result }
@@ -306,7 +309,7 @@ fn begin<N, K, R>(
 where
     N: RoomName + Send + Sync + 'static,
     K: Keeper + Drop + Send + 'static,
-    R: Threads + Wait + Clock + Eprint + AllocGlobal + Clone + Send + Sync + Drop + 'static,
+    R: Net + Threads + Wait + Clock + Eprint + AllocGlobal + Clone + Send + Sync + Drop + 'static,
     requires book { room.book ≡ N.book }
     requires opening { room.opening ≡ N.opening }
     ensures { IfErr result IsThreadFault }
@@ -354,21 +357,47 @@ fn begin_seats<N, K, R>(
 where
     N: RoomName + Send + Sync + 'static,
     K: Keeper + Drop + Send + 'static,
-    R: Threads + Wait + Clock + Eprint + AllocGlobal + Clone + Send + Sync + Drop + 'static,
+    R: Net + Threads + Wait + Clock + Eprint + AllocGlobal + Clone + Send + Sync + Drop + 'static,
     ensures { IfErr result IsThreadFault }
 {
     let copies = Arc::new(rt.alloc(), Copies::new(rt, MOST_COPIES)?)?;
+    let (mut posts, bell) = begin_posts(rt, seats.len())?;
+    let bell = Arc::new(rt.alloc(), bell)?;
     for seat in seats {
+        let Some(post) = posts.pop_front() else {
+            return Err(Fault::NoThread);
+        };
         let task = SeatTask {
             rt: rt.clone()?,
             seat,
             shared: Arc::try_clone(shared)?,
             copies: Arc::try_clone(&copies)?,
             connections: connections.clone()?,
+            post,
+            bell: Arc::try_clone(&bell)?,
         };
         begin_task(rt, task)?;
     }
     Ok(())
+}
+
+// So many posts, and the bell that is heard at each.
+fn begin_posts<R: Net + AllocGlobal>(
+    rt: &R,
+    count: usize,
+) -> Result<(VecDeque<Post>, Bell<Caller>), Fault>
+    ensures { IfErr result IsThreadFault }
+{
+    let mut bell = Bell::new(rt.alloc());
+    let mut posts = VecDeque::with_capacity(rt.alloc(), count)?;
+    for number in 0..count {
+        let Ok((post, caller)) = Post::new(rt, number) else {
+            return Err(Fault::NoThread);
+        };
+        bell.add(caller)?;
+        posts.push_back(post)?;
+    }
+    Ok((posts, bell))
 }
 
 // Gives each door its thread.

@@ -1,9 +1,13 @@
 // A seat as a server that goes on has it.
-ghost use Rattle.std.specs.Prelude.{◌≡◌, IfOk, map};
+ghost use Rattle.std.specs.Prelude.{◌≡◌, ◌↔◌, IfOk, IfSome, IsTrue, map};
 ghost use Rattle.canvas_model.specs.Messages as messages;
 ghost use Rattle.canvas_judge.specs.Seen.{seen_message};
+ghost use Rattle.canvas_board.specs.Marks.{board};
+ghost use Rattle.canvas_board.specs.News.{HasReached};
 ghost use Rattle.canvas_nodes.specs.Answers.{GivesTexts, IsAnswer, refusal_alone};
+ghost use Rattle.room_handler.specs.Table.{SeesOn};
 ghost use Rattle.app_server.specs.Seats.{SeatGives};
+ghost use Rattle.app_server.specs.Live.{TellsUnasked};
 
 use crate::copies::Copies;
 use crate::pace::FiguresPace;
@@ -22,8 +26,8 @@ use std::time::Clock;
 /// A seat that answers clients, refuses edits that are too large, makes checkpoints at the pace of its document, sends the copy that is
 /// written for all, with a permit, and counts its Noes. Contracts see what its seat has seen, and the limit of an edit's text.
 ///
-/// It has its permit until the copy has left, or its connection has ended. Once an answer has left, it closes a file that the folder has
-/// removed, if there is one.
+/// It has its permit until all that it said has left, or its connection has ended. Then it closes a file that the folder has removed, if there
+/// is one.
 pub(crate) struct Seated<'a, N: RoomName, D: Drop, W: Drop> {
     alloc: Global,
     answerer: SeatAnswerer<N, D, W>,
@@ -32,6 +36,7 @@ pub(crate) struct Seated<'a, N: RoomName, D: Drop, W: Drop> {
     copies: Arc<Copies<N>, Global>,
     has_permit: bool,
     has_answered: bool,
+    has_submitted: bool,
 }
 
 impl<N: RoomName, D: Drop, W: Drop> Drop for Seated<'_, N, D, W> {
@@ -44,6 +49,7 @@ impl<N: RoomName, D: Drop, W: Drop> Drop for Seated<'_, N, D, W> {
             copies: _,
             has_permit: _,
             has_answered: _,
+            has_submitted: _,
         } = self;
     }
 }
@@ -79,17 +85,93 @@ impl<'a, N: RoomName, D: Drop, W: Wait + Clock + Clone + Drop> Seated<'a, N, D, 
             copies,
             has_permit: false,
             has_answered: false,
+            has_submitted: false,
         })
     }
 
-    /// Gives its permit back, if it has one, and forgets what it has answered.
-    pub(crate) fn rest(&mut self)
+    /// Its connection has ended: gives its permit back, if it has one, and forgets what it has answered.
+    pub(crate) fn leave(&mut self)
         ensures { self.new ≡ self.old }
     {
         self.has_answered = false;
+        self.end_copy();
+    }
+
+    // Gives its permit back, if it has one.
+    fn end_copy(&mut self)
+        ensures { self.new ≡ self.old }
+    {
         if self.has_permit {
             self.copies.end(&self.rt);
             self.has_permit = false;
+        }
+    }
+
+    /// Nothing waits to leave: a copy has left whole, if one was on its way. Closes a file that the folder has removed, if there is one.
+    pub(crate) fn rest(&mut self)
+        ensures { self.new ≡ self.old }
+    {
+        self.end_copy();
+        if let Some(removed) = &self.shared.removed {
+            removed.close();
+        }
+    }
+
+    /// A reply has joined the output. If no answer was asked for, the message couldn't be read.
+    pub(crate) fn sent(&mut self)
+        ensures { self.new ≡ self.old }
+    {
+        if !self.has_answered {
+            self.shared.figures.refuse(NoReason::NotRead);
+        }
+        self.has_answered = false;
+    }
+
+    /// How many entries are published, if something was submitted since this was asked the last time.
+    pub(crate) fn submitted(&mut self) -> Option<u64>
+        ensures { SeesOn N.opening self.old.seen self.new.seen × (self.new.limit ≡ self.old.limit) }
+    {
+        if !self.has_submitted {
+            return None;
+        }
+        self.has_submitted = false;
+        self.answerer.version().ok()
+    }
+
+    /// Checks whether this client has joined and so many entries are published, and counts a No if not. Errors: out of memory.
+    pub(crate) fn has_reached(&mut self, client: u32, version: u64) -> Result<bool, AllocError>
+        ensures { IfOk result (λ answer. (IsTrue answer ↔ HasReached (board N.opening self.new.seen) client version) × (self.new.limit ≡ self.old.limit) × SeesOn N.opening self.old.seen self.new.seen) }
+    {
+        let reached = self.answerer.has_reached(client, version);
+        self.has_answered = true;
+        match &reached {
+            Ok(true) => {}
+            Ok(false) => self.shared.figures.refuse(NoReason::Stranger),
+            Err(_) => self.shared.figures.refuse(NoReason::Memory),
+        }
+        reached
+    }
+
+    /// What a client is told unasked that was told all up to this version, maybe nothing. `None` where a copy is due, and none may be sent now.
+    /// Errors: out of memory.
+    pub(crate) fn push(
+        &mut self,
+        client: u32,
+        version: u64,
+    ) -> Result<Option<Vec<Message>>, AllocError>
+        ensures tells { IfOk result (λ told. IfSome told (λ messages. TellsUnasked N.opening self.new.seen client version (map seen_message messages.items))) }
+        ensures sees { SeesOn N.opening self.old.seen self.new.seen }
+        ensures limit { self.new.limit ≡ self.old.limit }
+    {
+        if self.is_below(version) && !self.has_permit {
+            self.has_permit = self.copies.begin_now(&self.rt);
+            if !self.has_permit {
+                return Ok(None);
+            }
+        }
+        match self.answerer.push(client, version)? {
+            Some(told) => Ok(Some(told)),
+            None => Ok(Some(Vec::new(self.alloc))),
         }
     }
 
@@ -102,7 +184,9 @@ impl<'a, N: RoomName, D: Drop, W: Wait + Clock + Clone + Drop> Seated<'a, N, D, 
     fn copied(&mut self, client: u32, version: u64) -> Result<Vec<Vec<u8>>, AllocError>
         ensures { IfOk result (λ ts. GivesTexts (SeatGives N.opening) self.old (messages.Ask client version) (map (λ t. t.items) ts.items) self.new) }
     {
-        self.has_permit = self.copies.begin(&self.rt);
+        if !self.has_permit {
+            self.has_permit = self.copies.begin(&self.rt);
+        }
         if !self.has_permit {
             return Err(AllocError);
         }
@@ -176,6 +260,7 @@ where
     fn answer(&mut self, message: &Message) -> Result<Vec<Message>, AllocError> {
         let answer = self.answered(message);
         self.count(&answer);
+        self.has_submitted = self.has_submitted || !matches!(message, Message::Ask { .. });
         answer
     }
 
@@ -190,16 +275,5 @@ where
             self.shared.figures.refuse(NoReason::Memory);
         }
         texts
-    }
-
-    // Where it wasn't asked for an answer, the message couldn't be read.
-    fn sent(&mut self) {
-        if !self.has_answered {
-            self.shared.figures.refuse(NoReason::NotRead);
-        }
-        self.rest();
-        if let Some(removed) = &self.shared.removed {
-            removed.close();
-        }
     }
 }

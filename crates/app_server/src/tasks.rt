@@ -2,9 +2,12 @@
 
 use crate::connections::serve_each;
 use crate::copies::Copies;
+use crate::live_seat::LiveSeat;
+use crate::polling::{Caller, Post};
 use crate::seated::Seated;
 use app_listener::{Shared, stand};
 use app_storage::Task;
+use canvas_bell::Bell;
 use canvas_board::RoomName;
 use canvas_journal::Keeper;
 use canvas_room::{Lock, Seat};
@@ -22,6 +25,8 @@ pub(crate) struct SeatTask<N: RoomName, D: Drop, R: Drop> {
     pub(crate) shared: Arc<Shared, Global>,
     pub(crate) copies: Arc<Copies<N>, Global>,
     pub(crate) connections: Receiver<TcpStream, Global>,
+    pub(crate) post: Post,
+    pub(crate) bell: Arc<Bell<Caller>, Global>,
 }
 
 impl<N: RoomName, D: Drop, R: Drop> Drop for SeatTask<N, D, R> {
@@ -32,6 +37,8 @@ impl<N: RoomName, D: Drop, R: Drop> Drop for SeatTask<N, D, R> {
             shared: _,
             copies: _,
             connections: _,
+            post: _,
+            bell: _,
         } = self;
     }
 }
@@ -51,12 +58,15 @@ where
             shared,
             copies,
             connections,
+            mut post,
+            bell,
         } = self;
         let Ok(own) = rt.clone() else {
             return;
         };
-        if let Ok(mut seated) = Seated::new(rt.alloc(), own, seat, &shared, copies) {
-            serve_each(&rt, &shared, &mut seated, &connections);
+        if let Ok(seated) = Seated::new(rt.alloc(), own, seat, &shared, copies) {
+            let mut seat = LiveSeat::new(seated, &shared, &bell);
+            serve_each(&rt, &shared, &mut seat, &mut post, &bell, &connections);
         }
     }
 }

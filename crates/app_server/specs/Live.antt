@@ -1,0 +1,79 @@
+-- What a seat says to a client that is told unasked.
+use Rattle.std.specs.Prelude.{◌≡◌, ◌⊎◌, ℕ, ◌<◌, List, [], ◌∷◌, Option, None, Some}
+use Rattle.canvas_model.specs.Messages.{Message, Idle}
+use Rattle.canvas_judge.specs.declared.message.NoReason.TheVariants as no
+use Rattle.canvas_board.specs.Marks.{Mark, Opening, board}
+use Rattle.canvas_board.specs.News.{HasReached}
+use Rattle.canvas_live.specs.Word.{SpellsLive}
+use Rattle.canvas_live.specs.declared.place.Place.{Place}
+use Rattle.canvas_nodes.specs.Answers.{AreMessageTexts, IsUnasked, SpellsAsked, refusal_alone}
+use Rattle.room_handler.specs.Table.{IsPush, SeesOn}
+use Rattle.app_server.specs.Seats.{SeatGives, SeatedValue}
+
+-- A connection's seat, and from where its client is told unasked, if it is.
+pub record LiveValue : Type 0 where
+  pub seat : SeatedValue
+  pub place : Option Place
+
+-- no more was seen than goes on from what was, and the limit stays
+abbrev pub SeatSeesOn : Opening → SeatedValue → SeatedValue → Type 0
+SeatSeesOn o old new = SeesOn o old.seen new.seen × (new.limit ≡ old.limit)
+
+-- what a client is told unasked that was told all up to a version: a push, or nothing
+abbrev pub TellsUnasked : Opening → List Mark → ℕ → ℕ → List Message → Type 0
+TellsUnasked o seen client version told = (told ≡ []) ⊎ IsPush (board o seen) client version (Some told)
+
+-- a client that wants to be told from a place is told Idle, if it has joined and the server has got so far: from then on it is told from there
+abbrev pub BeginsAt : Opening → LiveValue → Place → List Message → LiveValue → Type 0
+BeginsAt o old place answer new = (answer ≡ Idle ∷ []) × HasReached (board o new.seat.seen) place.client place.version × (new.place ≡ Some place)
+
+-- otherwise it is told a No for Stranger, and its place stays
+abbrev pub RefusesPlace : Opening → LiveValue → Place → List Message → LiveValue → Type 0
+RefusesPlace o old place answer new =
+    (answer ≡ refusal_alone no.Stranger) × (HasReached (board o new.seat.seen) place.client place.version → ⊥) × (new.place ≡ old.place)
+
+-- what is replied to the word by which a client wants to be told unasked
+abbrev pub RepliesToLive : Opening → LiveValue → List ℕ → List Message → LiveValue → Type 0
+RepliesToLive o old bytes answer new =
+    (place : Place) × SpellsLive bytes place × SeatSeesOn o old.seat new.seat × (BeginsAt o old place answer new ⊎ RefusesPlace o old place answer new)
+
+-- what a seat answers a message; it may have seen more since
+abbrev pub GivesOn : Opening → LiveValue → Message → List Message → LiveValue → Type 0
+GivesOn o old m answer new = (mid : SeatedValue) × SeatGives o old.seat m answer mid × SeatSeesOn o mid new.seat × (new.place ≡ old.place)
+
+-- the same, as texts
+abbrev pub GivesOnInTexts : Opening → LiveValue → Message → List (List ℕ) → LiveValue → Type 0
+GivesOnInTexts o old m texts new = (answer : List Message) × GivesOn o old m answer new × AreMessageTexts texts answer
+
+-- what is replied to other bytes: NotRead, and nothing has changed
+abbrev pub RefusesBytes : LiveValue → List ℕ → List Message → LiveValue → Type 0
+RefusesBytes old bytes answer new = ((place : Place) → SpellsLive bytes place → ⊥) × (answer ≡ refusal_alone no.NotRead) × (new ≡ old)
+
+-- what is replied to bytes that are no message; want of memory can be met at any
+abbrev pub RepliesToWord : Opening → LiveValue → List ℕ → List Message → LiveValue → Type 0
+RepliesToWord o old bytes answer new = RepliesToLive o old bytes answer new ⊎ RefusesBytes old bytes answer new ⊎ (answer ≡ refusal_alone no.Memory)
+
+-- what a seat replies to bytes: to a message that a client sends, and to others; want of memory can be met at any
+abbrev pub LiveReplies : Opening → LiveValue → List ℕ → List Message → LiveValue → Type 0
+LiveReplies o old bytes answer new =
+    ((m : Message) × SpellsAsked bytes m × GivesOn o old m answer new)
+    ⊎ (IsUnasked bytes no.NotRead × RepliesToWord o old bytes answer new)
+    ⊎ (answer ≡ refusal_alone no.Memory)
+
+-- what there is to tell a client from its place on; nothing, if it isn't told unasked
+abbrev pub TellsFrom : Opening → Option Place → List Mark → List Message → Type 0
+TellsFrom o None seen told = told ≡ []
+TellsFrom o (Some place) seen told = TellsUnasked o seen place.client place.version told
+
+-- what a seat tells unasked: its client's place stays, until that is told
+abbrev pub LiveTells : Opening → LiveValue → List Message → LiveValue → Type 0
+LiveTells o old told new = SeatSeesOn o old.seat new.seat × (new.place ≡ old.place) × TellsFrom o old.place new.seat.seen told
+
+-- a place, moved to this version
+abbrev pub moved : Option Place → ℕ → Option Place
+moved None version = None
+moved (Some place) version = Some (record { client = place.client; version = version })
+
+-- its client was told all up to this version
+abbrev pub LiveGoesTo : LiveValue → ℕ → LiveValue → Type 0
+LiveGoesTo old version new = (new.seat ≡ old.seat) × (new.place ≡ moved old.place version)
