@@ -1,0 +1,98 @@
+// A client that does a server no good:  hostile PORT edits|garbage|frames
+//   edits    sends 100,000 edits over a live connection, and reads nothing
+//   garbage  sends 10,000 messages of random bytes over a live connection, then random bytes in place of a frame
+//   frames   sends edits of 2 MiB over a live connection, which are too large for the server
+// It begins again on a new connection as soon as all is sent, the server takes nothing for a second, or the connection ends. Ends at SIGTERM,
+// and prints how many connections it had and how many messages it put.
+#define _GNU_SOURCE
+#include "live.h"
+
+#include <errno.h>
+#include <poll.h>
+#include <signal.h>
+#include <stdio.h>
+#include <stdlib.h>
+#include <string.h>
+
+enum { EDITS = 100000, MESSAGES = 10000, LONG = 2 * 1024 * 1024, PATIENCE = 1000, MOST_WAITING = 64 * 1024 };
+
+static volatile sig_atomic_t is_over;
+static uint64_t connections, messages;
+
+// It reports to nobody.
+void acknowledge(struct client *client, uint64_t step) { (void)client, (void)step; }
+void see(struct client *client, struct client *author, uint64_t step) { (void)client, (void)author, (void)step; }
+void hear(struct client *client, struct client *author, uint64_t step) { (void)client, (void)author, (void)step; }
+void hear_copy(struct client *client) { (void)client; }
+struct client *client_called(uint64_t id) { return (void)id, NULL; }
+void call_client(struct client *client, uint64_t id) { client->id = id; }
+
+static void end(int signal) {
+    (void)signal;
+    is_over = 1;
+}
+
+// Puts the next message of a kind. Returns 0 if there is none any more.
+typedef int next_message(struct client *client, uint64_t number);
+
+static int put_edit(struct client *client, uint64_t number) {
+    if (number > EDITS) return 0;
+    lug.step(client, number);
+    return 1;
+}
+
+static int put_garbage(struct client *client, uint64_t number) {
+    char bytes[256];
+    size_t length = 1 + rand() % sizeof bytes;
+    for (size_t k = 0; k < length; k++) bytes[k] = rand();
+    if (number <= MESSAGES) put_frame(&client->stream, BINARY, bytes, length);
+    if (number == MESSAGES + 1) put(&client->stream, bytes, length);
+    return number <= MESSAGES + 1;
+}
+
+static int put_long(struct client *client, uint64_t number) {
+    static char text[LONG];
+    (void)number;
+    int length = snprintf(text, sizeof text, "[\"edit\",%lu,2,[\"set\",[%lu,1],\"t\",\"", client->id, client->id);
+    memset(text + length, 'x', LONG - length);
+    memcpy(text + LONG - 3, "\"]]", 3);
+    put_frame(&client->stream, BINARY, text, LONG);
+    return 1;
+}
+
+// Reads what has come, and keeps nothing. -1 if the connection has ended.
+static int pass_by(struct stream *stream) {
+    if (fill_stream(stream) < 0) return -1;
+    stream->in.from = stream->in.to;
+    return 0;
+}
+
+// Sends until all is sent, or nothing is taken for a second, or the connection ends.
+static void send_all(struct client *client, next_message *next, int reads) {
+    struct stream *stream = &client->stream;
+    struct pollfd polled = {.fd = stream->fd};
+    for (uint64_t number = 1; !is_over;) {
+        while (stream->out.to - stream->out.from < MOST_WAITING && next(client, number)) number++, messages++;
+        if (flush_stream(stream) < 0 || stream->out.from == stream->out.to) return;
+        polled.events = POLLOUT | (reads ? POLLIN : 0);
+        if (poll(&polled, 1, PATIENCE) == 0) return;
+        if (polled.revents & POLLIN && pass_by(stream) < 0) return;
+        if (polled.revents & (POLLERR | POLLHUP)) return;
+    }
+}
+
+int main(int count, char **words) {
+    const char *kind = count == 3 ? words[2] : "";
+    next_message *next = strcmp(kind, "edits") == 0 ? put_edit : strcmp(kind, "garbage") == 0 ? put_garbage : put_long;
+    if (next == put_long && strcmp(kind, "frames") != 0) fail("hostile PORT edits|garbage|frames");
+    sigaction(SIGTERM, &(struct sigaction){.sa_handler = end}, NULL);
+    while (!is_over) {
+        struct client client = {.protocol = &lug};
+        lug.open(&client, atoi(words[1]));
+        connections++;
+        send_all(&client, next, next != put_edit);
+        close_stream(&client.stream);
+    }
+    printf("{\"connections\":%lu,\"messages\":%lu}\n", connections, messages);
+    return 0;
+}

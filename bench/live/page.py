@@ -1,0 +1,2 @@
+def write_tables(titles):
+    pass
