@@ -1,9 +1,9 @@
 // Clients of one document:  clients [-s PID] [-o PID].. lug|yjs|redis PORT SECONDS WORK
-//   drag N HZ               N clients make HZ steps a second each, and one more looks: how late it sees each step
-//   flood N WINDOW THREADS  N clients on so many threads make steps as fast as they can, each with at most WINDOW that aren't acknowledged
-//   idle N                  N clients that only look
-// PID is the server with -s, and with -o another process that belongs to the measurement. Prints the figures as one line of JSON. Fails if an
-// edit is refused, an entry is missing, or a connection ends.
+//   drag N HZ               N clients send HZ steps a second each, and one more only receives: how late it has each step
+//   flood N WINDOW THREADS  N clients on THREADS threads send steps as fast as they can, each with at most WINDOW unacknowledged
+//   idle N                  N clients that only receive
+// -s names the server's process, -o another process of the measurement. Prints the figures as one line of JSON. Fails if an edit is refused,
+// an entry is missing, or a connection ends.
 #define _GNU_SOURCE
 #include "live.h"
 
@@ -24,20 +24,20 @@ struct list {
 };
 
 // The clients of one thread.
-struct crowd {
+struct worker {
     struct client *clients[MOST_CLIENTS];
     int count, epoll;
     double hz;
     uint64_t window;
-    double begin, end;              // what is sent, heard and acknowledged between these counts
-    int counts;                     // whether it is between them now
-    double slip;                    // how much too late a step was made, at most
-    uint64_t told, acknowledged, copies;
-    struct list late, waits;        // until it is seen, and until it is acknowledged
+    double begin, end;              // of the measured time
+    int is_counting;                // whether that is now
+    double slip;                    // the longest delay of a step by this program
+    uint64_t received, acknowledged, copies;
+    struct list late, waits;        // milliseconds until a step is received by the watching client, and until it is acknowledged
     pthread_t thread;
 };
 
-static struct client *callable[MOST_IDS];
+static struct client *by_id[MOST_IDS];
 
 static void add(struct list *list, double item) {
     if (list->count == list->room) {
@@ -48,87 +48,101 @@ static void add(struct list *list, double item) {
     list->items[list->count++] = item;
 }
 
-// ---- what is reported ----
+// ---- what the protocols report ----
 
-struct client *client_called(uint64_t id) {
-    return id < MOST_IDS ? callable[id] : NULL;
+struct client *client_with_id(uint64_t id) {
+    return id < MOST_IDS ? by_id[id] : NULL;
 }
 
-void call_client(struct client *client, uint64_t id) {
+void set_id(struct client *client, uint64_t id) {
     if (id >= MOST_IDS) fail("the server calls a client %lu", id);
     client->id = id;
-    callable[id] = client;
+    by_id[id] = client;
 }
 
-// Adds how long the steps after `from` up to `to` have waited by now, as far as they count.
-static void add_waits(struct crowd *crowd, struct list *list, const struct client *author, uint64_t from, uint64_t to) {
+// Adds the ages of an author's steps after `from` up to `to`, if they were sent in the measured time.
+static void add_waits(struct worker *worker, struct list *list, const struct client *author, uint64_t from, uint64_t to) {
     double now = milliseconds();
     for (uint64_t step = from + 1; step <= to; step++) {
         double sent = author->sent_at[step % RING];
-        if (sent >= crowd->begin && sent < crowd->end) add(list, now - sent);
+        if (sent >= worker->begin && sent < worker->end) add(list, now - sent);
     }
 }
 
-void acknowledge(struct client *client, uint64_t step) {
-    struct crowd *crowd = client->crowd;
-    if (!crowd || step <= client->acknowledged) return;
-    if (crowd->counts) crowd->acknowledged += step - client->acknowledged;
-    if (client->role == FLOODS) add_waits(crowd, &crowd->waits, client, client->acknowledged, step);
+void on_acknowledged(struct client *client, uint64_t step) {
+    struct worker *worker = client->worker;
+    if (!worker || step <= client->acknowledged) return;
+    if (worker->is_counting) worker->acknowledged += step - client->acknowledged;
+    if (client->role == FLOODS) add_waits(worker, &worker->waits, client, client->acknowledged, step);
     client->acknowledged = step;
 }
 
-void see(struct client *client, struct client *author, uint64_t step) {
-    struct crowd *crowd = client->crowd;
-    if (!crowd || client->role != LOOKS || !author || step <= author->seen) return;
-    add_waits(crowd, &crowd->late, author, author->seen, step);
+void on_reached(struct client *client, struct client *author, uint64_t step) {
+    struct worker *worker = client->worker;
+    if (!worker || client->role != WATCHES || !author || step <= author->seen) return;
+    add_waits(worker, &worker->late, author, author->seen, step);
     author->seen = step;
 }
 
-void hear(struct client *client, struct client *author, uint64_t step) {
-    if (client->crowd && client->crowd->counts) client->crowd->told++;
-    see(client, author, step);
+void on_entry(struct client *client, struct client *author, uint64_t step) {
+    if (client->worker && client->worker->is_counting) client->worker->received++;
+    on_reached(client, author, step);
 }
 
-void hear_copy(struct client *client) {
-    if (client->crowd) client->crowd->copies++;
+void on_copy(struct client *client) {
+    if (client->worker) client->worker->copies++;
 }
 
 // ---- work ----
 
 static void make_step(struct client *client, double now) {
-    if (client->sent - client->seen >= RING && client->role == DRAGS) fail("%d steps aren't seen", RING);
+    if (client->sent - client->seen >= RING && client->role == DRAGS) fail("%d steps were sent and not received", RING);
     client->sent++;
     client->sent_at[client->sent % RING] = now;
     client->protocol->step(client, client->sent);
 }
 
-static void flush_client(struct client *client) {
-    if (flush_stream(&client->stream) < 0) fail("the server has ended the connection of client %u", client->number);
-    if (client->protocol == &redis && flush_stream(&client->reader) < 0) fail("Redis has ended a connection");
+static void watch(const struct worker *worker, struct stream *stream, int operation) {
+    struct epoll_event event = {.events = EPOLLIN | (stream->is_full ? EPOLLOUT : 0), .data.ptr = stream};
+    epoll_ctl(worker->epoll, operation, stream->fd, &event);
 }
 
-// Makes the steps that are due, and returns when the next one is.
-static double drag(struct crowd *crowd, struct client *client, double now) {
+// Sends what the socket takes, and waits for it to take the rest.
+static void flush(struct client *client, struct stream *stream) {
+    if (flush_stream(stream) < 0) fail("the server has ended the connection of client %u", client->number);
+    int is_full = stream->out.from < stream->out.to;
+    if (is_full == stream->is_full) return;
+    stream->is_full = is_full;
+    watch(client->worker, stream, EPOLL_CTL_MOD);
+}
+
+static void flush_client(struct client *client) {
+    flush(client, &client->stream);
+    if (client->protocol == &redis) flush(client, &client->reader);
+}
+
+// Sends the steps whose time has come. Returns the time of the next one.
+static double drag(struct worker *worker, struct client *client, double now) {
     while (client->due <= now) {
-        if (crowd->counts && now - client->due > crowd->slip) crowd->slip = now - client->due;
+        if (worker->is_counting && now - client->due > worker->slip) worker->slip = now - client->due;
         make_step(client, milliseconds());
-        client->due += 1e3 / crowd->hz;
+        client->due += 1e3 / worker->hz;
     }
     return client->due;
 }
 
-static void flood(struct crowd *crowd, struct client *client) {
-    while (client->sent - client->acknowledged < crowd->window) make_step(client, milliseconds());
+static void flood(struct worker *worker, struct client *client) {
+    while (client->sent - client->acknowledged < worker->window) make_step(client, milliseconds());
 }
 
-// Lets each client do what it does now, and returns when the next step is due, or the end.
-static double work(struct crowd *crowd, double now) {
-    double next = crowd->end;
-    for (int k = 0; k < crowd->count; k++) {
-        struct client *client = crowd->clients[k];
-        if (client->role == FLOODS) flood(crowd, client);
+// Sends what each client sends now. Returns the time of the next step, or the end.
+static double work(struct worker *worker, double now) {
+    double next = worker->end;
+    for (int k = 0; k < worker->count; k++) {
+        struct client *client = worker->clients[k];
+        if (client->role == FLOODS) flood(worker, client);
         if (client->role == DRAGS) {
-            double due = drag(crowd, client, now);
+            double due = drag(worker, client, now);
             if (due < next) next = due;
         }
         flush_client(client);
@@ -136,54 +150,50 @@ static double work(struct crowd *crowd, double now) {
     return next;
 }
 
-// Waits until something comes, or this time, and takes what has come.
-static void serve_events(struct crowd *crowd, double until) {
+// Waits for input until this time, and takes it.
+static void serve_events(struct worker *worker, double until) {
     struct epoll_event events[MOST_CLIENTS];
     double left = until - milliseconds();
     if (left < 0) left = 0;
     struct timespec wait = {.tv_sec = left / 1e3, .tv_nsec = (long)(left * 1e6) % 1000000000};
-    int count = epoll_pwait2(crowd->epoll, events, MOST_CLIENTS, &wait, NULL);
+    int count = epoll_pwait2(worker->epoll, events, MOST_CLIENTS, &wait, NULL);
     for (int k = 0; k < count; k++) {
         struct stream *stream = events[k].data.ptr;
-        if (fill_stream(stream) < 0) fail("the server has ended the connection of client %u", stream->owner->number);
-        stream->owner->protocol->take(stream->owner, stream);
-        flush_client(stream->owner);
+        struct client *client = stream->owner;
+        if (fill_stream(stream) < 0) fail("the server has ended the connection of client %u", client->number);
+        client->protocol->take(client, stream);
+        flush_client(client);
     }
 }
 
-// How many steps nobody has seen yet.
-static uint64_t unseen(const struct crowd *crowd) {
+// The number of steps that the watching client hasn't received.
+static uint64_t unseen(const struct worker *worker) {
     uint64_t count = 0;
-    for (int k = 0; k < crowd->count; k++)
-        if (crowd->clients[k]->role == DRAGS) count += crowd->clients[k]->sent - crowd->clients[k]->seen;
+    for (int k = 0; k < worker->count; k++)
+        if (worker->clients[k]->role == DRAGS) count += worker->clients[k]->sent - worker->clients[k]->seen;
     return count;
 }
 
 static void *run(void *argument) {
-    struct crowd *crowd = argument;
-    for (double now; (now = milliseconds()) < crowd->end;) {
-        crowd->counts = now >= crowd->begin;
-        serve_events(crowd, work(crowd, now));
+    struct worker *worker = argument;
+    for (double now; (now = milliseconds()) < worker->end;) {
+        worker->is_counting = now >= worker->begin;
+        serve_events(worker, work(worker, now));
     }
-    crowd->counts = 0;
-    while (unseen(crowd) > 0 && milliseconds() < crowd->end + MOST_DRAINED) serve_events(crowd, milliseconds() + 10);
+    worker->is_counting = 0;
+    while (unseen(worker) > 0 && milliseconds() < worker->end + MOST_DRAINED) serve_events(worker, milliseconds() + 10);
     return NULL;
 }
 
-// ---- before ----
+// ---- setup ----
 
-static void watch(struct crowd *crowd, struct stream *stream, struct client *owner) {
-    struct epoll_event event = {.events = EPOLLIN | EPOLLOUT | EPOLLET, .data.ptr = stream};
-    stream->owner = owner;
-    epoll_ctl(crowd->epoll, EPOLL_CTL_ADD, stream->fd, &event);
-}
-
-// Puts a client whose object is made into a crowd.
-static void join_crowd(struct crowd *crowd, struct client *client) {
-    crowd->clients[crowd->count++] = client;
-    client->crowd = crowd;
-    watch(crowd, &client->stream, client);
-    if (client->protocol == &redis) watch(crowd, &client->reader, client);
+// Adds a client whose object is made to a worker.
+static void join_worker(struct worker *worker, struct client *client) {
+    worker->clients[worker->count++] = client;
+    client->worker = worker;
+    client->stream.owner = client->reader.owner = client;
+    watch(worker, &client->stream, EPOLL_CTL_ADD);
+    if (client->protocol == &redis) watch(worker, &client->reader, EPOLL_CTL_ADD);
 }
 
 static struct client *open_one(const struct protocol *protocol, enum role role, unsigned number, int port) {
@@ -196,7 +206,7 @@ static struct client *open_one(const struct protocol *protocol, enum role role, 
     return client;
 }
 
-// What the words of the command line ask for.
+// The command line.
 struct plan {
     const struct protocol *protocol;
     enum role role;
@@ -206,28 +216,28 @@ struct plan {
     struct watched watched;
 };
 
-// Opens the clients, and shares them out among the crowds. One more looks where others drag.
-static void open_all(const struct plan *plan, struct crowd *crowds) {
+// Opens the clients, and divides them among the workers. If clients drag, one more watches.
+static void open_all(const struct plan *plan, struct worker *workers) {
     int count = plan->clients + (plan->role == DRAGS);
     for (int k = 0; k < plan->threads; k++) {
-        crowds[k] = (struct crowd){.epoll = epoll_create1(EPOLL_CLOEXEC), .hz = plan->hz, .window = plan->window};
+        workers[k] = (struct worker){.epoll = epoll_create1(EPOLL_CLOEXEC), .hz = plan->hz, .window = plan->window};
     }
     for (int k = 0; k < count; k++) {
-        struct client *client = open_one(plan->protocol, k < plan->clients ? plan->role : LOOKS, k, plan->port);
-        join_crowd(&crowds[k % plan->threads], client);
+        struct client *client = open_one(plan->protocol, k < plan->clients ? plan->role : WATCHES, k, plan->port);
+        join_worker(&workers[k % plan->threads], client);
     }
 }
 
-// From when on each client drags: one after the other, within the time of a step.
-static void begin(const struct plan *plan, struct crowd *crowds) {
+// Starts the workers. The first steps of clients that drag are spread over the time of a step.
+static void begin(const struct plan *plan, struct worker *workers) {
     double now = milliseconds();
     for (int k = 0; k < plan->threads; k++) {
-        struct crowd *crowd = &crowds[k];
-        crowd->begin = now + WARM;
-        crowd->end = crowd->begin + plan->seconds * 1e3;
-        for (int c = 0; c < crowd->count; c++) crowd->clients[c]->due = now + 1e3 / plan->hz * c / crowd->count;
+        struct worker *worker = &workers[k];
+        worker->begin = now + WARM;
+        worker->end = worker->begin + plan->seconds * 1e3;
+        for (int c = 0; c < worker->count; c++) worker->clients[c]->due = now + 1e3 / plan->hz * c / worker->count;
     }
-    for (int k = 0; k < plan->threads; k++) pthread_create(&crowds[k].thread, NULL, run, &crowds[k]);
+    for (int k = 0; k < plan->threads; k++) pthread_create(&workers[k].thread, NULL, run, &workers[k]);
 }
 
 static void sleep_until(double time) {
@@ -245,38 +255,38 @@ static int compare(const void *one, const void *other) {
 static void print_times(const char *name, struct list *list) {
     if (list->count == 0) return;
     qsort(list->items, list->count, sizeof *list->items, compare);
-    printf(",\"%s\":{\"count\":%zu,\"median\":%.2f,\"p95\":%.2f,\"longest\":%.2f}", name, list->count, list->items[list->count / 2],
-           list->items[list->count * 95 / 100], list->items[list->count - 1]);
+    printf(",\"%s\":{\"count\":%zu,\"least\":%.2f,\"median\":%.2f,\"p95\":%.2f,\"longest\":%.2f}", name, list->count, list->items[0],
+           list->items[list->count / 2], list->items[list->count * 95 / 100], list->items[list->count - 1]);
 }
 
 static void append(struct list *list, const struct list *more) {
     for (size_t k = 0; k < more->count; k++) add(list, more->items[k]);
 }
 
-static void print_crowds(const struct plan *plan, struct crowd *crowds, double seconds) {
-    struct crowd all = {0};
+static void print_counts(const struct plan *plan, struct worker *workers, double seconds) {
+    struct worker all = {0};
     uint64_t left = 0;
     for (int k = 0; k < plan->threads; k++) {
-        all.told += crowds[k].told;
-        all.acknowledged += crowds[k].acknowledged;
-        all.copies += crowds[k].copies;
-        if (crowds[k].slip > all.slip) all.slip = crowds[k].slip;
-        append(&all.late, &crowds[k].late);
-        append(&all.waits, &crowds[k].waits);
-        left += unseen(&crowds[k]);
+        all.received += workers[k].received;
+        all.acknowledged += workers[k].acknowledged;
+        all.copies += workers[k].copies;
+        if (workers[k].slip > all.slip) all.slip = workers[k].slip;
+        append(&all.late, &workers[k].late);
+        append(&all.waits, &workers[k].waits);
+        left += unseen(&workers[k]);
     }
-    printf(",\"acknowledged\":%.1f,\"told\":%.1f,\"copies\":%lu,\"slip\":%.2f,\"unseen\":%lu", all.acknowledged / seconds, all.told / seconds,
-           all.copies, all.slip, left);
+    printf(",\"acknowledged\":%.1f,\"received\":%.1f,\"copies\":%lu", all.acknowledged / seconds, all.received / seconds, all.copies);
+    printf(",\"slip\":%.2f,\"unseen\":%lu", all.slip, left);
     print_times("late", &all.late);
     print_times("waits", &all.waits);
 }
 
-// The steps of each client, for whoever looks at what the server holds.
-static void print_steps(const struct plan *plan, const struct crowd *crowds) {
+// The number of each client's steps, by which run checks what the server has.
+static void print_steps(const struct plan *plan, const struct worker *workers) {
     const char *comma = "";
     printf(",\"steps\":[");
     for (int k = 0; k < plan->threads; k++) {
-        for (int c = 0; c < crowds[k].count; c++, comma = ",") printf("%s%lu", comma, crowds[k].clients[c]->sent);
+        for (int c = 0; c < workers[k].count; c++, comma = ",") printf("%s%lu", comma, workers[k].clients[c]->sent);
     }
     printf("]");
 }
@@ -316,7 +326,7 @@ static struct plan read_plan(int count, char **words) {
     plan.protocol = protocol_named(words[0]);
     plan.port = atoi(words[1]);
     plan.seconds = atof(words[2]);
-    plan.role = is_flood ? FLOODS : is_drag ? DRAGS : LOOKS;
+    plan.role = is_flood ? FLOODS : is_drag ? DRAGS : WATCHES;
     plan.clients = atoi(words[4]);
     if (is_drag) plan.hz = atof(words[5]);
     if (is_flood) plan.window = atoi(words[5]);
@@ -327,19 +337,19 @@ static struct plan read_plan(int count, char **words) {
 }
 
 int main(int count, char **words) {
-    static struct crowd crowds[MOST_THREADS];
+    static struct worker workers[MOST_THREADS];
     struct plan plan = read_plan(count, words);
     prctl(PR_SET_TIMERSLACK, 1);
-    open_all(&plan, crowds);
-    begin(&plan, crowds);
-    sleep_until(crowds[0].begin);
+    open_all(&plan, workers);
+    begin(&plan, workers);
+    sleep_until(workers[0].begin);
     struct sample from = take_sample(&plan.watched);
-    sleep_until(crowds[0].end);
+    sleep_until(workers[0].end);
     struct sample to = take_sample(&plan.watched);
-    for (int k = 0; k < plan.threads; k++) pthread_join(crowds[k].thread, NULL);
+    for (int k = 0; k < plan.threads; k++) pthread_join(workers[k].thread, NULL);
     print_meters(&from, &to);
-    print_crowds(&plan, crowds, plan.seconds);
-    print_steps(&plan, crowds);
+    print_counts(&plan, workers, plan.seconds);
+    print_steps(&plan, workers);
     printf("}\n");
     return 0;
 }

@@ -1,6 +1,6 @@
-// A proxy of TCP that keeps bytes back:  delay LISTEN TARGET MILLISECONDS
-// LISTEN and TARGET are ports of the loopback. What comes on either side leaves on the other so many milliseconds later: half a round trip.
-// All is kept back equally long, so one queue has all that is kept, in the order in which it leaves. It runs until it is killed.
+// A TCP proxy that delays all bytes:  delay LISTEN TARGET MILLISECONDS
+// LISTEN and TARGET are ports of the loopback. Bytes that are read on either side are written on the other side MILLISECONDS later, which is
+// half a round trip. The delay is the same for all, so one queue has them in the order of their times. It runs until it is killed.
 #define _GNU_SOURCE
 #include "live.h"
 
@@ -18,16 +18,16 @@
 
 enum { READ_AT_ONCE = 64 * 1024, MOST_KEPT = 8 * 1024 * 1024, MOST_EVENTS = 256, MOST_IDLE = 1000 };
 
-// One side of a connection. What comes from it leaves on the other side.
+// One side of a connection.
 struct side {
-    struct stream stream;           // to which waits what was kept long enough and isn't taken yet
+    struct stream stream;           // its output has waited long enough, and wasn't taken yet
     struct side *other;
-    size_t kept;                    // how many bytes came from it and haven't left
-    int has_ended;                  // nothing more comes from it
-    int ends, is_shut;              // nothing more is put to it, and it knows that
+    size_t kept;                    // bytes that were read from it, and not written yet
+    int has_ended;                  // it sends no more
+    int ends, is_shut;              // no more is sent to it, and it was shut down
 };
 
-// Bytes that came from a side: none if it has ended.
+// Bytes that were read from a side, or none for its end.
 struct part {
     struct part *next;
     struct side *from;
@@ -50,7 +50,7 @@ static void keep(struct side *side, const char *bytes, size_t count) {
     side->kept += count;
 }
 
-// Reads what has come, until much of it hasn't left.
+// Reads until there is no more, or MOST_KEPT bytes are kept.
 static void take(struct side *side) {
     static char bytes[READ_AT_ONCE];
     while (!side->has_ended && side->kept < MOST_KEPT) {
@@ -61,8 +61,8 @@ static void take(struct side *side) {
     }
 }
 
-// Gives a side what it takes of what waits, and reads on from the other. A connection whose sides have both ended is closed.
-static void leave(struct side *side) {
+// Writes what a side takes, and continues to read from the other side. Closes a connection whose sides have both ended.
+static void write_out(struct side *side) {
     struct buffer *out = &side->stream.out;
     size_t waiting = out->to - out->from;
     if (flush_stream(&side->stream) < 0) out->from = out->to;
@@ -78,7 +78,7 @@ static void leave(struct side *side) {
     take(side->other);
 }
 
-// Passes on what is due. Returns when the next part is, or a time far ahead.
+// Passes on the parts whose time has come. Returns the time of the next one, or a time far ahead.
 static double pass_on(void) {
     double now = milliseconds();
     while (first && first->due <= now) {
@@ -89,7 +89,7 @@ static double pass_on(void) {
         put(&to->stream, part->bytes, part->count);
         if (part->count == 0) to->ends = 1;
         free(part);
-        leave(to);
+        write_out(to);
     }
     return first ? first->due : now + MOST_IDLE;
 }
@@ -101,7 +101,7 @@ static void watch(struct side *side) {
     epoll_ctl(epoll, EPOLL_CTL_ADD, side->stream.fd, &event);
 }
 
-// Accepts a connection, and makes its other side. They are there as long as the program runs.
+// Accepts a connection, and connects its other side. They aren't freed before the program ends.
 static void accept_one(int listener, int target) {
     int fd = accept4(listener, NULL, NULL, SOCK_NONBLOCK | SOCK_CLOEXEC);
     if (fd < 0) return;
@@ -126,7 +126,7 @@ static int listen_at(int port) {
     return listener;
 }
 
-// Waits until something comes or this time.
+// Waits for events until this time, and handles them.
 static void serve_events(int listener, int target, double until) {
     struct epoll_event events[MOST_EVENTS];
     double left = until - milliseconds();
@@ -140,7 +140,7 @@ static void serve_events(int listener, int target, double until) {
             continue;
         }
         take(side);
-        leave(side);
+        write_out(side);
     }
 }
 

@@ -1,9 +1,9 @@
-// A client that does a server no good:  hostile PORT edits|garbage|frames
-//   edits    sends 100,000 edits over a live connection, and reads nothing
-//   garbage  sends 10,000 messages of random bytes over a live connection, then random bytes in place of a frame
-//   frames   sends edits of 2 MiB over a live connection, which are too large for the server
-// It begins again on a new connection as soon as all is sent, the server takes nothing for a second, or the connection ends. Ends at SIGTERM,
-// and prints how many connections it had and how many messages it put.
+// A hostile client of `lugcurrant serve`:  hostile PORT edits|garbage|frames
+//   edits    sends 100,000 edits on a live connection, and reads nothing
+//   garbage  sends 10,000 messages of random bytes on a live connection, then random bytes in place of a frame
+//   frames   sends edits of 2 MiB on a live connection, which the server refuses as too large
+// It connects again when all is sent, the server takes nothing for a second, or the connection has ended. At SIGTERM it prints the number of
+// its connections and messages, and exits.
 #define _GNU_SOURCE
 #include "live.h"
 
@@ -19,20 +19,20 @@ enum { EDITS = 100000, MESSAGES = 10000, LONG = 2 * 1024 * 1024, PATIENCE = 1000
 static volatile sig_atomic_t is_over;
 static uint64_t connections, messages;
 
-// It reports to nobody.
-void acknowledge(struct client *client, uint64_t step) { (void)client, (void)step; }
-void see(struct client *client, struct client *author, uint64_t step) { (void)client, (void)author, (void)step; }
-void hear(struct client *client, struct client *author, uint64_t step) { (void)client, (void)author, (void)step; }
-void hear_copy(struct client *client) { (void)client; }
-struct client *client_called(uint64_t id) { return (void)id, NULL; }
-void call_client(struct client *client, uint64_t id) { client->id = id; }
+// Nothing is measured here.
+void on_acknowledged(struct client *client, uint64_t step) { (void)client, (void)step; }
+void on_reached(struct client *client, struct client *author, uint64_t step) { (void)client, (void)author, (void)step; }
+void on_entry(struct client *client, struct client *author, uint64_t step) { (void)client, (void)author, (void)step; }
+void on_copy(struct client *client) { (void)client; }
+struct client *client_with_id(uint64_t id) { return (void)id, NULL; }
+void set_id(struct client *client, uint64_t id) { client->id = id; }
 
-static void end(int signal) {
+static void stop(int signal) {
     (void)signal;
     is_over = 1;
 }
 
-// Puts the next message of a kind. Returns 0 if there is none any more.
+// Puts message `number`. Returns 0 if there are no more.
 typedef int next_message(struct client *client, uint64_t number);
 
 static int put_edit(struct client *client, uint64_t number) {
@@ -60,23 +60,24 @@ static int put_long(struct client *client, uint64_t number) {
     return 1;
 }
 
-// Reads what has come, and keeps nothing. -1 if the connection has ended.
-static int pass_by(struct stream *stream) {
+// Reads, and discards it. Returns -1 if the connection has ended.
+static int discard(struct stream *stream) {
     if (fill_stream(stream) < 0) return -1;
     stream->in.from = stream->in.to;
     return 0;
 }
 
-// Sends until all is sent, or nothing is taken for a second, or the connection ends.
+// Sends until all is sent, the server takes nothing for a second, or the connection has ended.
 static void send_all(struct client *client, next_message *next, int reads) {
     struct stream *stream = &client->stream;
     struct pollfd polled = {.fd = stream->fd};
+    int has_more = 1;
     for (uint64_t number = 1; !is_over;) {
-        while (stream->out.to - stream->out.from < MOST_WAITING && next(client, number)) number++, messages++;
-        if (flush_stream(stream) < 0 || stream->out.from == stream->out.to) return;
+        while (stream->out.to - stream->out.from < MOST_WAITING && (has_more = next(client, number))) number++, messages++;
+        if (flush_stream(stream) < 0 || (!has_more && stream->out.from == stream->out.to)) return;
         polled.events = POLLOUT | (reads ? POLLIN : 0);
         if (poll(&polled, 1, PATIENCE) == 0) return;
-        if (polled.revents & POLLIN && pass_by(stream) < 0) return;
+        if (polled.revents & POLLIN && discard(stream) < 0) return;
         if (polled.revents & (POLLERR | POLLHUP)) return;
     }
 }
@@ -85,7 +86,7 @@ int main(int count, char **words) {
     const char *kind = count == 3 ? words[2] : "";
     next_message *next = strcmp(kind, "edits") == 0 ? put_edit : strcmp(kind, "garbage") == 0 ? put_garbage : put_long;
     if (next == put_long && strcmp(kind, "frames") != 0) fail("hostile PORT edits|garbage|frames");
-    sigaction(SIGTERM, &(struct sigaction){.sa_handler = end}, NULL);
+    sigaction(SIGTERM, &(struct sigaction){.sa_handler = stop}, NULL);
     while (!is_over) {
         struct client client = {.protocol = &lug};
         lug.open(&client, atoi(words[1]));

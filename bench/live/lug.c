@@ -15,7 +15,7 @@ static void say(struct client *client, const char *format, ...) {
     put_frame(&client->stream, BINARY, text, length);
 }
 
-// The number at a place of a text, which is left behind it. What isn't a digit ends it.
+// Reads the digits at a place of a text, and moves the place past them.
 static uint64_t number_at(const char **text) {
     uint64_t number = 0;
     for (; **text >= '0' && **text <= '9'; (*text)++) number = number * 10 + (**text - '0');
@@ -30,20 +30,20 @@ static void take_entry(struct client *client, const char *text) {
     uint64_t author = number_at(&text);
     text += strlen(",");
     uint64_t number = number_at(&text);
-    if (version != client->version + 1) fail("client %u has version %lu, and hears entry %lu", client->number, client->version, version);
+    if (version != client->version + 1) fail("client %u has version %lu, and receives entry %lu", client->number, client->version, version);
     client->version = version;
     if (author == 0) return;
-    hear(client, client_called(author), number - 1);
-    if (author == client->id) acknowledge(client, number - 1);
+    on_entry(client, client_with_id(author), number - 1);
+    if (author == client->id) on_acknowledged(client, number - 1);
 }
 
-// Where the row of the next page names its kind: [[ID,1],"page",[[0,0],POSITION],[["t",STEP]]].
+// The kind in the row of the next page, [[ID,1],"page",[[0,0],POSITION],[["t",STEP]]], or NULL.
 static const char *next_page(const char *text, const char *end) {
     static const char kind[] = ",1],\"page\",";
     return memmem(text, end - text, kind, strlen(kind));
 }
 
-// The pages of a copy. One that isn't moved yet has no property.
+// Takes the pages of a copy. One without a step has no property.
 static void take_rows(struct client *client, const char *text, const char *end) {
     static const char property[] = "[[\"t\",";
     for (const char *row = next_page(text, end), *next; row; row = next) {
@@ -52,7 +52,7 @@ static void take_rows(struct client *client, const char *text, const char *end) 
         if (!step) continue;
         step += strlen(property);
         while (id[-1] >= '0' && id[-1] <= '9') id--;
-        see(client, client_called(number_at(&id)), number_at(&step));
+        on_reached(client, client_with_id(number_at(&id)), number_at(&step));
     }
 }
 
@@ -62,8 +62,8 @@ static void take_copy(struct client *client, const char *text, size_t length) {
     client->version = number_at(&text);
     text += strlen(",");
     uint64_t done = number_at(&text);
-    hear_copy(client);
-    if (done > 0) acknowledge(client, done - 1);
+    on_copy(client);
+    if (done > 0) on_acknowledged(client, done - 1);
     take_rows(client, text, end);
 }
 
@@ -77,7 +77,7 @@ static void take_message(struct client *client, const char *text, size_t length)
         take_copy(client, text, length);
         break;
     case 'w':
-        call_client(client, number_at(&number));
+        set_id(client, number_at(&number));
         // fall through
     case 'i':
         client->answers++;
@@ -96,14 +96,13 @@ static void take(struct client *client, struct stream *stream) {
     }
 }
 
-// Waits until so many messages were answered.
+// Waits until `count` messages were answered.
 static void await_answers(struct client *client, uint64_t count) {
     while (take(client, &client->stream), client->answers < count) await_input(&client->stream);
 }
 
 static void open_client(struct client *client, int port) {
-    open_stream(&client->stream, port);
-    shake_hands(&client->stream, port, "/");
+    open_websocket(&client->stream, port, "/");
     say(client, "[\"join\",2]");
     await_answers(client, 1);
     say(client, "[\"edit\",%lu,1,[\"create\",[%lu,1],\"page\",[[0,0],\"%06luO\"]]]", client->id, client->id, client->id);

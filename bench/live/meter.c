@@ -20,7 +20,7 @@ static double cpu_of(int pid) {
     return clock_getcpuclockid(pid, &clock) == 0 ? seconds_of(clock) : 0;
 }
 
-// The number behind a name in a file of lines `NAME: NUMBER`; all of them added, if several lines begin so.
+// The sum of the numbers in the lines `NAME: NUMBER` of a file whose names contain this one.
 static uint64_t number_in(const char *path, const char *name) {
     char line[256];
     uint64_t sum = 0;
@@ -32,7 +32,7 @@ static uint64_t number_in(const char *path, const char *name) {
     return sum;
 }
 
-// How often the threads of a process were switched to another one.
+// The context switches of all threads of a process.
 static uint64_t switches_of(int pid) {
     char path[300];
     uint64_t sum = 0;
@@ -48,7 +48,7 @@ static uint64_t switches_of(int pid) {
     return sum;
 }
 
-// How long the processors worked, and how long a hypervisor had them.
+// The CPU seconds of the machine.
 static void sample_machine(struct sample *sample) {
     double user = 0, nice = 0, system = 0, idle, waits, irq = 0, soft = 0, stolen = 0, tick = 1.0 / sysconf(_SC_CLK_TCK);
     FILE *file = fopen("/proc/stat", "r");

@@ -1,4 +1,4 @@
-// Connections on which no call blocks.
+// Nonblocking connections.
 #define _GNU_SOURCE
 #include "live.h"
 
@@ -32,7 +32,7 @@ _Noreturn void fail(const char *format, ...) {
     exit(1);
 }
 
-// Makes room for so many bytes more behind those that wait.
+// Makes room for `count` more bytes.
 static void reserve(struct buffer *buffer, size_t count) {
     if (buffer->from == buffer->to) buffer->from = buffer->to = 0;
     if (buffer->room - buffer->to >= count) return;
@@ -85,15 +85,12 @@ int flush_stream(struct stream *stream) {
 
 int fill_stream(struct stream *stream) {
     struct buffer *in = &stream->in;
-    for (;;) {
-        reserve(in, READ_AT_ONCE);
-        size_t room = in->room - in->to;
-        ssize_t count = recv(stream->fd, in->bytes + in->to, room, 0);
-        if (count == 0) return -1;
-        if (count < 0) return is_not_now() ? 0 : -1;
-        in->to += count;
-        if ((size_t)count < room) return 0;
-    }
+    reserve(in, READ_AT_ONCE);
+    ssize_t count = recv(stream->fd, in->bytes + in->to, in->room - in->to, 0);
+    if (count < 0 && is_not_now()) return 0;
+    if (count <= 0) return -1;
+    in->to += count;
+    return 0;
 }
 
 void await_input(struct stream *stream) {

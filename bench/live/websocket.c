@@ -1,11 +1,16 @@
-// WebSocket (RFC 6455), as a client speaks it.
+// The client's side of WebSocket (RFC 6455).
 #define _GNU_SOURCE
 #include "live.h"
 
 #include <stdio.h>
+#include <stdlib.h>
 #include <string.h>
+#include <unistd.h>
 
-void shake_hands(struct stream *stream, int port, const char *path) {
+enum { TRIES = 100, PAUSE = 100 * 1000 };
+
+// Sends the handshake, and returns the status of its answer.
+static int send_handshake(struct stream *stream, int port, const char *path) {
     char request[512];
     int length = snprintf(request, sizeof request,
                           "GET %s HTTP/1.1\r\nHost: 127.0.0.1:%d\r\nUpgrade: websocket\r\nConnection: Upgrade\r\n"
@@ -15,11 +20,24 @@ void shake_hands(struct stream *stream, int port, const char *path) {
     struct buffer *in = &stream->in;
     char *end;
     while (!(end = memmem(in->bytes + in->from, in->to - in->from, "\r\n\r\n", 4))) await_input(stream);
-    if (memcmp(in->bytes + in->from, "HTTP/1.1 101", 12) != 0) fail("the handshake is answered %.40s", in->bytes + in->from);
+    int status = atoi(in->bytes + in->from + strlen("HTTP/1.1 "));
     in->from = end + 4 - in->bytes;
+    return status;
 }
 
-// The mask is 0: the server takes it off like any other.
+void open_websocket(struct stream *stream, int port, const char *path) {
+    int status = 0;
+    for (int tries = 0; tries < TRIES; tries++) {
+        open_stream(stream, port);
+        status = send_handshake(stream, port, path);
+        if (status == 101) return;
+        close_stream(stream);
+        usleep(PAUSE);
+    }
+    fail("the server refuses a handshake: status %d", status);
+}
+
+// The mask is 0, which costs a server as much as any other.
 void put_frame(struct stream *stream, int opcode, const void *payload, size_t length) {
     unsigned char head[14] = {0x80 | opcode};
     size_t used = 2;
@@ -35,7 +53,7 @@ void put_frame(struct stream *stream, int opcode, const void *payload, size_t le
     put(stream, payload, length);
 }
 
-// The length that a frame's head names, of which so many bytes are there. Sets how long the head is: 0 if more must come.
+// The length of a frame's payload. Sets the length of its head, or 0 if the head isn't whole yet.
 static uint64_t read_head(const unsigned char *frame, size_t count, size_t *head) {
     *head = 0;
     if (count < 2) return 0;

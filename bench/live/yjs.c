@@ -1,8 +1,8 @@
-// A client of y-websocket: the messages of y-protocols, with updates of Yjs in their first version. It merges nothing, as no client here
-// does. run has a client of Yjs itself look at what the server holds in the end.
+// A client of y-websocket: messages of y-protocols with updates of Yjs, version 1. It merges nothing, like all clients here; held.cjs checks
+// with Yjs itself what the server has in the end.
 //
-// The document has a map `objects`, and in it a map for each client, named by its number, whose property "t" is the number of the last step.
-// A step is the item whose clock has the same number; the map itself is item 0.
+// The document has a map `objects`, and in it a map for each client, named by its number, with the property "t": the number of the last step.
+// Item 0 of a client is its map, and item K is step K.
 #include "live.h"
 
 #include <stdio.h>
@@ -30,14 +30,13 @@ static void add_string(struct text *text, const char *string) {
     while (*string) add_byte(text, *string++);
 }
 
-// A number with a sign: its first byte has six bits.
+// A whole number. Its first byte has six bits of it, and the sign.
 static void add_value(struct text *text, uint64_t number) {
     add_byte(text, WHOLE_NUMBER);
     add_byte(text, (number > 63 ? 128 : 0) | (number & 63));
     if (number > 63) add_number(text, number >> 6);
 }
 
-// The server sends an update as a message of its own: a sync message, its kind, and its length.
 static void send_update(struct client *client, const struct text *update) {
     struct text message = {.length = 0};
     add_byte(&message, SYNC);
@@ -47,7 +46,7 @@ static void send_update(struct client *client, const struct text *update) {
     put_frame(&client->stream, BINARY, message.bytes, message.length + update->length);
 }
 
-// An update of one item, this one of this client.
+// The beginning of an update with one item of this client.
 static struct text update_of(const struct client *client, uint64_t clock) {
     struct text update = {.length = 0};
     add_number(&update, 1);
@@ -70,7 +69,7 @@ static void make_map(struct client *client) {
     send_update(client, &update);
 }
 
-// The first value of the property is an item below the map; a later one follows the value before it, and deletes that.
+// The first value's parent is the map. A later one names the value before it as its origin, and deletes that.
 static void step(struct client *client, uint64_t step) {
     struct text update = update_of(client, step);
     add_byte(&update, ANY | HAS_NAME | (step > 1 ? HAS_ORIGIN : 0));
@@ -99,15 +98,15 @@ static uint64_t number_at(const unsigned char **bytes) {
     }
 }
 
-// Each update that the server passes on is one that a client sent: of one item.
+// The server passes on each update as it came: with one item.
 static void take_update(struct client *client, const unsigned char *bytes) {
     number_at(&bytes);
     uint64_t authors = number_at(&bytes), items = number_at(&bytes);
     if (authors != 1 || items != 1) fail("an update has items of %lu authors", authors);
-    struct client *author = client_called(number_at(&bytes));
+    struct client *author = client_with_id(number_at(&bytes));
     uint64_t clock = number_at(&bytes);
-    hear(client, author, clock);
-    if (author == client) acknowledge(client, clock);
+    on_entry(client, author, clock);
+    if (author == client) on_acknowledged(client, clock);
 }
 
 static void take(struct client *client, struct stream *stream) {
@@ -123,9 +122,8 @@ static void take(struct client *client, struct stream *stream) {
 
 static void open_client(struct client *client, int port) {
     static const char ask[] = {SYNC, STEP_1, 1, 0}, nothing[] = {SYNC, STEP_2, 2, 0, 0};
-    call_client(client, client->number + 1);
-    open_stream(&client->stream, port);
-    shake_hands(&client->stream, port, "/bench");
+    set_id(client, client->number + 1);
+    open_websocket(&client->stream, port, "/bench");
     put_frame(&client->stream, BINARY, ask, sizeof ask);
     put_frame(&client->stream, BINARY, nothing, sizeof nothing);
     make_map(client);
