@@ -12,6 +12,8 @@ RESULTS, PAGE = TOP / "docs" / "results.json", TOP / "docs" / "speed.md"
 BEGIN, END = "<!-- live: bench/live/run writes from here -->", "<!-- to here -->"
 WIDTH = 100
 TITLES = {"lug": "Lugcurrant", "yjs": "Yjs", "redis": "Redis"}
+PEERS = {"yjs": "Yjs ({}) keeps nothing on disk.",
+         "redis": "{} syncs each XADD; its clients use XREAD BLOCK."}
 HOSTILE = {"nothing": "none", "edits": "100,000 edits, reads nothing", "garbage": "garbage",
            "frames": "edits of 2 MiB"}
 
@@ -123,35 +125,35 @@ def goals(results):
 
 # ---- tables ----
 
-def drags(results):
+def drags(results, kinds):
     rows = [[str(round_trip), str(clients),
              *(results.figures(cases.drag(kind, round_trip, clients), "median", "p95", "cpu")
-               for kind in TITLES)]
+               for kind in kinds)]
             for round_trip in cases.ROUND_TRIPS for clients in cases.CLIENTS]
-    return table(["Round trip", "Clients", *TITLES.values()], rows)
+    return table(["Round trip", "Clients", *(TITLES[kind] for kind in kinds)], rows)
 
 
-def alone(results):
+def alone(results, kinds):
+    heads = [f"{TITLES[kind]} {window:,}" for kind in kinds for window in cases.WINDOWS]
     rows = [[str(round_trip),
              *(results.figure(cases.alone(kind, round_trip, window), "acknowledged")
-               for kind in ("lug", "redis") for window in cases.WINDOWS)]
+               for kind in kinds for window in cases.WINDOWS)]
             for round_trip in cases.ALONE_ROUND_TRIPS]
-    windows = [f"{window:,}" for window in cases.WINDOWS]
-    return table(["Round trip", *windows, *(f"Redis {window}" for window in windows)], rows)
+    return table(["Round trip", *heads], rows)
 
 
-def crowds(results):
+def crowds(results, kinds):
     rows = [[str(window),
              *(results.figures(cases.crowd(kind, window), "acknowledged", "received")
-               for kind in ("lug", "redis"))]
+               for kind in kinds)]
             for window in cases.CROWD_WINDOWS]
-    return table(["Under way", "Lugcurrant", "Redis"], rows)
+    return table(["Under way", *(TITLES[kind] for kind in kinds)], rows)
 
 
-def idle(results):
+def idle(results, kinds):
     keys = ["cpu", "switches", "memory"]
-    rows = [[title, *(results.figure(cases.idle(kind), key) for key in keys)]
-            for kind, title in TITLES.items()]
+    rows = [[TITLES[kind], *(results.figure(cases.idle(kind), key) for key in keys)]
+            for kind in kinds]
     return table(["50 idle clients", "CPU s", "Switches/s", "MB"], rows)
 
 
@@ -168,15 +170,17 @@ def measured_on(results, servers):
         return results.figure(cases.RUN, key)
 
     build = "proved" if results.value(cases.RUN, "proved") else "**unproved**"
+    peers = [words.format(servers[kind]) for kind, words in PEERS.items() if kind in servers]
     return paragraph(
         f"Measured on {results.value(cases.RUN, 'date')} by `bench/live`, with the {build} server, "
         f"on {machine()}. The load was {figure('load')}; other programs had at most "
         f"{figure('others')} processors. A loop that appends 60 bytes and calls fsync made "
-        f"{figure('syncs')} rounds a second. Yjs ({servers.get('yjs', 'none')}) keeps nothing on "
-        f"disk. {servers.get('redis', 'No Redis')} syncs each XADD; its clients use XREAD BLOCK.")
+        f"{figure('syncs')} rounds a second. {' '.join(peers)}")
 
 
 def section(results, servers):
+    kinds = [kind for kind in TITLES if kind in servers]
+    acknowledging = [kind for kind in kinds if kind != "yjs"]
     return [
         "## Live connections", "",
         *measured_on(results, servers),
@@ -185,12 +189,12 @@ def section(results, servers):
             "**Drags**: each client makes 30 edits a second, and one more receives. Milliseconds "
             "until it has that edit or a later one (median/95 %), and CPU seconds of the server in "
             f"{results.figure(cases.RUN, 'seconds')}:"),
-        *drags(results),
+        *drags(results, kinds),
         *paragraph("**One client**: acknowledged edits a second, by how many are under way:"),
-        *alone(results),
+        *alone(results, acknowledging),
         *paragraph("**64 clients**: acknowledged edits/received entries a second, of all:"),
-        *crowds(results),
-        *idle(results),
+        *crowds(results, acknowledging),
+        *idle(results, kinds),
         *paragraph("**Beside a hostile client**: 8 clients drag at 0 ms; median/95 %/longest:"),
         *hostile(results),
     ]
