@@ -90,7 +90,7 @@ void on_entry(struct client *client, struct client *author, uint64_t step) {
 }
 
 void on_copy(struct client *client) {
-    if (client->worker) client->worker->copies++;
+    if (client->worker && client->worker->is_counting) client->worker->copies++;
 }
 
 // ---- work ----

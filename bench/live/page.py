@@ -144,7 +144,7 @@ def alone(results, kinds):
 
 def crowds(results, kinds):
     rows = [[str(window),
-             *(results.figures(cases.crowd(kind, window), "acknowledged", "received")
+             *(results.figures(cases.crowd(kind, window), "acknowledged", "received", "copies")
                for kind in kinds)]
             for window in cases.CROWD_WINDOWS]
     return table(["Under way", *(TITLES[kind] for kind in kinds)], rows)
@@ -192,7 +192,8 @@ def section(results, servers):
         *drags(results, kinds),
         *paragraph("**One client**: acknowledged edits a second, by how many are under way:"),
         *alone(results, acknowledging),
-        *paragraph("**64 clients**: acknowledged edits/received entries a second, of all:"),
+        *paragraph("**64 clients**: acknowledged edits/received entries a second, and copies of "
+                   "the document:"),
         *crowds(results, acknowledging),
         *idle(results, kinds),
         *paragraph("**Beside a hostile client**: 8 clients drag at 0 ms; median/95 %/longest:"),
