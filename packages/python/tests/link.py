@@ -96,6 +96,26 @@ async def taken_out_later(no: int, reason: State, live: bool) -> None:
     assert states == [State.ONLINE, reason, State.ONLINE, State.CLOSED], states
 
 
+async def cut_answer() -> None:
+    """A server whose answers are cut within their first line is away, and is tried again."""
+    asked = []
+
+    async def cut(reader, writer) -> None:
+        asked.append(await reader.readuntil(b"\r\n\r\n"))
+        writer.write(b"HTTP/1.1 20")
+        writer.close()
+
+    async with await asyncio.start_server(cut, "127.0.0.1", 0) as server:
+        link = Link(Client(), f"ws://127.0.0.1:{server.sockets[0].getsockname()[1]}/", retry=0.05)
+        task = asyncio.create_task(link.run())
+        while len(asked) < 3:
+            await asyncio.sleep(0.05)
+            assert not task.done(), task.result()
+        assert link.state is State.NO_SERVER, (link.state, link.words)
+        link.close()
+        await task
+
+
 async def offline(link: Link) -> None:
     """A link is offline at once, and reports nothing else until it may connect again. What comes over the old connection isn't taken."""
     page, states = link.client.children(ROOT)[0], []
@@ -120,6 +140,7 @@ async def main(program: str) -> None:
     for live in (False, True):
         await taken_out_later(8, State.TOO_LARGE, live)
         await taken_out_later(9, State.UNREADABLE, live)
+    await cut_answer()
     folder = pathlib.Path(tempfile.mkdtemp())
     server = Server(program, folder)
     server.run()

@@ -2,6 +2,7 @@
 in flow.py; here are the sockets, the clock, the guard of the document's identity, and what is told."""
 
 import asyncio
+import http.client
 import importlib
 import random
 import time
@@ -205,7 +206,7 @@ class Link:
                     return answer.status, answer.read(4096).decode(errors="replace").strip()
             except urllib.error.HTTPError as fault:
                 return fault.code, ""
-            except (OSError, ValueError):
+            except (OSError, ValueError, http.client.HTTPException):
                 return 0, ""
 
         return await asyncio.to_thread(get)
