@@ -2,6 +2,7 @@
 in flow.py; here are the sockets, the clock, the guard of the document's identity, and what is told."""
 
 import asyncio
+import contextlib
 import http.client
 import importlib
 import random
@@ -247,7 +248,8 @@ class Link:
         try:
             return await self._talk(socket)
         finally:
-            await socket.close()
+            with contextlib.suppress(Exception):  # a connection that is lost while it is closed
+                await socket.close()
 
     async def _talk(self, socket: Any) -> bool:
         """One task reads whatever comes, the other one sends: so neither waits for the other, whatever is in the buffers."""
