@@ -36,10 +36,14 @@ def record(name, **figures):
 
 
 class Client:
-    """A WebSocket client that waits for each answer."""
+    """A WebSocket client that waits for each answer. With `room` the system keeps that many bytes for it, and a server's rest soon waits there."""
 
-    def __init__(self, port, path="/", origin=None, timeout=30):
-        self.socket = socket.create_connection(("127.0.0.1", port), timeout=timeout)
+    def __init__(self, port, path="/", origin=None, timeout=30, room=None):
+        self.socket = socket.socket()
+        self.socket.settimeout(timeout)
+        if room is not None:
+            self.socket.setsockopt(socket.SOL_SOCKET, socket.SO_RCVBUF, room)
+        self.socket.connect(("127.0.0.1", port))
         lines = [f"GET {path} HTTP/1.1", f"Host: 127.0.0.1:{port}", "Upgrade: websocket", "Connection: Upgrade",
                  "Sec-WebSocket-Key: " + base64.b64encode(os.urandom(16)).decode(), "Sec-WebSocket-Version: 13"]
         if origin is not None:

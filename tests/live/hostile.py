@@ -1,0 +1,402 @@
+"""The groups of clients that break the protocol, or don't read. In each, two other clients measure how late edits arrive (peers.py)."""
+
+import random
+import socket
+import threading
+import time
+
+import shared
+from peers import BROKEN, LIMIT, MIB, SILENT, SLOW, TOO_LARGE, Peer, cheap_frame, edit_frame, until, watched
+from shared import framed, require, text_of
+
+# The bounds are kilobytes that the server may take more.
+# For a few connections with small messages: 256 KiB of output for each, one answer and one push more, the last entries up to 1 MiB of text on both sides
+# of the board and in the history, and the allocator's pages for each thread.
+SMALL = 16 * 1024
+
+
+def unread(name, dice):
+    """Messages that the server can't read, with their opcodes."""
+    texts = [b"null", b"[]", b"[1]", b"{}", b'{"edit":1}', b'["edit"]', b'["welcome",1]', b'["idle"]', b'["no",9]', b'["entry",1,[0,0,"join",["joined",1]]]',
+             b'["join",3]', b'["join","2"]', b'["join",2,2]', b'["ask",1,-1]', b'["ask",1,1.5]', b'["edit",1,1,["create"]]', b'["edit",1,1,["set",[0,0],"A",1]]',
+             b'["edit",1,1,["set",[0,0],"a",1.5]]', b"[" * 100, b"[" * 100_000, b'["' + b"a" * 100_000, b"\xef\xbb\xbf[]", b'["join",2]x', b'["join",2']
+    found = [(text, 2) for text in texts] + [(b"", 2), (b"\xff\xfe", 2)]
+    found += [(bytes(dice.randrange(256) for _ in range(dice.randrange(300))), 2) for _ in range(100)]
+    # No text message is read, whatever it says.
+    found += [(text, 1) for text in (b"", b"hello", b'["join",2]', text_of(["edit", name, 1, ["set", [0, 0], "a", 1]]).encode(), "\u00e9\U0001f600".encode())]
+    return found
+
+
+BROKEN_FRAMES = {
+    "no mask": b"\x82\x05hello",
+    "an unknown opcode": framed(b"x", opcode=3),
+    "a reserved bit": b"\xc2" + framed(b"x")[1:],
+    "a continuation of nothing": framed(b"x", opcode=0),
+    "a ping in two frames": framed(b"x", opcode=9, is_last=False),
+    "a ping of 126 bytes": framed(b"x" * 126, opcode=9),
+    "a text that isn't UTF-8": framed(b"\xff\xfe", opcode=1),
+    "a message within a message": framed(b"a", is_last=False) + framed(b"b"),
+    "a closing frame of one byte": framed(b"x", opcode=8),
+    "a length of 2^63": b"\x82\xff\x80" + bytes(7 + 4),
+    "a length of 2^62": b"\x82\xff\x40" + bytes(7 + 4),
+}
+
+
+def garbage(room):
+    notes, dice = [], random.Random(1)
+    with watched(room, notes, SMALL) as server:
+        peer = Peer(server).begin()
+        sent = unread(peer.name, dice)
+        for payload, opcode in sent:
+            peer.send(payload, opcode)
+        ends = peer.answers(len(sent))
+        wrong = [(payload[:60], opcode, end) for (payload, opcode), end in zip(sent, ends) if end != ["no", 9]]
+        require(not wrong, "messages that can't be read aren't answered by No 9:", wrong[:3])
+        peer.edit(1, "set", [0, 0], "a", 1)
+        require(peer.answers(1) == [["idle"]], "an edit after garbage isn't judged")
+        peer.leave()
+        for name, frame in BROKEN_FRAMES.items():
+            peer = Peer(server).begin()
+            peer.socket.sendall(edit_frame(peer.name, 1, ["set", [0, 0], "a", 2]) + frame)
+            peer.await_end()
+            require(peer.ends == [["idle"]], "an edit before", name, "is answered", peer.ends)
+        until(lambda: server.metric("clients") == 2, "the seats of clients that broke the protocol aren't free again")
+    return f"{len(sent)} messages answered No 9, {len(BROKEN_FRAMES)} broken frames that end a connection; {notes[0]}"
+
+
+def spellings(name, version):
+    """Spellings of `live`, with the answer to each."""
+    right = [f'["live",{name},{version}]', f' [ "live" ,\t{name},\r\n{version} ] ', f'["l\\u0069ve",{name},{version}]', f'["live",{name},0]']
+    wrong = ['["live"]', f'["live",{name}]', f'["live",{name},{version},0]', f'["Live",{name},0]', f'["live ",{name},0]', f'["live","{name}",0]', f'["live",{name}.0,0]',
+             f'["live",{name}e0,0]', '["live",-1,0]', f'["live",{name},-1]', f'["live",{name},0.5]', '["live",4294967296,0]', f'["live",{name},4611686018427387905]',
+             f'["live",{name},18446744073709551616]', f'{{"live":[{name},0]}}', f'["live",[{name}],0]', f'["live",{name},0]x', f'["live",{name},0', f'["live",null,{version}]',
+             f'["live",true,{version}]', f'["live",0{name},0]', f"['live',{name},0]", f'[["live",{name},0]]', f'["live",{name},"0"]']
+    strangers = ['["live",0,0]', '["live",60000,0]', '["live",4294967295,0]', f'["live",{name},{version + 1_000_000}]', f'["live",{name},4611686018427387904]', '["ask",60000,0]',
+                 '["edit",60000,1,["delete",[1,1]]]', '["edit",0,1,["delete",[1,1]]]']
+    return [(text, ["idle"]) for text in right] + [(text, ["no", 9]) for text in wrong] + [(text, ["no", 1]) for text in strangers]
+
+
+LIVES = 5000
+
+
+def words(room):
+    notes, dice = [], random.Random(1)
+    with watched(room, notes, SMALL) as server:
+        peer = Peer(server).begin()
+        sent = spellings(peer.name, peer.version) * 3
+        dice.shuffle(sent)
+        for text, _ in sent:
+            peer.send(text.encode())
+        ends = peer.answers(len(sent))
+        wrong = [(text, end, wanted) for (text, wanted), end in zip(sent, ends) if end != wanted]
+        require(not wrong, "a spelling of `live` has another answer:", wrong[:3])
+        begun, last = time.monotonic(), peer.version
+        versions = [dice.choice([0, last, dice.randrange(last)]) for _ in range(LIVES)]
+        threading.Thread(target=peer.socket.sendall, args=(b"".join(cheap_frame(text_of(["live", peer.name, version]).encode()) for version in versions),)).start()
+        require(peer.answers(LIVES) == [["idle"]] * LIVES, "one of many `live` isn't answered by idle")
+        seconds = time.monotonic() - begun
+        peer.say("live", peer.name, peer.version)
+        peer.edit(1, "set", [0, 0], "a", 1)
+        require(peer.answers(2) == [["idle"]] * 2, "an edit after many `live` isn't judged")
+        end = time.monotonic() + LIMIT
+        while peer.done < 1:
+            require(time.monotonic() < end, "after many `live` no entry comes")
+            peer.read(1)
+        peer.leave()
+        until(lambda: server.metric("clients") == 2, "a seat isn't free again")
+    return f"{len(sent)} spellings and strangers; {LIVES} `live` in one write, answered in {seconds:.1f} s; {notes[0]}"
+
+
+def counts(room):
+    notes = []
+    with watched(room, notes, SMALL) as server:
+        before = server.metric("pushes_total")
+        peers = [Peer(server).begin() for _ in range(5)]
+        for peer in peers:
+            peer.say("live", peer.name, peer.version)
+            peer.answers(1)
+        require(server.metric("live_clients") == 7, "of seven live clients are counted", server.metric("live_clients"))
+        until(lambda: server.metric("pushes_total") > before, "no push is counted")
+        for number, peer in enumerate(peers):
+            (peer.leave if number % 2 else peer.reset)()
+        until(lambda: server.metric("clients") == 2, "a seat isn't free again")
+        require(server.metric("live_clients") == 2, "after five of seven live clients have gone there are counted", server.metric("live_clients"))
+    return "pushes and live clients are counted, also those that go"
+
+
+LARGEST = 2 * MIB  # of a message, if an edit may have 1 MiB
+# For each of eight clients a message of 2 MiB as bytes and as a JSON tree: that of [0,0,..] has a value of 32 bytes for two bytes of text, in a list with
+# room for twice as many.
+LARGE = 8 * 2 * (1 + 32) * 2 * 1024
+
+
+def large_messages(name):
+    """Messages of the largest size, with the answer to each."""
+    edit = text_of(["edit", name, 1, ["set", [0, 0], "a", ""]])
+    text = edit[:-3] + "a" * (LARGEST - len(edit)) + edit[-3:]
+    return [(text.encode(), ["no", 8]), (b"x" * LARGEST, ["no", 9]), (b"[" + b"0," * (LARGEST // 2 - 1) + b"]", ["no", 9]), (b'["live",' + b" " * (LARGEST - 8), ["no", 9])]
+
+
+def large(room):
+    notes, faults = [], []
+
+    def send(peer):
+        for payload, wanted in large_messages(peer.name) * 2:
+            peer.socket.sendall(cheap_frame(payload))
+            ends = peer.answers(1)
+            if ends != [wanted]:
+                faults.append((payload[:40], ends))
+        peer.edit(1, "set", [0, 0], "a", 1)
+        peer.socket.sendall(cheap_frame(b"x" * (LARGEST + 1)))
+        code = peer.await_end()
+        if (peer.ends, code) != ([["idle"]], 1009):
+            faults.append(("an edit, and a message that is too large", peer.ends, code))
+
+    with watched(room, notes, LARGE) as server:
+        threads = [threading.Thread(target=send, args=(Peer(server).begin(),)) for _ in range(8)]
+        for thread in threads:
+            thread.start()
+        for thread in threads:
+            thread.join(LIMIT)
+        require(not faults and not any(thread.is_alive() for thread in threads), "messages of 2 MiB have other answers:", faults[:3])
+        require(server.ended(TOO_LARGE) == 8, "of 8 connections ended for a message that was too large", server.ended(TOO_LARGE))
+    return f"8 clients send 8 messages of 2 MiB each, and one with a byte more; {notes[0]}"
+
+
+HALVES = {
+    "nothing": b"",
+    "a byte": b"\x82",
+    "half a head": b"\x82\xfe\x01",
+    "half a payload": framed(b'["live",1,1]' + b" " * 1000)[:500],
+    "the first of two frames": framed(b"[", is_last=False),
+    "a length of 2 MiB": b"\x82\xff" + LARGEST.to_bytes(8, "big") + bytes(4) + b"[0",
+    "half a ping": framed(b"there?", opcode=9)[:5],
+}
+IDLE = 20
+
+
+def silent(room):
+    notes = []
+    with watched(room, notes, SMALL, "--idle", str(IDLE)) as server:
+        begun, peers = time.monotonic(), []
+        for is_live in (False, True):
+            for half in HALVES.values():
+                peers.append(Peer(server))
+                if is_live:
+                    peers[-1].begin()
+                peers[-1].socket.sendall(half)
+        cut = 0
+        for half in list(HALVES.values())[1:]:
+            peer = Peer(server).begin()
+            peer.socket.sendall(edit_frame(peer.name, 1, ["set", [0, 0], "a", 1]) + half)
+            peer.socket.shutdown(socket.SHUT_WR)
+            peer.await_end()
+            require(peer.ends == [["idle"]], "an edit before half a frame and an end is answered", peer.ends)
+            cut += 1
+        require(server.ended(BROKEN) == cut, "of", cut, "connections that were closed within a frame ended", server.ended(BROKEN))
+        require(server.ended(SILENT) == 0 or time.monotonic() - begun > IDLE, "a silent connection ends too soon")
+        until(lambda: server.ended(SILENT) == len(peers), "not all connections that are silent within a frame end")
+        seconds = time.monotonic() - begun
+        require(server.ended() == len(peers) + cut and server.metric("clients") == 2, "other connections have ended too")
+    return f"{len(peers)} connections that are silent within a frame end after {seconds:.0f} s, {cut} that are closed within one end at once; {notes[0]}"
+
+
+EDITS = 100_000
+
+
+def judged(server, name):
+    """Returns how many edits of this client were judged. The next number must be judged, and no other."""
+    peer, version, done, answer = Peer(server), 0, 0, []
+    while len(answer) != 1:
+        answer = peer.ask("ask", name, version)
+        for message in answer[:-1]:
+            version = message[1]
+            if message[0] == "copy":
+                done = message[2]
+            elif message[2][0] == name:
+                require(message[2][1] == done + 1, "in the log of client", name, "edit", message[2][1], "follows", done)
+                done += 1
+    for number, wanted in ((done + 2, ["no", 3]), (done + 1, ["idle"])):
+        answer = peer.ask("edit", name, number, ["delete", [0, 9]])
+        require(answer == [wanted], "of client", name, "edit", number, "after", done, "at version", version, "is answered", answer)
+    peer.leave()
+    return done
+
+
+def deaf(room):
+    notes = []
+    with watched(room, notes, SMALL) as server:
+        peer = Peer(server, room=4096).begin()
+        data = b"".join(edit_frame(peer.name, number, ["set", [0, 0], "deaf", f"{number:0100}"]) for number in range(1, EDITS + 1))
+        begun = time.monotonic()
+        took_all = peer.push_bytes(data)
+        until(lambda: server.ended(SLOW) == 1, "the connection of a client that reads nothing doesn't end")
+        seconds = time.monotonic() - begun
+        require(server.ended() == 1, "other connections have ended too")
+        done = judged(server, peer.name)
+        require(64 <= done <= EDITS, "of a client that reads nothing", done, "edits were judged")
+    return f"a client that reads nothing is disconnected after {seconds:.0f} s; {done} of its {EDITS} edits were judged{', all were read' if took_all else ''}; {notes[0]}"
+
+
+PINGS = 200_000
+
+
+def pings(room):
+    notes = []
+    with watched(room, notes, SMALL) as server:
+        peer = Peer(server, room=4096).begin()
+        begun = time.monotonic()
+        ping = b"\x89\xfd" + bytes(4) + b"p" * 125
+        peer.push_bytes(ping * PINGS)
+        until(lambda: server.ended(SLOW) == 1, "the connection of a client that reads no pong doesn't end")
+        seconds = time.monotonic() - begun
+        again = Peer(server).begin()
+        again.socket.sendall(ping * 1000 + edit_frame(again.name, 1, ["delete", [0, 9]]))
+        found = []
+        while not again.ends:
+            again.rest += again.socket.recv(MIB)
+            for opcode, payload in again.take_whole():
+                found.append(opcode)
+                again.take_frame(opcode, payload)
+        require(found.count(10) == 1000 and again.ends == [["idle"]], "of 1,000 pings have a pong before the next answer", found.count(10))
+        again.leave()
+        until(lambda: server.metric("clients") == 2, "a seat isn't free again")
+        require(server.ended() == 2, "other connections have ended too")
+    return f"a client that reads no pong is disconnected after {seconds:.0f} s; 1,000 pings have their pongs before the next answer; {notes[0]}"
+
+
+VALUE = "v" * 500_000
+VALUES = 8
+# A document of 4 MB is on both sides of the board and in the server's state. For each of five clients there is a copy as text, and once more as output.
+COPIED = 5 * 3 * VALUES * len(VALUE) // 1024 + SMALL
+
+
+def trickle(room):
+    notes = []
+    with watched(room, notes, COPIED) as server:
+        author = Peer(server).begin()
+        for number in range(1, VALUES + 1):
+            author.edit(number, "set", [0, 0], f"v{number}", VALUE)
+            require(author.answers(1) == [["idle"]], "a value isn't set")
+        author.leave()
+        peers = [Peer(server, room=4096) for _ in range(4)]
+        for peer in peers:
+            peer.name = peer.join()
+            peer.socket.sendall(b"".join(cheap_frame(text_of(["ask", peer.name, 0]).encode()) for _ in range(10)))
+        begun, stop = time.monotonic(), threading.Event()
+
+        def sip(peer):
+            peer.socket.settimeout(1)
+            while not stop.wait(1):
+                try:
+                    peer.socket.recv(1)
+                except OSError:
+                    pass
+
+        threads = [threading.Thread(target=sip, args=(peer,), daemon=True) for peer in peers]
+        for thread in threads:
+            thread.start()
+        other = Peer(server)
+        answer = other.ask("ask", other.join(), 0)
+        waited = time.monotonic() - begun
+        require(answer[0][0] == "copy" or len(answer) > VALUES, "another client than the slow readers is answered", answer[-1])
+        other.leave()
+        until(lambda: server.ended(SLOW) == 4, "the connection of a client that reads a byte a second doesn't end")
+        seconds = time.monotonic() - begun
+        stop.set()
+        until(lambda: server.metric("clients") == 2, "a seat isn't free again")
+        require(server.ended() == 6, "other connections have ended too")
+    return f"4 clients that read a byte a second are disconnected after {seconds:.0f} s; another one has its copy after {waited:.1f} s; {notes[0]}"
+
+
+BUSY_IDLE, BUSY = 3, 8
+
+
+def busy(room):
+    """A client sends without a pause, for longer than it may be silent."""
+    notes, block = [], 1000
+    with watched(room, notes, SMALL, "--idle", str(BUSY_IDLE)) as server:
+        peer = Peer(server).begin()
+        asks = cheap_frame(text_of(["ask", peer.name, 1 << 40]).encode()) * block
+        begun, sent = time.monotonic(), [0]
+
+        def flood():
+            while time.monotonic() - begun < BUSY:
+                peer.socket.sendall(asks)
+                sent[0] += block
+
+        flooder = threading.Thread(target=flood)
+        flooder.start()
+        while flooder.is_alive() or len(peer.ends) < sent[0]:
+            peer.read(0.1)
+        require(peer.ends == [["idle"]] * sent[0], "one of many asks has another answer")
+        peer.edit(1, "set", [0, 0], "a", 1)
+        require(peer.answers(sent[0] + 1)[-1] == ["idle"] and server.ended() == 0, "the connection of a busy client has ended")
+        peer.leave()
+    return f"a client that sent {sent[0]} asks within {BUSY} s isn't silent; {notes[0]}"
+
+
+RESETS = 40
+
+
+def resets(room):
+    notes, dice, done = [], random.Random(1), 0
+    with watched(room, notes, SMALL) as server:
+        for turn in range(RESETS):
+            peer = Peer(server).begin()
+            count = dice.randint(1, 200)
+            data = b"".join(edit_frame(peer.name, number, ["set", [0, 0], "reset", number]) for number in range(1, count + 1))
+            peer.socket.sendall(data[: dice.randint(1, len(data))])
+            time.sleep(dice.choice([0, 0.001, 0.02]))
+            peer.reset()
+            # Edits that were read before the reset may be judged until the connection has ended.
+            until(lambda: server.metric("clients") == 2, "the seat of a connection that was reset isn't free again")
+            found = judged(server, peer.name)
+            require(found <= count, "of", count, "edits before a reset were judged", found)
+            done += found
+    return f"{RESETS} connections are reset with edits under way, {done} of these were judged; {notes[0]}"
+
+
+READERS, BATCH, BATCHES, LEAST_SECONDS = 20, 20, 5, 12
+BIG = 200_000
+# For each reader 256 KiB of output and one edit more, and as much once more for the next push. The last entries up to 1 MiB, and as much since the last
+# checkpoint, on both sides of the board and in the history. A batch of the writer, as it came and as its answers.
+READ_NOTHING = READERS * 2 * (256 + BIG // 1024) + 3 * 2 * 1024 + 2 * BATCH * BIG // 1024 + SMALL
+
+
+def batch(writer, number):
+    """Sends a batch of edits, and waits for their entries. Returns the number of the last one, and the seconds."""
+    begun = time.monotonic()
+    for _ in range(BATCH):
+        number += 1
+        writer.edit(number, "set", [0, 0], "big", f"{number:08}" + "b" * (BIG - 8))
+    require(writer.answers(BATCH) == [["idle"]] * BATCH, "an edit of a batch isn't judged")
+    end = time.monotonic() + LIMIT
+    while writer.done < number:
+        require(time.monotonic() < end, "of", number, "edits the entries came up to", writer.done)
+        writer.read(1)
+    writer.told.clear()
+    return number, time.monotonic() - begun
+
+
+def slow(room):
+    notes = []
+    with watched(room, notes, READ_NOTHING) as server:
+        writer, number, alone, beside = Peer(server).begin(), 0, [], []
+        for _ in range(BATCHES):
+            number, seconds = batch(writer, number)
+            alone.append(seconds)
+        readers = [Peer(server, room=4096).begin() for _ in range(READERS)]
+        begun = time.monotonic()
+        while server.ended(SLOW) < len(readers) or time.monotonic() - begun < LEAST_SECONDS:
+            require(time.monotonic() - begun < LIMIT, "of", READERS, "clients that read nothing were disconnected", server.ended(SLOW))
+            number, seconds = batch(writer, number)
+            beside.append(seconds)
+        ended = time.monotonic() - begun
+        require(server.ended() == READERS and server.metric("clients") == 3, "other connections have ended too")
+    mean = [1000 * sum(them) / len(them) for them in (beside, alone)]
+    return (f"{READERS} clients that read nothing are disconnected within {ended:.0f} s; a batch of {BATCH} edits of 200 kB takes {mean[0]:.0f} ms with them "
+            f"(at most {1000 * max(beside):.0f}), {mean[1]:.0f} before (at most {1000 * max(alone):.0f}); {notes[0]}")
+
+
+GROUPS = (garbage, words, counts, large, silent, deaf, pings, trickle, busy, resets, slow)
