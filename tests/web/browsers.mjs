@@ -10,7 +10,7 @@ import { until } from './devtools.mjs';
 import { startBrowser } from './firefox.mjs';
 import { Server, endAfter } from './server.mjs';
 
-endAfter(200);
+endAfter(900);
 const { values: words, positionals: [program] } = parseArgs({ options: { browser: { type: 'string' } }, allowPositionals: true });
 const page = fileURLToPath(new URL('../../examples/whiteboard', import.meta.url));
 const server = await Server.start(program, { page }), browser = await startBrowser(words.browser);
@@ -155,7 +155,7 @@ await becomes('the second one is kept, and is cut there', () => left.js(`(${cutI
 await left.reload();
 await becomes('the window is loaded again, and joins', () => isOnline(left), 60);
 assert.equal((await state(left)).id, id);
-await becomes('it says that what it kept was changed', () => left.js("document.getElementById('toast').textContent.includes('kept was changed')"));
+await becomes('it says that what it kept was changed', () => left.js("document.getElementById('toast').textContent.includes('had kept was damaged')"));
 await becomes('the other window hears the first one', async () => (await named(right, 'before'))?.id === box.id);
 await becomes('both windows show that', () => isSettled(left, right));
 assert.equal((await object(left, box.id)).properties.name, 'before');
@@ -163,11 +163,11 @@ assert.equal((await object(left, box.id)).properties.name, 'before');
 // Another program has edited under the window's id, and a checkpoint hides it: no client can know whether the window's own edit was judged.
 await goOffline(left);
 await left.js(`window.lugcurrant.send(['set', '${box.id}', 'name', 'mine'])`);
-await editAsTwin(left, box.id, 300);
+await editAsTwin(left, box.id, 700);                  // the server keeps the last 256 entries before a checkpoint
 await left.click('.switch');
-await becomes('the window says what may be lost', () => left.js("document.getElementById('toast').textContent.includes('0 edits were made again, 0 could not be, 1 may be lost')"));
+await becomes('the window says what may be lost', () => left.js("document.getElementById('toast').textContent === 'Started over: 0 changes were made again, 1 may be lost.'"));
 await becomes('it has another id', async () => ![null, id].includes((await state(left)).id));
-await becomes('both windows show what the other program did', async () => await isSettled(left, right) && Boolean(await named(left, 'twin 300')));
+await becomes('both windows show what the other program did', async () => await isSettled(left, right) && Boolean(await named(left, 'twin 700')));
 assert.equal(server.show().tree, await left.js('window.lugcurrant.text()'));
 
 assert.deepEqual([left.faults, right.faults], [[], []]);

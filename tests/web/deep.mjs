@@ -10,7 +10,7 @@ import { fileURLToPath } from 'node:url';
 import { Browser, until } from './devtools.mjs';
 import { endAfter } from './server.mjs';
 
-endAfter(120);
+endAfter(600);
 const LEVELS = 20000, SHOWN = 99;                       // those below the page
 const page = fileURLToPath(new URL('../../examples/whiteboard/', import.meta.url));
 execFileSync(`${page}build`, { stdio: 'ignore' });
@@ -25,11 +25,11 @@ for (let k = 2; k <= ${LEVELS}; k++) rows.push(\`[[1,\${k}],"frame",[[1,\${k - 1
 client.receive('["welcome",7]');
 client.receive(\`["copy",9,0,[\${rows}]]\`);
 const tell = () => postMessage({ told: 'tree', ...client.changed() });
-onmessage = ({ data: { edits, token } }) => { for (const [name, ...words] of edits) client[name](...words); tell(); postMessage({ told: 'made', token, id: null }); };
+onmessage = ({ data: { edits, token } }) => { for (const [name, ...words] of edits) client[name](...words); tell(); postMessage({ told: 'made', token, ids: [] }); };
 tell();
 `;
 const server = createServer(({ url }, answer) => {
-  const name = url === '/' ? '/index.html' : url;
+  const [path] = url.split('?'), name = path === '/' ? '/index.html' : path;
   answer.setHeader('content-type', types[extname(name)] ?? 'text/plain');
   try { answer.end(name === '/worker.js' ? worker : readFileSync(join(page, name))); } catch { answer.writeHead(404).end(); }
 });
@@ -48,7 +48,7 @@ try {
   })()`);
   const rowCount = () => window.js("parseFloat(document.getElementById('list').style.height) / document.querySelector('#list li').offsetHeight");
   const groups = () => window.js("document.querySelectorAll('#objects [data-id]').length");
-  const what = () => window.js("document.getElementById('what').textContent");
+  const what = () => window.js("(({ textContent, title }) => `${textContent} ${title}`)(document.getElementById('what'))");
   const holders = () => window.js("document.querySelectorAll('#into option').length");
   check('the page has heard of all', await until(() => window.js(`window.lugcurrant?.objects.size === ${LEVELS + 1}`), 60), window.faults);
   const begin = await rows('begin'), end = await rows('end');

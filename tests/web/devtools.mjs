@@ -29,12 +29,15 @@ export class Browser {
     process.on('exit', () => child.kill('SIGKILL'));
   }
 
-  async open(url, width = 1120, height = 680) {
+  // Opens a window of this size: a computer's, or one that is touched.
+  async open(url, width = 1120, height = 680, { touch = false, scheme = null } = {}) {
     const target = await (await fetch(`http://127.0.0.1:${this.port}/json/new?${encodeURIComponent(url)}`, { method: 'PUT' })).json();
     const window = new Window(await Window.connect(target.webSocketDebuggerUrl));
     for (const domain of ['Runtime', 'Log', 'Page']) await window.call(`${domain}.enable`);
     await window.call('Emulation.setFocusEmulationEnabled', { enabled: true });
-    await window.call('Emulation.setDeviceMetricsOverride', { width, height, deviceScaleFactor: 1, mobile: false });
+    await window.call('Emulation.setDeviceMetricsOverride', { width, height, deviceScaleFactor: 1, mobile: touch });
+    if (touch) await window.call('Emulation.setTouchEmulationEnabled', { enabled: true, maxTouchPoints: 5 });
+    if (scheme) await window.prefer(scheme);
     return window;
   }
 
@@ -96,11 +99,32 @@ export class Window extends Actions {
     return result.value;
   }
 
-  mouse(type, [x, y], pressed = true) { return this.call('Input.dispatchMouseEvent', { type, x, y, button: 'left', buttons: pressed ? 1 : 0, clickCount: 1 }); }
+  mouse(type, [x, y], pressed = true, modifiers = 0) { return this.call('Input.dispatchMouseEvent', { type, x, y, button: 'left', buttons: pressed ? 1 : 0, clickCount: 1, modifiers }); }
 
-  async key(key) {
-    for (const type of ['keyDown', 'keyUp']) await this.call('Input.dispatchKeyEvent', { type, key, text: type === 'keyDown' && key.length === 1 ? key : undefined });
+  async shiftClick(point) { for (const type of ['mousePressed', 'mouseReleased']) await this.mouse(type, point, type === 'mousePressed', 8); }
+
+  // Presses a key: its name, or what it writes. `commands` are what the browser's editor does for it, as `copy`.
+  async key(key, { ctrl = false, shift = false, commands } = {}) {
+    const modifiers = (ctrl ? 2 : 0) + (shift ? 8 : 0), written = { Enter: '\r' }[key] ?? (key.length === 1 && !ctrl ? key : undefined);
+    const code = { Tab: 9, Enter: 13, Escape: 27, ' ': 32 }[key];
+    await this.call('Input.dispatchKeyEvent', { type: 'keyDown', key, modifiers, text: written, windowsVirtualKeyCode: code, commands });
+    await this.call('Input.dispatchKeyEvent', { type: 'keyUp', key, modifiers, windowsVirtualKeyCode: code });
   }
+
+  // Touches with a finger at each of these points, until the next call: `touchStart`, `touchMove`, `touchEnd`.
+  touch(type, ...points) { return this.call('Input.dispatchTouchEvent', { type, touchPoints: points.map(([x, y], id) => ({ x, y, id })) }); }
+  // A tap that comes sooner after another touch than a person's would be no click, or a double one.
+  async tap(point) { await sleep(350); await this.touch('touchStart', point); await sleep(40); await this.touch('touchEnd'); }
+
+  // Moves fingers from points to points.
+  async swipe(from, to, steps = 8) {
+    await this.touch('touchStart', ...from);
+    for (let k = 1; k <= steps; k += 1) { await this.touch('touchMove', ...from.map(([x, y], n) => [x + (to[n][0] - x) * k / steps, y + (to[n][1] - y) * k / steps])); await sleep(16); }
+    await this.touch('touchEnd');
+  }
+
+  // Sets what the system prefers: `light` or `dark`.
+  prefer(scheme) { return this.call('Emulation.setEmulatedMedia', { features: [{ name: 'prefers-color-scheme', value: scheme }] }); }
 
   // Writes into a field, and leaves it.
   async write(selector, text) {

@@ -13,7 +13,7 @@ import { Server, endAfter } from './server.mjs';
 
 const isBroken = process.argv.includes('--break');
 const [program, pictures] = process.argv.slice(2).filter((word) => !word.startsWith('--'));
-endAfter(300);
+endAfter(900);
 
 const source = fileURLToPath(new URL('../../examples/whiteboard/', import.meta.url));
 const folder = mkdtempSync(join(tmpdir(), 'lugcurrant-page-'));
@@ -60,8 +60,7 @@ class Page {
 
   // Loads the page anew.
   async reload() {
-    await this.window.call('Page.reload');
-    await sleep(300);
+    await this.window.reload();
     if (!await until(() => this.window.js("window.lugcurrant?.state().state === 'online' && lugcurrant.state().id > 0"), 60)) throw new Error('the page does not come back');
     await until(() => this.window.js('lugcurrant.objects.size > 1'));
   }
@@ -80,7 +79,7 @@ class Page {
     if (to) await this.window.drag(from, to); else await this.window.clickAt(from);
     await until(async () => (await this.objects()).length > before, 10);
     await sleep(150);
-    const known = (await this.window.js("document.getElementById('what').textContent")).split(' ').at(-1);
+    const [known] = await this.window.js('lugcurrant.chosen()');
     return (await this.objects()).find(({ id }) => id === known);
   }
   // The object once it fulfils a condition, or as it is after a while.
@@ -173,7 +172,7 @@ try {
   check('a frame moves with what is in it', same((await left.when(frame.id, ({ properties }) => properties.at[0] === 100)).properties.at, [100, 90]) && same((await left.when(round.id, Boolean)).properties.at, [40, 50]));
 
   await left.window.js(`lugcurrant.send(['move', '${frame.id}', '${frame.id}', null])`);
-  check('what this client refuses is said in words', await until(async () => (await left.said()) === 'Not done: an object can not stand in itself.'), await left.said());
+  check('what this client refuses is said in words', await until(async () => (await left.said()) === 'Could not move “Frame”: a frame can’t be put into itself.'), await left.said());
 
   await right.window.call('Page.bringToFront');
   await right.window.click('.switch');
@@ -184,7 +183,7 @@ try {
   await right.window.js(`lugcurrant.send(['set', '${round.id}', 'fill', { rgba: 0x7fb09aff }])`);
   await sleep(300);
   const offline = await right.state();
-  check('there its edits wait, and are counted', offline.unsent >= 7 && offline.waiting === offline.unsent && (await right.window.js("document.getElementById('waiting').textContent")) === `${offline.unsent} edits wait`, JSON.stringify(offline));
+  check('there its edits wait, and are counted', offline.unsent >= 7 && offline.waiting === offline.unsent && (await right.window.js("document.getElementById('waiting').textContent")) === `${offline.unsent} changes to send`, JSON.stringify(offline));
   await picture(right.window, 'offline');
   await window.call('Page.bringToFront');
   await left.window.js(`lugcurrant.send(['set', '${words.id}', 'text', 'Written meanwhile'])`);
@@ -200,7 +199,7 @@ try {
   await left.window.js(`lugcurrant.send(['delete', '${spare}'])`);
   await until(async () => (await left.state()).waiting === 0);
   await right.window.click('.switch');
-  check('what the server refuses is taken back, and said in words', await until(async () => (await right.said()).startsWith('Taken back: what it would stand in was deleted')) && await agree([left, right]), await right.said());
+  check('what the server refuses is taken back, and said in words', await until(async () => (await right.said())=== 'Taken back: could not move “Written meanwhile”, because someone else deleted the frame or page it belongs in.') && await agree([left, right]), await right.said());
 
   await window.call('Page.bringToFront');
   const press = await window.js(`(() => { const box = document.querySelector('#stage [data-id="${round.id}"]').getBoundingClientRect(); return [box.x + box.width / 2, box.y + box.height / 2]; })()`);

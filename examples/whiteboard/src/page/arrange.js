@@ -1,0 +1,67 @@
+// What is done to the chosen objects: moved, aligned, put in front or at the back, put into another one, deleted.
+import { boxAround, boxOf, childrenOf, isIn, objects, originOf } from './doc.js';
+import { chosenIds, outermost } from './selection.js';
+import { make, setLater } from './talk.js';
+import { say } from './toast.js';
+import { labelOf, spotOf } from './values.js';
+
+export const deleteChosen = () => make((outermost().length ? outermost() : chosenIds()).map((id) => ['delete', id]));
+
+export function nudge(dx, dy) {
+  for (const id of outermost()) {
+    const [x, y] = spotOf(objects.get(id));
+    setLater(id, 'at', [x + dx, y + dy]);
+  }
+}
+
+// How far an object goes, by the box to which all are aligned.
+const SHIFTS = {
+  left: ([x], [left]) => [left - x, 0],
+  right: ([x, , w], [left, , width]) => [left + width - x - w, 0],
+  centre: ([x, , w], [left, , width]) => [left + (width - w) / 2 - x, 0],
+  top: ([, y], [, top]) => [0, top - y],
+  bottom: ([, y, , h], [, top, , height]) => [0, top + height - y - h],
+  middle: ([, y, , h], [, top, , height]) => [0, top + (height - h) / 2 - y],
+};
+
+// Aligns several objects to the box around them, or one to the frame that it is in.
+export function align(side) {
+  const ids = outermost(), holder = ids.length === 1 ? objects.get(objects.get(ids[0]).parent) : null;
+  if (!ids.length || (holder && holder.kind !== 'frame')) return say('Choose two or more objects to align them, or one that is in a frame.');
+  const to = holder ? boxOf(holder.id) : boxAround(ids.map(boxOf)), edits = [];
+  for (const id of ids) {
+    const [dx, dy] = SHIFTS[side](boxOf(id), to).map(Math.round), [x, y] = spotOf(objects.get(id));
+    if (dx || dy) edits.push(['set', id, 'at', [x + dx, y + dy]]);
+  }
+  return edits.length ? make(edits) : say('They are aligned already.');
+}
+
+// One step to the front (1) or to the back (-1) among the objects of the same holder.
+export function reorder(by) {
+  const ids = outermost(), moved = new Set(ids), { parent } = objects.get(ids[0]) ?? {};
+  if (!ids.length) return say('Choose an object first.');
+  if (ids.some((id) => objects.get(id).parent !== parent)) return say('Choose objects of the same frame or page to change their order.');
+  const siblings = childrenOf(parent), rest = siblings.filter((id) => !moved.has(id));
+  const passed = siblings[by > 0 ? siblings.indexOf(ids.at(-1)) + 1 : siblings.indexOf(ids[0]) - 1];
+  if (!passed) return say(by > 0 ? 'It is in front already.' : 'It is at the back already.');
+  return make(movesTo(ids, parent, rest, rest.indexOf(passed) + (by > 0 ? 1 : 0)));
+}
+
+// Puts these objects, in their order, after so many others of the parent.
+function movesTo(ids, parent, rest, to) {
+  if (to === rest.length) return ids.map((id) => ['moveLast', id, parent]);
+  if (!to) return [...ids].reverse().map((id) => ['moveFirst', id, parent]);
+  return ids.map((id, k) => ['move', id, parent, k ? ids[k - 1] : rest[to - 1]]);
+}
+
+// Returns the edits that put objects into another one, in front there, and leave them where they are on the board: at these points, if given.
+export function editsInto(ids, holder, origins = ids.map(originOf)) {
+  const [left, top] = originOf(holder);
+  return ids.flatMap((id, k) => [['moveLast', id, holder], ['set', id, 'at', [Math.round(origins[k][0] - left), Math.round(origins[k][1] - top)]]]);
+}
+
+export function putInto(holder) {
+  const ids = outermost();
+  if (ids.some((id) => isIn(holder, id))) return say(`“${labelOf(objects.get(holder))}” can’t be put into itself.`);
+  return make(editsInto(ids.filter((id) => objects.get(id).parent !== holder), holder));
+}
