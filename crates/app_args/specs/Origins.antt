@@ -1,14 +1,15 @@
--- Whose pages may connect to a server that is asked for.
+-- By which hosts a server that is asked for may be asked, and whose pages may connect.
 use Rattle.std.specs.Prelude.{string_bytes}
 use Rattle.std.specs.List.{All}
+use Rattle.net_http.specs.Hosts.{IsHost}
 use Rattle.net_http.specs.Origins.{IsOrigin}
 use Rattle.app_args.specs.declared.asked.Invocation.{Invocation}
 use Rattle.app_args.specs.declared.asked.Invocation.TheVariants.{Serve, Show, Import, Restore, Move, Check, Log}
 use Rattle.app_args.specs.declared.asked.Serving.{Serving}
 
--- each origin that it names is one as browsers send it
+-- each host and each origin that it names is one as browsers send it
 abbrev pub NamesOrigins : Serving → Type 0
-NamesOrigins serving = All (λ text. IsOrigin (string_bytes text)) serving.origins.items
+NamesOrigins serving = All (λ text. IsHost (string_bytes text)) serving.hosts.items × All (λ text. IsOrigin (string_bytes text)) serving.origins.items
 
 -- so it is where a server is asked for
 abbrev pub AsksForOrigins : Invocation → Type 0

@@ -1,6 +1,7 @@
 // The command line, as `clap` reads it.
 ghost use Rattle.std.specs.Prelude.{IfOk, string_bytes};
 ghost use Rattle.std.specs.List.{All};
+ghost use Rattle.net_http.specs.Hosts.{IsHost};
 ghost use Rattle.net_http.specs.Origins.{IsOrigin};
 ghost use Rattle.app_args.specs.Origins.{AsksForOrigins, NamesOrigins};
 
@@ -10,13 +11,13 @@ use app_admin::Layout;
 use app_identity::Address;
 use clap::error::ErrorKind;
 use clap::{Arg, ArgAction, ArgGroup, ArgMatches, Command, value_parser};
-use net_http::is_origin;
+use net_http::{is_host, is_origin};
 use std::alloc::{AllocError, Global};
 
 /// What the words ask for, of which the first is the program's name.
 ///
 /// The errors: `Line` is `clap`'s: it has the text to print, which for `--help` and `--version` is no fault, and the program's status, and
-/// never is that memory ran out; `Word`, if an origin, a URL or a name isn't as it has to be, or memory ran out.
+/// never is that memory ran out; `Word`, if a host, an origin, a URL or a name isn't as it has to be, or memory ran out.
 pub fn read_words<'a>(alloc: Global, words: &'a [String]) -> Result<Invocation, WordsError>
     ensures { IfOk result AsksForOrigins }
 {
@@ -229,6 +230,7 @@ fn serve_command<'a>(alloc: Global) -> Result<Command<'a>, AllocError> {
     let serve = with_place(alloc, serve, "Folder that holds the document");
     let serve = with_arg(serve, standby(alloc));
     let serve = with_limits(alloc, serve);
+    let serve = with_arg(serve, Ok(host(alloc)));
     let serve = with_arg(serve, Ok(origin(alloc)));
     let serve = with_arg(serve, Ok(page(alloc)));
     let serve = with_arg(serve, accept_loss(alloc));
@@ -296,6 +298,12 @@ fn number<'a>(
     help: &'static str,
 ) -> Arg<'a> {
     option(alloc, name, value, help).default_value(usual)
+}
+
+// By which hosts it may be asked, as an argument.
+fn host<'a>(alloc: Global) -> Arg<'a> {
+    let help = "Also answer requests for this host, as a proxy forwards (repeatable)";
+    option(alloc, "host", "HOST", help).action(ArgAction::Append)
 }
 
 // Whose pages may connect, as an argument.
@@ -423,6 +431,7 @@ fn options_of(alloc: Global, matches: &ArgMatches<'_>) -> Result<Options, WordsE
 fn serving_of(alloc: Global, matches: &ArgMatches<'_>) -> Result<Serving, WordsError>
     ensures { IfOk result NamesOrigins }
 {
+    let hosts = hosts_of(alloc, matches)?;
     let origins = origins_of(alloc, matches)?;
     let page = path_of(alloc, matches, "page")?;
     let stop_file = path_of(alloc, matches, "stop-file")?;
@@ -432,12 +441,34 @@ fn serving_of(alloc: Global, matches: &ArgMatches<'_>) -> Result<Serving, WordsE
         clients: matches.get_one("clients").unwrap_or(64),
         idle_seconds: matches.get_one("idle").unwrap_or(300),
         message_bytes: matches.get_one("message-bytes").unwrap_or(1 << 20),
+        hosts,
         origins,
         page,
         accept_loss: matches.get_flag("accept-loss"),
         stop_file,
         quiet: matches.get_flag("quiet"),
     })
+}
+
+// The hosts that it may be asked by.
+fn hosts_of(alloc: Global, matches: &ArgMatches<'_>) -> Result<Vec<String>, WordsError>
+    ensures { IfOk result (λ hosts. All (λ text. IsHost (string_bytes text)) hosts.items) }
+{
+    let mut hosts = Vec::new(alloc);
+    for text in matches.get_strs("host").unwrap_or_default() {
+        hosts.push(host_in(alloc, text)?)?;
+    }
+    Ok(hosts)
+}
+
+// The host that this text is.
+fn host_in(alloc: Global, text: &str) -> Result<String, WordsError>
+    ensures { IfOk result (λ host. IsHost (string_bytes host)) }
+{
+    if !is_host(text.as_bytes()) {
+        return Err(WordsError::Word(WordError::NotAHost));
+    }
+    Ok(String::from_str(alloc, text)?)
 }
 
 // The origins whose pages may connect.

@@ -111,6 +111,8 @@ pub struct Serving {
     pub idle_seconds: u64,
     /// The most bytes that the text of an edit may have. A message of more than twice as many ends its connection.
     pub message_bytes: usize,
+    /// The hosts that it may be asked by, beside the names of the machine itself.
+    pub hosts: Vec<String>,
     /// The origins whose pages may connect, beside the server's own.
     pub origins: Vec<String>,
     /// The folder of the page's files, where there is a page.
@@ -131,6 +133,7 @@ impl Drop for Serving {
             clients: _,
             idle_seconds: _,
             message_bytes: _,
+            hosts: _,
             origins: _,
             page: _,
             accept_loss: _,
@@ -141,10 +144,11 @@ impl Drop for Serving {
 }
 
 impl Serving {
-    /// The origins whose pages may connect, and the folder of the page's files.
-    pub fn into_pages(self) -> (Vec<String>, Option<String>)
-        ensures origins { result.0 ≡ self.origins }
-        ensures page { result.1 ≡ self.page }
+    /// The hosts that it may be asked by, the origins whose pages may connect, and the folder of the page's files.
+    pub fn into_pages(self) -> (Vec<String>, Vec<String>, Option<String>)
+        ensures hosts { result.0 ≡ self.hosts }
+        ensures origins { result.1 ≡ self.origins }
+        ensures page { result.2 ≡ self.page }
     {
         let Serving {
             is_standby: _,
@@ -152,12 +156,13 @@ impl Serving {
             clients: _,
             idle_seconds: _,
             message_bytes: _,
+            hosts,
             origins,
             page,
             accept_loss: _,
             stop_file: _,
             quiet: _,
         } = self;
-        (origins, page)
+        (hosts, origins, page)
     }
 }

@@ -21,6 +21,9 @@ pub enum WordError {
     /// An origin isn't as browsers send it.
     #[error("no origin")]
     NotAnOrigin,
+    /// A host isn't as browsers send it.
+    #[error("no host")]
+    NotAHost,
     /// The URLs of an etcd aren't as `http://127.0.0.1:2379`, or there is none.
     #[error("no URL of an etcd")]
     NotAUrl,
@@ -62,6 +65,7 @@ impl From<WordError> for Fault {
     fn from(error: WordError) -> Fault {
         match error {
             WordError::NotAnOrigin => Fault::NotAnOrigin,
+            WordError::NotAHost => Fault::NotAHost,
             WordError::NotAUrl => Fault::NotAUrl,
             WordError::NotAName => Fault::NotAName,
             WordError::Memory => Fault::Memory,

@@ -7,13 +7,14 @@ use Rattle.app_faults.specs.Rows.{row_sentence}
 use Rattle.app_faults.specs.Statuses.{exit_status_of}
 use Rattle.app_faults.specs.Subjects.{holder_text, subject_text, remedy_text, retry_text}
 use Rattle.app_faults.specs.declared.fault.Fault.{Fault}
-use Rattle.app_faults.specs.declared.fault.Fault.TheVariants.{NotAnOrigin, NotAUrl, NotAName, ClientCount, NoPage, StopFile, PortInUse, PortDenied, NoPort, InUse, Denied, AboveDenied, NoDescriptor, NoRoom, Device, Taken, NoSegment, Gone, Lost, NotKept, Identity, ChangedIdentity, Busy, Damaged, TooLarge, NoSpace, NoStore, BadLine, NoDocument, Stream, NoThread, JournalFailed, StoreFailed, LeaseEnded, Stopped, Memory}
+use Rattle.app_faults.specs.declared.fault.Fault.TheVariants.{NotAnOrigin, NotAHost, NotAUrl, NotAName, ClientCount, NoPage, StopFile, PortInUse, PortDenied, NoPort, InUse, Denied, AboveDenied, NoDescriptor, NoRoom, Device, Taken, NoSegment, Gone, Lost, NotKept, Identity, ChangedIdentity, Busy, Damaged, TooLarge, NoSpace, NoStore, BadLine, NoDocument, Stream, NoThread, JournalFailed, StoreFailed, LeaseEnded, Stopped, Memory}
 use Rattle.app_faults.specs.declared.subject.Subject.{Subject}
 use Rattle.app_faults.specs.declared.subject.Subject.TheVariants.{Folder, ServedFolder, Document, ServedDocument}
 
 -- the sentence that tells of a fault, of what it is and of which folder or document, at this port
 abbrev pub sentence : Fault → Subject → List ℕ → ℕ → List ℕ
 sentence NotAnOrigin s name port = codes "--origin wants an origin as browsers send it, https://canvas.example: small letters, and no path or slash behind"
+sentence NotAHost s name port = codes "--host wants a host as browsers send it, canvas.example or canvas.example:8443: small letters, and no http:// before it"
 sentence NotAUrl s name port = codes "--etcd wants URLs as http://127.0.0.1:2379, with commas between them"
 sentence NotAName s name port = codes "--document wants a name of 1 to 64 letters, digits, -, . and _"
 sentence ClientCount s name port = codes "1 to 64 clients can be served at once"

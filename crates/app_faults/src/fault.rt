@@ -11,6 +11,8 @@ use etcd_store::StoreError;
 pub enum Fault {
     /// An origin isn't as browsers send it.
     NotAnOrigin,
+    /// A host isn't as browsers send it.
+    NotAHost,
     /// The URLs of an etcd aren't as `http://127.0.0.1:2379`, or there is none.
     NotAUrl,
     /// The name of a document in an etcd isn't 1 to 64 letters, digits, `-`, `.` and `_`.
@@ -120,6 +122,7 @@ impl Fault {
         match self {
             Fault::Stopped => 0,
             Fault::NotAnOrigin
+            | Fault::NotAHost
             | Fault::NotAUrl
             | Fault::NotAName
             | Fault::ClientCount

@@ -39,6 +39,10 @@ impl fmt::Display for Told<'_> {
                 f,
                 "--origin wants an origin as browsers send it, https://canvas.example: small letters, and no path or slash behind"
             ),
+            Fault::NotAHost => write!(
+                f,
+                "--host wants a host as browsers send it, canvas.example or canvas.example:8443: small letters, and no http:// before it"
+            ),
             Fault::NotAUrl => write!(
                 f,
                 "--etcd wants URLs as http://127.0.0.1:2379, with commas between them"

@@ -3,12 +3,13 @@ use Rattle.std.proofs.Common.{ℕ, Option}
 use Rattle.etcd_store.specs.declared.error.StoreError.{StoreError}
 use Rattle.app_faults.specs.Errors.{of_document}
 use Rattle.app_faults.specs.declared.fault.Fault.{Fault}
-use Rattle.app_faults.specs.declared.fault.Fault.TheVariants.{NotAnOrigin, NotAUrl, NotAName, ClientCount, NoPage, StopFile, PortInUse, PortDenied, NoPort, InUse, Denied, AboveDenied, NoDescriptor, NoRoom, Device, Taken, NoSegment, Gone, Lost, NotKept, Identity, ChangedIdentity, Busy, Damaged, TooLarge, NoSpace, NoStore, BadLine, NoDocument, Stream, NoThread, JournalFailed, StoreFailed, LeaseEnded, Stopped, Memory}
+use Rattle.app_faults.specs.declared.fault.Fault.TheVariants.{NotAnOrigin, NotAHost, NotAUrl, NotAName, ClientCount, NoPage, StopFile, PortInUse, PortDenied, NoPort, InUse, Denied, AboveDenied, NoDescriptor, NoRoom, Device, Taken, NoSegment, Gone, Lost, NotKept, Identity, ChangedIdentity, Busy, Damaged, TooLarge, NoSpace, NoStore, BadLine, NoDocument, Stream, NoThread, JournalFailed, StoreFailed, LeaseEnded, Stopped, Memory}
 use Rattle.app_storage.specs.Faults.{IsOpeningFault}
 use Rattle.app_storage.proofs.Opens.{opens_cause}
 
 pub opens_document : (clients : ℕ) (why : Option StoreError) (fault : Fault) → IsOpeningFault clients fault → IsOpeningFault clients (of_document why fault)
 opens_document clients why NotAnOrigin is = is
+opens_document clients why NotAHost is = is
 opens_document clients why NotAUrl is = is
 opens_document clients why NotAName is = is
 opens_document clients why ClientCount is = is

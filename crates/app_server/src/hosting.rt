@@ -258,10 +258,11 @@ where
         message_bytes: serving.message_bytes,
     };
     let quiet = serving.quiet;
-    let (origins, page) = serving.into_pages();
+    let (hosts, origins, page) = serving.into_pages();
     let shared = Shared {
         listener,
         site: Site {
+            hosts,
             origins,
             identity,
             has_page: page.is_some(),

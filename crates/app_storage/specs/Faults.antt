@@ -3,7 +3,7 @@ use Rattle.std.specs.Prelude.{◌≡◌, ◌≤◌, ◌<◌, ◌⊎◌, ℕ, Lis
 use Rattle.etcd_store.specs.declared.error.StoreError.{StoreError}
 use Rattle.app_faults.specs.Told.{IsServerEnd}
 use Rattle.app_faults.specs.declared.fault.Fault.{Fault}
-use Rattle.app_faults.specs.declared.fault.Fault.TheVariants.{NotAnOrigin, NotAUrl, NotAName, ClientCount, NoPage, StopFile, PortInUse, PortDenied, NoPort, InUse, Denied, AboveDenied, NoDescriptor, NoRoom, Device, Taken, NoSegment, Gone, Lost, NotKept, Identity, ChangedIdentity, Busy, Damaged, TooLarge, NoSpace, NoStore, BadLine, NoDocument, Stream, NoThread, JournalFailed, StoreFailed, LeaseEnded, Stopped, Memory}
+use Rattle.app_faults.specs.declared.fault.Fault.TheVariants.{NotAnOrigin, NotAHost, NotAUrl, NotAName, ClientCount, NoPage, StopFile, PortInUse, PortDenied, NoPort, InUse, Denied, AboveDenied, NoDescriptor, NoRoom, Device, Taken, NoSegment, Gone, Lost, NotKept, Identity, ChangedIdentity, Busy, Damaged, TooLarge, NoSpace, NoStore, BadLine, NoDocument, Stream, NoThread, JournalFailed, StoreFailed, LeaseEnded, Stopped, Memory}
 use Rattle.app_faults.specs.declared.subject.Subject.{Subject}
 
 -- what a fault of looking at a folder is to a server of it: whatever only a command tells is a folder that can't be read
@@ -36,6 +36,7 @@ IsClientCount clients = (0 < clients) × (clients ≤ 64)
 -- why a document isn't opened for so many clients
 abbrev pub IsOpeningFault : ℕ → Fault → Type 0
 IsOpeningFault clients NotAnOrigin = ⊥
+IsOpeningFault clients NotAHost = ⊥
 IsOpeningFault clients NotAUrl = ⊥
 IsOpeningFault clients NotAName = ⊥
 IsOpeningFault clients ClientCount = IsClientCount clients → ⊥

@@ -35,6 +35,16 @@ pub const SENTENCES: &[Sentence] = &[
         "Allow: GET, HEAD\r\n\r\nOnly GET and HEAD are answered here.\n",
     ),
     (
+        Status::Misdirected,
+        "421 Misdirected Request\r\nContent-Type: text/plain; charset=utf-8\r\nContent-Length: 81\r\n",
+        "\r\nThis host name isn't served here. The server's option --host names further ones.\n",
+    ),
+    (
+        Status::UpgradeRequired,
+        "426 Upgrade Required\r\nContent-Type: text/plain; charset=utf-8\r\nContent-Length: 45\r\n",
+        "Upgrade: websocket\r\nSec-WebSocket-Version: 13\r\n\r\nOnly version 13 of WebSocket is served here.\n",
+    ),
+    (
         Status::Unavailable,
         "503 Service Unavailable\r\nContent-Type: text/plain; charset=utf-8\r\nContent-Length: 54\r\n",
         "Retry-After: 5\r\n\r\nAll seats of this document are taken. Try again soon.\n",

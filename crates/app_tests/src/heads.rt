@@ -71,8 +71,53 @@ pub const FIELDS: &str = "GET / -> bad request\n\
     GET / | Host: a | Origin: http://a | Origin: http://a -> bad request\n\
     GET / | Host: a | Upgrade: h2c -> index\n\
     GET / | Host: a | Origin: http://b -> index\n\
-    GET / | Host: a | Upgrade:  WebSocket  -> connection\n\
-    GET / | Host: a | Upgrade: h2c | upgrade: websocket -> connection";
+    GET / | Host: a | Upgrade:  WebSocket  -> bad request\n\
+    GET / | Host: a | Upgrade: h2c | upgrade: websocket -> bad request";
+
+/// The host of a handshake.
+pub const OFFER: &str = "Host: localhost:7411\r\n";
+
+/// Handshakes, and what looks like them.
+pub const OFFERS: &str =
+    "GET / | Upgrade:  WebSocket  | Connection: upgrade | Sec-WebSocket-Version: 13 | Sec-WebSocket-Key: dGhlIHNhbXBsZSBub25jZQ== -> connection\n\
+    GET / | upgrade: websocket | connection: keep-alive,UPGRADE | sec-websocket-version: 13 | sec-websocket-key: AAAAAAAAAAAAAAAAAAAAAA== -> connection\n\
+    GET / | Upgrade: websocket | Connection: upgrade | Sec-WebSocket-Version: 12 | Sec-WebSocket-Key: dGhlIHNhbXBsZSBub25jZQ== -> other version\n\
+    GET / | Upgrade: websocket | Sec-WebSocket-Version: 8 -> other version\n\
+    GET / | Upgrade: websocket | Connection: upgrade | Sec-WebSocket-Key: dGhlIHNhbXBsZSBub25jZQ== -> bad request\n\
+    GET / | Upgrade: websocket | Connection: upgrade | Sec-WebSocket-Version: 13 | Sec-WebSocket-Version: 13 | Sec-WebSocket-Key: dGhlIHNhbXBsZSBub25jZQ== -> bad request\n\
+    GET / | Upgrade: websocket | Connection: upgrade | Sec-WebSocket-Version: 13 -> bad request\n\
+    GET / | Upgrade: websocket | Connection: upgrade | Sec-WebSocket-Version: 13 | Sec-WebSocket-Key: dGhlIHNhbXBsZSBub25jZQ== | Sec-WebSocket-Key: dGhlIHNhbXBsZSBub25jZQ== -> bad request\n\
+    GET / | Upgrade: websocket | Connection: upgrade | Sec-WebSocket-Version: 13 | Sec-WebSocket-Key: dGhlIHNhbXBsZSBub25jZR== -> bad request\n\
+    GET / | Upgrade: websocket | Connection: upgrade | Sec-WebSocket-Version: 13 | Sec-WebSocket-Key: dGhlIHNhbXBsZSBub25jZQ= -> bad request\n\
+    GET / | Upgrade: websocket | Connection: upgrade | Sec-WebSocket-Version: 13 | Sec-WebSocket-Key: dGhlIHNhbXBsZSBub25j!Q== -> bad request\n\
+    GET / | Upgrade: websocket | Connection: close | Sec-WebSocket-Version: 13 | Sec-WebSocket-Key: dGhlIHNhbXBsZSBub25jZQ== -> bad request\n\
+    GET / | Upgrade: websocket, h2c | Connection: upgrade | Sec-WebSocket-Version: 13 | Sec-WebSocket-Key: dGhlIHNhbXBsZSBub25jZQ== -> index";
+
+/// Requests to hosts, with all their fields.
+pub const HOSTS: &str = "GET / | Host: localhost -> index\n\
+    GET / | Host: LOCALHOST:80 -> index\n\
+    GET / | Host: localhost: -> index\n\
+    GET / | Host: 127.0.0.1 -> index\n\
+    GET / | Host: 127.0.0.1:7411 -> index\n\
+    GET / | Host: [::1] -> index\n\
+    GET / | Host: [::1]:7411 -> index\n\
+    GET / | Host: A -> index\n\
+    GET / | Host: a:7 -> index\n\
+    GET / | Host: b:80 -> index\n\
+    GET / | Host: b -> misdirected\n\
+    GET / | Host: b:8 -> misdirected\n\
+    GET / | Host: b:800 -> misdirected\n\
+    GET / | Host: -> misdirected\n\
+    GET / | Host: evil.example:7411 -> misdirected\n\
+    GET / | Host: localhost.evil.example -> misdirected\n\
+    GET / | Host: evil.localhost -> misdirected\n\
+    GET / | Host: localhost:80a -> misdirected\n\
+    GET / | Host: localhost@evil.example -> misdirected\n\
+    GET / | Host: 127.0.0.2 -> misdirected\n\
+    GET / | Host: ::1 -> misdirected\n\
+    GET / | Host: evil.example | Upgrade: websocket -> misdirected\n\
+    GET / | Host: evil.example | Origin: http://evil.example | Origin: http://evil.example -> misdirected\n\
+    POST * | Host: evil.example -> misdirected";
 
 // Why a request gets nothing, in words.
 fn refusal_in_words(refusal: HttpRefusal) -> &'static str {
@@ -81,6 +126,8 @@ fn refusal_in_words(refusal: HttpRefusal) -> &'static str {
         HttpRefusal::Forbidden => "forbidden",
         HttpRefusal::NotFound => "not found",
         HttpRefusal::NotAllowed => "not allowed",
+        HttpRefusal::Misdirected => "misdirected",
+        HttpRefusal::OtherVersion => "other version",
     }
 }
 

@@ -3,8 +3,8 @@ use crate::answers::{
     FIGURES, IDENTITIES, SENTENCES, first_wrong_figures, first_wrong_identity, first_wrong_sentence,
 };
 use crate::heads::{
-    BROWSER, COUNTS, CURL, FIELDS, HANDSHAKES, HEADS, HOST, PAGELESS, PLAIN, first_wrong_count,
-    first_wrong_head, first_wrong_part, first_wrong_request,
+    BROWSER, COUNTS, CURL, FIELDS, HANDSHAKES, HEADS, HOST, HOSTS, OFFER, OFFERS, PAGELESS, PLAIN,
+    first_wrong_count, first_wrong_head, first_wrong_part, first_wrong_request,
 };
 use net_http::{Site, is_identity};
 use std::alloc::{AllocError, Global};
@@ -19,13 +19,22 @@ fn origins(alloc: Global) -> Result<Vec<String>, AllocError> {
     Ok(origins)
 }
 
-// A site with or without a page. Pages of `https://example.org` may connect too.
+// The hosts that it may be asked by too: `a`, and `b` at one port.
+fn hosts(alloc: Global) -> Result<Vec<String>, AllocError> {
+    let mut hosts = Vec::with_capacity(alloc, 2)?;
+    hosts.push(String::from_str(alloc, "a")?)?;
+    hosts.push(String::from_str(alloc, "b:80")?)?;
+    Ok(hosts)
+}
+
+// A site with or without a page. It may be asked by the hosts `a` and `b:80` too. Pages of `https://example.org` may connect too.
 fn site(alloc: Global, has_page: bool) -> Option<Site> {
     let identity = String::from_str(alloc, IDENTITY).ok()?;
     if !is_identity(identity.as_bytes()) {
         return None;
     }
     Some(Site {
+        hosts: hosts(alloc).ok()?,
         origins: origins(alloc).ok()?,
         identity,
         has_page,
@@ -41,6 +50,10 @@ enum List {
     Pageless,
     // Handshakes, as a browser sends them.
     Handshakes,
+    // Handshakes, and what looks like them.
+    Offers,
+    // Requests to hosts.
+    Hosts,
     // Requests with other fields.
     Fields,
     // The parts of a request.
@@ -63,6 +76,8 @@ fn first_wrong_of(alloc: Global, site: &Site, list: List) -> Option<usize> {
         List::Plain => first_wrong_request(alloc, site, HOST, PLAIN),
         List::Pageless => first_wrong_request(alloc, site, HOST, PAGELESS),
         List::Handshakes => first_wrong_request(alloc, site, BROWSER, HANDSHAKES),
+        List::Offers => first_wrong_request(alloc, site, OFFER, OFFERS),
+        List::Hosts => first_wrong_request(alloc, site, "", HOSTS),
         List::Fields => first_wrong_request(alloc, site, "", FIELDS),
         List::Parts => first_wrong_part(site, CURL),
         List::Heads => first_wrong_head(alloc, site, HEADS),
@@ -86,6 +101,8 @@ const LISTS: &[(&str, bool, List)] = &[
     ("plain requests", true, List::Plain),
     ("requests without a page", false, List::Pageless),
     ("handshakes", true, List::Handshakes),
+    ("offers", true, List::Offers),
+    ("hosts", true, List::Hosts),
     ("fields", true, List::Fields),
     ("parts of a request", true, List::Parts),
     ("heads", true, List::Heads),

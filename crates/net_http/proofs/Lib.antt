@@ -1,5 +1,6 @@
 pub mod FieldLemmas
 pub mod HeadLines
+pub mod HostLemmas
 pub mod Laws
 pub mod Origins
 pub mod Paths

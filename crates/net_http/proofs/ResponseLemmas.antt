@@ -29,6 +29,8 @@ start_is status.BadRequest = refl
 start_is status.Forbidden = refl
 start_is status.NotFound = refl
 start_is status.NotAllowed = refl
+start_is status.Misdirected = refl
+start_is status.UpgradeRequired = refl
 start_is status.Unavailable = refl
 
 -- the fields of the status
@@ -38,6 +40,8 @@ own_is status.BadRequest = refl
 own_is status.Forbidden = refl
 own_is status.NotFound = refl
 own_is status.NotAllowed = refl
+own_is status.Misdirected = refl
+own_is status.UpgradeRequired = refl
 own_is status.Unavailable = refl
 
 -- a first line, seven lines, more, and an end: in two parts
@@ -94,6 +98,12 @@ own_fields_pass status.NotFound = All-nil IsField
 own_fields_pass status.NotAllowed =
     All-cons IsField (field (codes "Allow") (codes "GET, HEAD")) []
     (is_field (codes "Allow") (codes "GET, HEAD") (omega arith) refl (literal (codes "GET, HEAD") refl)) (All-nil IsField)
+own_fields_pass status.Misdirected = All-nil IsField
+own_fields_pass status.UpgradeRequired =
+    All-cons IsField (field (codes "Upgrade") (codes "websocket")) (field (codes "Sec-WebSocket-Version") (codes "13") ∷ [])
+    (is_field (codes "Upgrade") (codes "websocket") (omega arith) refl (literal (codes "websocket") refl))
+    (All-cons IsField (field (codes "Sec-WebSocket-Version") (codes "13")) []
+    (is_field (codes "Sec-WebSocket-Version") (codes "13") (omega arith) refl (literal (codes "13") refl)) (All-nil IsField))
 own_fields_pass status.Unavailable =
     All-cons IsField (field (codes "Retry-After") (codes "5")) []
     (is_field (codes "Retry-After") (codes "5") (omega arith) refl (literal (codes "5") refl)) (All-nil IsField)
@@ -131,6 +141,8 @@ digits_pass status.BadRequest = (refl, AllPass-from_list_all is_ascii_digit (cod
 digits_pass status.Forbidden = (refl, AllPass-from_list_all is_ascii_digit (codes "403") refl)
 digits_pass status.NotFound = (refl, AllPass-from_list_all is_ascii_digit (codes "404") refl)
 digits_pass status.NotAllowed = (refl, AllPass-from_list_all is_ascii_digit (codes "405") refl)
+digits_pass status.Misdirected = (refl, AllPass-from_list_all is_ascii_digit (codes "421") refl)
+digits_pass status.UpgradeRequired = (refl, AllPass-from_list_all is_ascii_digit (codes "426") refl)
 digits_pass status.Unavailable = (refl, AllPass-from_list_all is_ascii_digit (codes "503") refl)
 
 phrase_passes : (s : Status) → AllPass is_value_byte (phrase_of s)
@@ -139,6 +151,8 @@ phrase_passes status.BadRequest = literal (codes "Bad Request") refl
 phrase_passes status.Forbidden = literal (codes "Forbidden") refl
 phrase_passes status.NotFound = literal (codes "Not Found") refl
 phrase_passes status.NotAllowed = literal (codes "Method Not Allowed") refl
+phrase_passes status.Misdirected = literal (codes "Misdirected Request") refl
+phrase_passes status.UpgradeRequired = literal (codes "Upgrade Required") refl
 phrase_passes status.Unavailable = literal (codes "Service Unavailable") refl
 
 -- the head of an answer is read as its tree, and nothing is left

@@ -1,7 +1,7 @@
 -- Words that are the same without case.
-use Rattle.std.proofs.Common.{◌≡◌, ℕ, ◌≤◌, Bool, true, false, ◌&&◌, List, [], ◌∷◌, ◌++◌, length, take, drop, refl, sym, ap, ◌∙◌, subst, arith, eqb}
+use Rattle.std.proofs.Common.{◌≡◌, ℕ, ◌≤◌, ◌<◌, Bool, true, false, ◌&&◌, List, [], ◌∷◌, ◌++◌, length, take, drop, refl, sym, ap, ◌∙◌, subst, arith, eqb}
 use Rattle.std.specs.Char.{to_ascii_lowercase}
-use Rattle.std.proofs.Math.Bool.{and_assoc}
+use Rattle.std.proofs.Math.Bool.{and_assoc, and-false}
 use Rattle.std.proofs.lemmas.List.{length-take, take-append-drop}
 use Rattle.net_heads.specs.Fields.{is_same_word}
 
@@ -13,6 +13,15 @@ is_same_word-append (x ∷ a) b [] d e = absurd (omega arith)
 is_same_word-append (x ∷ a) b (y ∷ c) d e =
     let rest : length a ≡ length c = omega arith in
     ap (λ (r : Bool). eqb (to_ascii_lowercase x) (to_ascii_lowercase y) && r) (is_same_word-append a b c d rest) ∙ sym (and_assoc (eqb (to_ascii_lowercase x) (to_ascii_lowercase y)) (is_same_word a c) (is_same_word b d))
+
+-- a shorter word is another
+pub is_same_word-shorter : (a b : List ℕ) → length a < length b → is_same_word a b ≡ false
+is_same_word-shorter [] [] short = absurd (omega arith)
+is_same_word-shorter [] (y ∷ b) short = refl
+is_same_word-shorter (x ∷ a) [] short = absurd (omega arith)
+is_same_word-shorter (x ∷ a) (y ∷ b) short =
+    let rest : length a < length b = omega arith in
+    ap (λ (r : Bool). eqb (to_ascii_lowercase x) (to_ascii_lowercase y) && r) (is_same_word-shorter a b rest) ∙ and-false (eqb (to_ascii_lowercase x) (to_ascii_lowercase y))
 
 -- a word is a front and a back where its beginning is that front, and its rest the back
 pub is_same_word-joined : (word front back : List ℕ) → length front ≤ length word

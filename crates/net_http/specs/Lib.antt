@@ -1,7 +1,9 @@
 pub mod Answers
 pub mod Fields
 pub mod Heads
+pub mod Hosts
 pub mod Identities
+pub mod Offers
 pub mod Origins
 pub mod Responses
 pub mod Sites

@@ -17,6 +17,8 @@ digits_of status.BadRequest = codes "400"
 digits_of status.Forbidden = codes "403"
 digits_of status.NotFound = codes "404"
 digits_of status.NotAllowed = codes "405"
+digits_of status.Misdirected = codes "421"
+digits_of status.UpgradeRequired = codes "426"
 digits_of status.Unavailable = codes "503"
 
 -- the phrase of a status
@@ -26,6 +28,8 @@ phrase_of status.BadRequest = codes "Bad Request"
 phrase_of status.Forbidden = codes "Forbidden"
 phrase_of status.NotFound = codes "Not Found"
 phrase_of status.NotAllowed = codes "Method Not Allowed"
+phrase_of status.Misdirected = codes "Misdirected Request"
+phrase_of status.UpgradeRequired = codes "Upgrade Required"
 phrase_of status.Unavailable = codes "Service Unavailable"
 
 -- the fields of this status alone
@@ -35,6 +39,9 @@ own_fields status.BadRequest = []
 own_fields status.Forbidden = []
 own_fields status.NotFound = []
 own_fields status.NotAllowed = field (codes "Allow") (codes "GET, HEAD") ∷ []
+own_fields status.Misdirected = []
+own_fields status.UpgradeRequired =
+    field (codes "Upgrade") (codes "websocket") ∷ field (codes "Sec-WebSocket-Version") (codes "13") ∷ []
 own_fields status.Unavailable = field (codes "Retry-After") (codes "5") ∷ []
 
 -- the fields of an answer

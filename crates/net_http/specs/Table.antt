@@ -11,6 +11,8 @@ use Rattle.net_http.specs.declared.asked.PageFile.{PageFile}
 use Rattle.net_http.specs.declared.asked.PageFile.TheVariants as file
 use Rattle.net_http.specs.declared.asked.HttpRefusal.TheVariants as refusal
 use Rattle.net_http.specs.Fields.{is_handshake}
+use Rattle.net_http.specs.Hosts.{is_own_host}
+use Rattle.net_http.specs.Offers.{offered}
 use Rattle.net_http.specs.Sites.{SiteValue}
 
 -- the byte before a query
@@ -25,10 +27,9 @@ path_of target = before_first (λ b. b == question_mark) target
 abbrev pub has_path : List ℕ → Bool
 has_path target = starts_with nat_eq target (codes "/")
 
--- a request is well formed where it names one host and at most one origin, and its target begins with a slash
+-- a request is well formed where it names at most one origin, and its target begins with a slash
 abbrev pub is_well_formed : List ℕ → NamesAndValues → Bool
-is_well_formed target fields =
-    (length (values_named (codes "host") fields) == 1) && nat_le (length (values_named (codes "origin") fields)) 1 && has_path target
+is_well_formed target fields = nat_le (length (values_named (codes "origin") fields)) 1 && has_path target
 
 -- the document is at the paths `/` and `/document`, and at `/document/` with its identity
 abbrev pub is_document_path : SiteValue → List ℕ → Bool
@@ -47,13 +48,13 @@ is_named site origin = list_any (λ named. bytes_eq named origin) site.origins
 abbrev pub is_welcome : SiteValue → List (List ℕ) → List ℕ → Bool
 is_welcome site hosts origin = list_any (λ host. is_origin_of host origin) hosts || is_named site origin
 
--- a handshake gets its connection where it is a GET, the document is at its path, and its origin, if it names one, is welcome
-abbrev pub asked_by_handshake : SiteValue → List ℕ → List ℕ → List (List ℕ) → List (List ℕ) → Endpoint
-asked_by_handshake site method path hosts origins =
+-- a handshake gets what it offers to get where it is a GET, the document is at its path, and its origin, if it names one, is welcome
+abbrev pub asked_by_handshake : SiteValue → List ℕ → List ℕ → List (List ℕ) → List (List ℕ) → Endpoint → Endpoint
+asked_by_handshake site method path hosts origins offer =
     if not (bytes_eq method (codes "GET")) then asked.Refused refusal.NotAllowed
     else if not (is_document_path site path) then asked.Refused refusal.NotFound
     else if not (list_all (is_welcome site hosts) origins) then asked.Refused refusal.Forbidden
-    else asked.Connection
+    else offer
 
 -- what stands at a path in a list of paths
 abbrev pub value_at : {A : Type 0} → List ℕ → List (List ℕ × A) → Option A
@@ -96,14 +97,21 @@ asked_by_page site method path =
     if not (is_reading method) then asked.Refused refusal.NotAllowed
     else unwrap_or (value_at path site_paths) (asked_file (file_at site path))
 
--- what a request of this method, target and fields asks for
-abbrev pub asked_for : SiteValue → List ℕ → List ℕ → NamesAndValues → Endpoint
-asked_for site method target fields =
+-- what a request to this host asks for
+abbrev pub asked_here : SiteValue → ℕ → List ℕ → List ℕ → List (List ℕ) → NamesAndValues → Endpoint
+asked_here site minor method target hosts fields =
     if not (is_well_formed target fields) then asked.Refused refusal.BadRequest
     else if is_handshake fields
-    then asked_by_handshake site method (path_of target) (values_named (codes "host") fields) (values_named (codes "origin") fields)
+    then asked_by_handshake site method (path_of target) hosts (values_named (codes "origin") fields) (offered minor fields)
     else asked_by_page site method (path_of target)
+
+-- what a request of HTTP/1.`minor`, and of this method, target and fields asks for: it has to name one host, which has to be the site's
+abbrev pub asked_for : SiteValue → ℕ → List ℕ → List ℕ → NamesAndValues → Endpoint
+asked_for site minor method target fields =
+    if not (length (values_named (codes "host") fields) == 1) then asked.Refused refusal.BadRequest
+    else if not (list_all (is_own_host site) (values_named (codes "host") fields)) then asked.Refused refusal.Misdirected
+    else asked_here site minor method target (values_named (codes "host") fields) fields
 
 -- what a request of this head asks for
 abbrev pub endpoint_of : SiteValue → RequestHead → Endpoint
-endpoint_of site head = asked_for site head.method head.target (map name_and_value head.fields)
+endpoint_of site head = asked_for site head.minor head.method head.target (map name_and_value head.fields)

@@ -1,5 +1,5 @@
 -- The words of answers.
-use Rattle.std.specs.Prelude.{ℕ, List, [], codes}
+use Rattle.std.specs.Prelude.{ℕ, List, [], ◌++◌, codes}
 use Rattle.net_heads.specs.Written.{field_line}
 use Rattle.net_http.specs.declared.asked.PageFile.{PageFile}
 use Rattle.net_http.specs.declared.asked.PageFile.TheVariants as file
@@ -17,6 +17,8 @@ status_text status.BadRequest = codes "400 Bad Request"
 status_text status.Forbidden = codes "403 Forbidden"
 status_text status.NotFound = codes "404 Not Found"
 status_text status.NotAllowed = codes "405 Method Not Allowed"
+status_text status.Misdirected = codes "421 Misdirected Request"
+status_text status.UpgradeRequired = codes "426 Upgrade Required"
 status_text status.Unavailable = codes "503 Service Unavailable"
 
 -- a status in a sentence
@@ -26,15 +28,20 @@ sentence_of status.BadRequest = codes "This is no request that can be read here.
 sentence_of status.Forbidden = codes "Pages of this origin may not connect here.\n"
 sentence_of status.NotFound = codes "There is nothing at this address.\n"
 sentence_of status.NotAllowed = codes "Only GET and HEAD are answered here.\n"
+sentence_of status.Misdirected = codes "This host name isn't served here. The server's option --host names further ones.\n"
+sentence_of status.UpgradeRequired = codes "Only version 13 of WebSocket is served here.\n"
 sentence_of status.Unavailable = codes "All seats of this document are taken. Try again soon.\n"
 
--- the fields of this status alone: what is allowed, or when to come again
+-- the fields of this status alone: what is allowed, which version to speak, or when to come again
 abbrev pub fields_of : Status → List ℕ
 fields_of status.Ok = []
 fields_of status.BadRequest = []
 fields_of status.Forbidden = []
 fields_of status.NotFound = []
 fields_of status.NotAllowed = field_line (codes "Allow") (codes "GET, HEAD")
+fields_of status.Misdirected = []
+fields_of status.UpgradeRequired =
+    field_line (codes "Upgrade") (codes "websocket") ++ field_line (codes "Sec-WebSocket-Version") (codes "13")
 fields_of status.Unavailable = field_line (codes "Retry-After") (codes "5")
 
 -- the status of a refusal
@@ -43,6 +50,8 @@ status_of refusal.BadRequest = status.BadRequest
 status_of refusal.Forbidden = status.Forbidden
 status_of refusal.NotFound = status.NotFound
 status_of refusal.NotAllowed = status.NotAllowed
+status_of refusal.Misdirected = status.Misdirected
+status_of refusal.OtherVersion = status.UpgradeRequired
 
 -- a type of content
 abbrev pub type_of : ContentType → List ℕ

@@ -24,7 +24,7 @@ pub enum Endpoint {
 /// Why a request gets nothing.
 #[derive(Clone, Copy, Debug, PartialEq, Eq)]
 pub enum HttpRefusal {
-    /// The target doesn't begin with a slash, or `Host` doesn't stand once, or `Origin` stands twice.
+    /// The target doesn't begin with a slash, `Host` isn't there once, `Origin` is there twice, or a handshake isn't one.
     BadRequest,
     /// A page of another host asks for a connection, and the site doesn't name its origin.
     Forbidden,
@@ -32,6 +32,10 @@ pub enum HttpRefusal {
     NotFound,
     /// The method isn't one of those that are answered there.
     NotAllowed,
+    /// The host isn't the site's.
+    Misdirected,
+    /// The handshake is of another version than 13.
+    OtherVersion,
 }
 
 impl HttpRefusal {
@@ -44,6 +48,8 @@ impl HttpRefusal {
             HttpRefusal::Forbidden => Status::Forbidden,
             HttpRefusal::NotFound => Status::NotFound,
             HttpRefusal::NotAllowed => Status::NotAllowed,
+            HttpRefusal::Misdirected => Status::Misdirected,
+            HttpRefusal::OtherVersion => Status::UpgradeRequired,
         }
     }
 }

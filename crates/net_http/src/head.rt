@@ -49,7 +49,7 @@ fn request_at(site: &Site, bytes: &[u8], head: &RequestSpans, spans: &[HeaderSpa
         spans: &spans[..head.headers],
     };
     HttpRequest {
-        asked: asked(site, method, head.path.of(bytes), &fields),
+        asked: asked(site, head.version, method, head.path.of(bytes), &fields),
         wants_body: !is_equal(method, b"HEAD"),
         length: head.len,
     }

@@ -35,8 +35,8 @@ fn is_host_behind(text: &[u8]) -> bool
     text.starts_with(b"://") && are_host_bytes(&text[3..])
 }
 
-// Checks whether each byte may stand in a host and its port.
-fn are_host_bytes(text: &[u8]) -> bool
+/// Checks whether each byte may stand in a host and its port.
+pub(crate) fn are_host_bytes(text: &[u8]) -> bool
     ensures { result ≡ list_all is_host_byte text.now }
 {
     text.iter().all(|b| is_host_byte(*b))

@@ -6,21 +6,47 @@ ghost use Rattle.std.specs.Str.{bytes_eq};
 ghost use Rattle.httparse.specs.Spans.{IsHeaderWithin};
 ghost use Rattle.net_heads.specs.Fields.{is_same_word, seen_fields};
 ghost use Rattle.net_http.specs.Sites.{seen_site};
-ghost use Rattle.net_http.specs.Table.{asked_by_handshake, asked_by_page, asked_for, file_at, has_path, is_document_path, is_named, is_origin_of, is_reading, is_welcome, page_files, path_of, question_mark, site_paths, value_at};
+ghost use Rattle.net_http.specs.Table.{asked_by_handshake, asked_by_page, asked_for, asked_here, file_at, has_path, is_document_path, is_named, is_origin_of, is_reading, is_welcome, page_files, path_of, question_mark, site_paths, value_at};
 
 use crate::asked::{Endpoint, HttpRefusal, PageFile};
 use crate::fields::is_handshake;
+use crate::host::is_own_host;
+use crate::offer::offered;
 use crate::site::Site;
 use net_heads::{Fields, Values, is_same_word};
 
-/// What a request of this method, target and fields asks for.
-pub(crate) fn asked(site: &Site, method: &[u8], target: &[u8], fields: &Fields<'_>) -> Endpoint
+/// What a request of HTTP/1.`minor`, and of this method, target and fields asks for.
+pub(crate) fn asked(
+    site: &Site,
+    minor: u8,
+    method: &[u8],
+    target: &[u8],
+    fields: &Fields<'_>,
+) -> Endpoint
     requires { All (IsHeaderWithin (length fields.now.bytes.now)) fields.now.spans.now }
-    ensures { result ≡ asked_for (seen_site site.now) method.now target.now (seen_fields fields.now) }
+    ensures { result ≡ asked_for (seen_site site.now) minor method.now target.now (seen_fields fields.now) }
 {
     let Values::One(host) = fields.find(b"host") else {
         return Endpoint::Refused(HttpRefusal::BadRequest);
     };
+    if !is_own_host(site, host) {
+        return Endpoint::Refused(HttpRefusal::Misdirected);
+    }
+    asked_here(site, minor, method, target, host, fields)
+}
+
+// What a request to this host asks for.
+fn asked_here(
+    site: &Site,
+    minor: u8,
+    method: &[u8],
+    target: &[u8],
+    host: &[u8],
+    fields: &Fields<'_>,
+) -> Endpoint
+    requires { All (IsHeaderWithin (length fields.now.bytes.now)) fields.now.spans.now }
+    ensures { result ≡ asked_here (seen_site site.now) minor method.now target.now (host.now ∷ []) (seen_fields fields.now) }
+{
     let origin = match fields.find(b"origin") {
         Values::Nothing => None,
         Values::One(origin) => Some(origin),
@@ -31,7 +57,8 @@ pub(crate) fn asked(site: &Site, method: &[u8], target: &[u8], fields: &Fields<'
     }
     let path = path_of(target);
     if is_handshake(fields) {
-        asked_by_handshake(site, method, path, host, origin)
+        let offer = offered(minor, fields);
+        asked_by_handshake(site, method, path, host, origin, offer)
     } else {
         asked_by_page(site, method, path)
     }
@@ -68,15 +95,16 @@ fn query_start(target: &[u8]) -> Option<usize>
     target.iter().position(|b| *b == b'?')
 }
 
-// What a handshake asks for.
+// What a handshake asks for that gets this if its page may connect.
 fn asked_by_handshake(
     site: &Site,
     method: &[u8],
     path: &[u8],
     host: &[u8],
     origin: Option<&[u8]>,
+    offer: Endpoint,
 ) -> Endpoint
-    ensures { result ≡ asked_by_handshake (seen_site site.now) method.now path.now (host.now ∷ []) (option_to_list (option_copied origin.entry)) }
+    ensures { result ≡ asked_by_handshake (seen_site site.now) method.now path.now (host.now ∷ []) (option_to_list (option_copied origin.entry)) offer }
 {
     if !is_equal(method, b"GET") {
         return Endpoint::Refused(HttpRefusal::NotAllowed);
@@ -87,7 +115,7 @@ fn asked_by_handshake(
     if !may_connect(site, host, origin) {
         return Endpoint::Refused(HttpRefusal::Forbidden);
     }
-    Endpoint::Connection
+    offer
 }
 
 // Checks whether the site's document is at this path.

@@ -6,6 +6,9 @@ ghost use Rattle.net_http.specs.Identities.{IsIdentity, is_hex_digit};
 /// A site: the server of one document, as its port sees it.
 #[derive(Debug, Drop)]
 pub struct Site {
+    /// The hosts that are its own beside `localhost`, `127.0.0.1` and `[::1]`, each as a browser sends it: `example.org`, with its port or
+    /// without.
+    pub hosts: Vec<String>,
     /// The origins of pages that may connect beside those of the host that was asked, each as a browser sends it:
     /// `https://example.org`.
     pub origins: Vec<String>,

@@ -15,6 +15,10 @@ pub enum Status {
     NotFound,
     /// 405.
     NotAllowed,
+    /// 421: the host isn't the site's.
+    Misdirected,
+    /// 426: the handshake is of another version.
+    UpgradeRequired,
     /// 503: every seat is taken.
     Unavailable,
 }
@@ -30,6 +34,8 @@ impl Status {
             Status::Forbidden => "403 Forbidden",
             Status::NotFound => "404 Not Found",
             Status::NotAllowed => "405 Method Not Allowed",
+            Status::Misdirected => "421 Misdirected Request",
+            Status::UpgradeRequired => "426 Upgrade Required",
             Status::Unavailable => "503 Service Unavailable",
         }
     }
@@ -44,6 +50,10 @@ impl Status {
             Status::Forbidden => "Pages of this origin may not connect here.\n",
             Status::NotFound => "There is nothing at this address.\n",
             Status::NotAllowed => "Only GET and HEAD are answered here.\n",
+            Status::Misdirected => {
+                "This host name isn't served here. The server's option --host names further ones.\n"
+            }
+            Status::UpgradeRequired => "Only version 13 of WebSocket is served here.\n",
             Status::Unavailable => "All seats of this document are taken. Try again soon.\n",
         }
     }
@@ -54,8 +64,13 @@ impl Status {
     {
         match self {
             Status::NotAllowed => "Allow: GET, HEAD\r\n",
+            Status::UpgradeRequired => "Upgrade: websocket\r\nSec-WebSocket-Version: 13\r\n",
             Status::Unavailable => "Retry-After: 5\r\n",
-            Status::Ok | Status::BadRequest | Status::Forbidden | Status::NotFound => "",
+            Status::Ok
+            | Status::BadRequest
+            | Status::Forbidden
+            | Status::NotFound
+            | Status::Misdirected => "",
         }
     }
 }
