@@ -8,6 +8,9 @@ own; only the named groups, where some are named.
   keeps a seat or the port. A client that is silent past --idle gives its seat back.
 - pages: health, metrics, document, the page's files, HEAD, what isn't there, paths that lead out of the folder, wrong methods.
 - origins: a page of the same host, of a named one, of a foreign one, and none.
+- hosts: the machine's own names and those of --host are served, with and without a port; every other is answered 421, whatever it asks for; two are 400.
+- handshakes: one of another version is answered 426 with the version that is served; one without a key, with two or with a bad one, without its words or
+  by HTTP/1.0 is answered 400; none is closed without an answer.
 - identity: /document/ID connects, another ID doesn't; the ID stands in the answer, and stays after a restart. A folder whose identity is a
   pipe, or isn't one, or has any bit turned, is left alone; a link that stands where a new identity is written first isn't followed.
 - kills: 16 clients edit while the server is killed KILLS (40) times; every edit that was answered is there at the end.
@@ -136,7 +139,7 @@ def full(room):
 def quiet(room):
     server = Server(room, "--clients", "2", "--idle", "2", "--quiet")
     peers = [socket.create_connection(("127.0.0.1", server.port)) for _ in range(3)]
-    peers[1].sendall(b"GET / HTTP/1.1\r\nHost: x\r\n")
+    peers[1].sendall(b"GET / HTTP/1.1\r\nHost: localhost\r\n")
     peers[2].sendall(b"GET / HTTP/1.1\r\n")
     peers[2].shutdown(socket.SHUT_WR)
     slow = socket.create_connection(("127.0.0.1", server.port))
@@ -196,7 +199,7 @@ def pages(room):
         peer.sendall(b"\x16\x03\x01\x02\x00\x01\x00")
         require(read_answer(peer)[0] == 400, "a TLS hello isn't answered 400")
     with socket.create_connection(("127.0.0.1", server.port), timeout=30) as peer:
-        peer.sendall(b"GET / HTTP/1.1\r\nHost: x\r\nX: " + b"a" * 20000)
+        peer.sendall(b"GET / HTTP/1.1\r\nHost: localhost\r\nX: " + b"a" * 20000)
         require(read_answer(peer)[0] == 400, "a head of 20,000 bytes isn't answered 400")
     server.kill()
     return "the page, health, metrics and document are answered, and nothing else"
@@ -220,6 +223,54 @@ def origins(room):
         client.drop()
     server.kill()
     return f"{len(wanted) + len(named)} origins"
+
+
+def answer_to(server, head):
+    with socket.create_connection(("127.0.0.1", server.port), timeout=30) as peer:
+        peer.sendall(head.encode())
+        data = b""
+        while b"\r\n\r\n" not in data:
+            part = peer.recv(4096)
+            if not part:
+                break
+            data += part
+    head = data.partition(b"\r\n\r\n")[0].decode()
+    return (int(head.split()[1]) if head else 0), head
+
+
+def hosts(room):
+    server = Server(room, "--host", "canvas.example", "--host", "b.example:80", "--quiet")
+    wanted = {"localhost": 101, "LOCALHOST:7411": 101, "127.0.0.1:1": 101, "[::1]": 101, "canvas.example": 101, "Canvas.Example:443": 101,
+              "b.example:80": 101, "b.example": 421, "evil.example": 421, f"evil.example:{server.port}": 421, "canvas.example.evil": 421,
+              "127.0.0.1.evil.example": 421, "": 421}
+    offer = "Upgrade: websocket\r\nConnection: Upgrade\r\nSec-WebSocket-Version: 13\r\nSec-WebSocket-Key: dGhlIHNhbXBsZSBub25jZQ==\r\n"
+    for host, status in wanted.items():
+        require(answer_to(server, f"GET / HTTP/1.1\r\nHost: {host}\r\n{offer}\r\n")[0] == status, "Host", host)
+    evil = "Host: evil.example\r\n"
+    for head in (f"GET /health HTTP/1.1\r\n{evil}\r\n", f"GET / HTTP/1.1\r\n{evil}Origin: http://evil.example\r\n{offer}\r\n"):
+        require(answer_to(server, head)[0] == 421, "a foreign host is answered:", head)
+    require(answer_to(server, "GET /health HTTP/1.1\r\nHost: localhost\r\nHost: localhost\r\n\r\n")[0] == 400, "two hosts are answered")
+    server.kill()
+    return f"{len(wanted)} hosts"
+
+
+def handshakes(room):
+    server = Server(room, "--quiet")
+    key = "Sec-WebSocket-Key: dGhlIHNhbXBsZSBub25jZQ==\r\n"
+    version, other = "Sec-WebSocket-Version: 13\r\n", "Sec-WebSocket-Version: 12\r\n"
+    connection = "Connection: keep-alive, Upgrade\r\n"
+    wanted = [(connection + version + key, 101), (connection + other + key, 426), (connection + key, 400), (connection + version, 400),
+              (version + key, 400), (connection + version + key + key, 400), (connection + version + version + key, 400),
+              (connection + version + key.replace("Q==", "R=="), 400), (connection + version + key.replace("ZQ==", "Z==="), 400),
+              ("Connection: close\r\n" + version + key, 400)]
+    for fields, status in wanted:
+        answer = answer_to(server, f"GET / HTTP/1.1\r\nHost: localhost\r\nUpgrade: websocket\r\n{fields}\r\n")
+        require(answer[0] == status, fields, "is answered", answer[0])
+        require(status != 426 or "Sec-WebSocket-Version: 13" in answer[1], "426 names no version:", answer[1])
+    old = f"GET / HTTP/1.0\r\nHost: localhost\r\nUpgrade: websocket\r\n{connection}{version}{key}\r\n"
+    require(answer_to(server, old)[0] == 400, "a handshake by HTTP/1.0 is answered")
+    server.kill()
+    return f"{len(wanted) + 1} handshakes"
 
 
 def identity(room):
@@ -850,6 +901,8 @@ def sentences(room):
     for origin in ("canvas.example", "https://canvas.example/", "https://Canvas.example", "https://canvas.example/page", "https:canvas.example",
                    "://canvas.example", "https://canvas example", "https://canvas.example,http://b.example", ""):
         fault(2, "--origin wants an origin", "serve", room, "--port", "0", "--origin", origin)
+    for host in ("", "https://canvas.example", "Canvas.example", "canvas.example/a"):
+        fault(2, "--host wants a host", "serve", room, "--port", "0", "--host", host)
     for site in (above, os.path.join(above, "nothing"), os.path.join(above, "file")):
         fault(2, "--page wants a folder", "serve", os.path.join(above, "other"), "--port", "0", "--page", site)
     require(not os.path.exists(os.path.join(above, "other")), "a missing page touches the folder")
@@ -1472,7 +1525,7 @@ def coming(room):
     return f"{served[0]} clients in {SECONDS:.0f} s, none refused, memory {before} kB after a third, {after} kB at the end"
 
 
-GROUPS = (reuse, full, quiet, pages, origins, identity, kills, figures, sizes, copies, pace, pieces, large, disk, space, sentences, rights, rows, restored, whole, lost, torn, gone, moved, checked, served,
+GROUPS = (reuse, full, quiet, pages, origins, hosts, handshakes, identity, kills, figures, sizes, copies, pace, pieces, large, disk, space, sentences, rights, rows, restored, whole, lost, torn, gone, moved, checked, served,
           memory, coming)
 
 sys.exit(try_groups(GROUPS, NAMES))
