@@ -1,1 +1,3 @@
-mod Left
+pub mod Texts
+pub mod Left
+pub mod Parts

@@ -1,2 +1,5 @@
+pub mod Giving
+pub mod Unsent
+pub mod Texts
 pub mod Outboxes
 pub mod Patience

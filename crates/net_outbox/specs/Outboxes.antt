@@ -1,11 +1,11 @@
 -- What contracts see of an outbox.
-use Rattle.std.specs.Prelude.{◌≡◌, ℕ, ◌+◌, List, ◌++◌, drop, length, Option, min}
+use Rattle.std.specs.Prelude.{◌≡◌, ℕ, ◌+◌, List, ◌++◌, length, Option, min}
 use Rattle.std.specs.Io.KnownBytes.{Appends, append_known}
 use Rattle.net_outbox.specs.declared.outbox.Outbox.{Outbox}
 
--- the bytes that wait
+-- the bytes that wait, those that are shared among them
 abbrev pub waiting_bytes : {S : Type 0} → Outbox S → List ℕ
-waiting_bytes o = drop o.sent o.bytes.items
+waiting_bytes o = o.unsent
 
 module _ {S : Type 0} (contents : S → Option (List ℕ)) where
   -- the bytes that the stream holds, and then those that wait, where the former are known

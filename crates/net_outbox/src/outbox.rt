@@ -1,13 +1,13 @@
 // A stream on which no write waits.
-ghost use Rattle.std.specs.Prelude.{◌≡◌, ◌≤◌, ◌++◌, [], length, take, MatchResult};
+ghost use Rattle.std.specs.Prelude.{◌≡◌, ◌++◌, [], length, MatchResult, OnErr, OnOk};
 ghost use Rattle.std.specs.Io.KnownBytes.{Appends, Keeps, ReadConsumes, WriteAppends};
 ghost use Rattle.std.specs.Io.{ReadsAtMost, WritesAtMost};
+ghost use Rattle.net_outbox.specs.Giving.{Gives};
 
-use std::alloc::Global;
+use crate::unsent::Unsent;
+use bytes::Bytes;
+use std::alloc::{AllocError, Global};
 use std::io::{self, ErrorKind, Read, Write};
-
-// How much room is kept where nothing waits.
-const MOST_KEPT: usize = 16 * 1024;
 
 /// A stream of which some bytes may wait to leave.
 pub trait Backlog {
@@ -21,19 +21,27 @@ pub trait Backlog {
         ensures { result ≡ waits self.now };
 }
 
-/// A stream on which no write waits: what is written joins the bytes that wait, and a flush gives the stream those that it takes then.
+/// A stream that takes shared bytes without a copy of them.
+pub trait SharedWrite: Write {
+    ghost use Rattle.std.specs.Prelude.{◌≡◌, ◌++◌, OnErr, OnOk};
+    ghost use Rattle.std.specs.Io.KnownBytes.{Appends};
+
+    /// Writes these bytes, and then the shared ones: all of them, or none. Errors: out of memory, and nothing has changed then.
+    fn write_shared(&mut self, own: &[u8], shared: &Bytes) -> Result<(), AllocError>
+        ensures ok { OnOk result (Appends (Self.contents self.old) (Self.contents self.new) (own.now ++ shared.now)) }
+        ensures err { OnErr result (self.new ≡ self.old) };
+}
+
+/// A stream on which no write blocks: a write adds to the unsent bytes, and a flush gives the stream as many of them as it takes. Shared bytes
+/// aren't copied.
 ///
 /// What the stream holds and then what waits is what was written, in its order, whatever the stream takes and however it fails.
 #[derive(Drop)]
 pub struct Outbox<S> {
-    alloc: Global,
     stream: S,
-    // Those from `sent` on wait.
-    bytes: Vec<u8>,
-    sent: usize,
+    unsent: Unsent,
     // How many have left, as far as it counts.
     taken: u64,
-    ghost within: { sent ≤ length bytes.items },
 }
 
 impl<S> Outbox<S> {
@@ -46,10 +54,8 @@ impl<S> Outbox<S> {
         ensures taken { result.taken ≡ 0 }
     {
         Outbox {
-            alloc,
             stream,
-            bytes: Vec::new(alloc),
-            sent: 0,
+            unsent: Unsent::new(alloc),
             taken: 0,
         }
     }
@@ -67,39 +73,23 @@ impl<S> Outbox<S> {
     {
         self.taken
     }
-
-    // Lets go of the bytes that have left, once they are as many as those that wait, and of room that isn't used.
-    fn tidy(&mut self)
-        ensures waits { waiting_bytes self.new ≡ waiting_bytes self.old }
-        ensures stream { self.new.stream ≡ self.old.stream }
-        ensures taken { self.new.taken ≡ self.old.taken }
-    {
-        if self.sent >= self.bytes.len() {
-            self.sent = 0;
-            if self.bytes.capacity() > MOST_KEPT {
-                self.bytes = Vec::new(self.alloc);
-            } else {
-                self.bytes.clear();
-            }
-        } else if self.sent >= self.bytes.len() - self.sent {
-            self.bytes.drain(..self.sent);
-            self.sent = 0;
-        }
-    }
 }
 
-// Gives a stream these bytes as far as it takes them. Returns how many it took.
-fn give<S: Write>(stream: &mut S, bytes: &[u8]) -> (usize, io::Result<()>)
-    ensures bound { result.0 ≤ length bytes.now }
-    ensures bytes { Appends (S.contents stream.old) (S.contents stream.new) (take result.0 bytes.now) }
+// Gives a stream the unsent bytes, as far as it takes them. Returns how many it took.
+fn give<S: Write>(stream: &mut S, unsent: &mut Unsent) -> (usize, io::Result<()>)
+    ensures { Gives (S.contents stream.old) (S.contents stream.new) result.0 unsent.old unsent.new }
 {
+    let whole = unsent.len();
+    let mut left = whole;
     let mut count = 0;
-    while count < bytes.len() {
-        match stream.write(&bytes[count..]) {
+    while left > 0 {
+        match unsent.give_some(stream) {
             Ok(0) => return (count, Err(io::Error::from(ErrorKind::WriteZero))),
             Ok(more) => count += more,
             Err(error) => return (count, Err(error)),
         }
+        unsent.tidy();
+        left = unsent.len();
     }
     (count, Ok(()))
 }
@@ -111,10 +101,8 @@ impl<S: Write> Outbox<S> {
     fn drain(&mut self) -> io::Result<()>
         ensures { Leaves S.contents self.old self.new }
     {
-        let (count, left) = give(&mut self.stream, &self.bytes[self.sent..]);
-        self.sent += count;
+        let (count, left) = give(&mut self.stream, &mut self.unsent);
         self.taken = self.taken.saturating_add(count as u64);
-        self.tidy();
         left
     }
 }
@@ -125,7 +113,7 @@ impl<S> Backlog for Outbox<S> {
     ghost waits = { λ o. length (waiting_bytes o) };
 
     fn waiting(&self) -> usize {
-        self.bytes.len() - self.sent
+        self.unsent.len()
     }
 }
 
@@ -155,7 +143,7 @@ impl<S: Write> Write for Outbox<S> {
         ensures waits { MatchResult result (λ _. waiting_bytes self.new ≡ waiting_bytes self.old ++ buf.now) (λ _. waiting_bytes self.new ≡ waiting_bytes self.old) }
         ensures stream { self.new.stream ≡ self.old.stream }
     {
-        self.bytes.extend_from_slice(buf)?;
+        self.unsent.push(buf)?;
         Ok(buf.len())
     }
 
@@ -168,6 +156,23 @@ impl<S: Write> Write for Outbox<S> {
         match self.drain() {
             Err(error) if error.kind() == ErrorKind::WouldBlock => Ok(()),
             left => left,
+        }
+    }
+}
+
+impl<S: Write> SharedWrite for Outbox<S> {
+    ghost use Rattle.net_outbox.specs.Outboxes.{contents_of, waiting_bytes};
+
+    fn write_shared(&mut self, own: &[u8], shared: &Bytes) -> Result<(), AllocError>
+        ensures ok { OnOk result (Appends (contents_of S.contents self.old) (contents_of S.contents self.new) (own.now ++ shared.now)) }
+        ensures waits { OnOk result (waiting_bytes self.new ≡ waiting_bytes self.old ++ (own.now ++ shared.now)) }
+        ensures stream { self.new.stream ≡ self.old.stream }
+        ensures err { OnErr result (self.new ≡ self.old) }
+    {
+        if shared.is_empty() {
+            self.unsent.push(own)
+        } else {
+            self.unsent.share(own, shared)
         }
     }
 }

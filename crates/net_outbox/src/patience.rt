@@ -7,9 +7,6 @@ use crate::MUCH_WAITS;
 // How long a span is.
 const SPAN_MILLIS: u64 = 8000;
 
-// How many bytes a peer takes in a span at least, where much waits: 4 kB a second.
-const LEAST_TAKEN: u64 = 32000;
-
 // When a span began, how many bytes had left by then, and how many waited.
 #[derive(Clone, Copy, Debug)]
 struct Span {
@@ -32,10 +29,10 @@ impl Patience {
         Patience { span: None }
     }
 
-    /// Checks whether a peer is too slow, at this millisecond, where so many bytes have left and so many wait: within a span it took nothing, or
-    /// less than 4 kB a second though more than 256 KiB waited at its beginning and wait at its end.
-    pub fn ends(&mut self, now: u64, taken: u64, waiting: usize) -> bool
-        ensures slow { IsTrue result ↔ IsSlow self.old.span now taken waiting }
+    /// Checks whether a peer is too slow at this millisecond, when `taken` bytes have left and `waiting` wait: within a span it took nothing, or
+    /// fewer than `least` bytes though more than 256 KiB waited at its beginning and wait at its end.
+    pub fn ends(&mut self, now: u64, taken: u64, waiting: usize, least: u64) -> bool
+        ensures slow { IsTrue result ↔ IsSlow self.old.span now taken waiting least }
         ensures rests { waiting ≡ 0 → self.new.span ≡ None }
         ensures begins { 0 < waiting → IsOver self.old.span now → self.new.span ≡ Some (record { at = now; taken = taken; waiting = waiting }) }
         ensures stays { 0 < waiting → (IsOver self.old.span now → ⊥) → self.new.span ≡ self.old.span }
@@ -60,16 +57,16 @@ impl Patience {
             taken,
             waiting,
         });
-        span.is_slow(taken, waiting)
+        span.is_slow(taken, waiting, least)
     }
 }
 
 impl Span {
     // Checks whether too few bytes have left since it began.
-    fn is_slow(&self, taken: u64, waiting: usize) -> bool
-        ensures { IsTrue result ↔ TakesTooLittle self.now taken waiting }
+    fn is_slow(&self, taken: u64, waiting: usize, least: u64) -> bool
+        ensures { IsTrue result ↔ TakesTooLittle self.now taken waiting least }
     {
         let took = taken.saturating_sub(self.taken);
-        took == 0 || (took < LEAST_TAKEN && self.waiting > MUCH_WAITS && waiting > MUCH_WAITS)
+        took == 0 || (took < least && self.waiting > MUCH_WAITS && waiting > MUCH_WAITS)
     }
 }

@@ -1,17 +1,24 @@
-use Rattle.std.proofs.Common.{◌-◌, ◌++◌, length, take, drop, sym, ap, subst, ◌∙◌, arith, length-take}
-use lib.Seq.{take-add, take-take}
-use Rattle.std.specs.Io.KnownBytes.{Appends}
-use Rattle.std.proofs.KnownBytes.{Appends-trans}
+-- Some more were taken.
+use Rattle.std.proofs.Common.{◌+◌, List, ℕ, sym, subst, arith}
+use Rattle.net_outbox.specs.Giving.{Gives}
+use Rattle.net_outbox.proofs.Parts.{given_length, gives_more, gives_nothing}
 use Rattle.net_outbox.proofs.outbox.give.Goals as goal
 
--- what was taken before and what was taken now stand one behind the other
-pub loop-count-preserved : goal.loop-count-preserved
-loop-count-preserved g c =
-    let done = c.loop-count.count in
-    let n = c.in-Ok.more in
-    let xs = c.args.bytes.now in
-    let before = c.loop-count.invariant in
-    let fits = c.in-Ok.ensures.bound in
-    let most = length-take (length xs - done) (drop done xs) in
-    let joined = ap (λ l. take done xs ++ l) (take-take n (length xs - done) (drop done xs) (omega arith)) ∙ sym (take-add done n xs) in
-    (omega arith, subst (Appends _ _) joined (Appends-trans _ _ _ _ _ before.1 c.in-Ok.ensures.bytes))
+pub loop-left-init : goal.loop-left-init
+loop-left-init g c = record {
+  counted = omega arith;
+  waits = c.len-whole.ensures;
+  gives = gives_nothing (g.S.Write.contents c.args.stream.now) c.args.unsent.now;
+}
+
+pub loop-left-preserved : goal.loop-left-preserved
+loop-left-preserved g c =
+    let was = c.loop-left.invariant in
+    let left = given_length _ _ c.in-Ok.more c.loop-left.unsent c.give_some.new.self c.in-Ok.ensures.gives in
+    let all = gives_more _ _ _ c.loop-left.count c.in-Ok.more c.args.unsent.now c.loop-left.unsent c.give_some.new.self was.gives c.in-Ok.ensures.gives in
+    let now = rw c.tidy.ensures at c.len-left.ensures in
+    record {
+      counted = omega (arith, was.counted, was.waits, left, now);
+      waits = c.len-left.ensures;
+      gives = subst (λ (l : List ℕ). Gives (g.S.Write.contents c.args.stream.now) (g.S.Write.contents c.give_some.new.stream) (c.loop-left.count + c.in-Ok.more) c.args.unsent.now l) (sym c.tidy.ensures) all;
+    }
