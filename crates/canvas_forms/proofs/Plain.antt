@@ -1,4 +1,4 @@
--- JSON trees without objects, whose numbers are whole ones of 64 bits: their compact texts are read as they are. Rows are such.
+-- JSON trees without objects, whose numbers are whole ones of 64 bits: their compact texts are read as they are. Rows and entries are such.
 use Rattle.std.proofs.Common.{◌≡◌, ℕ, suc, ◌^◌, ◌<◌, ◌≤◌, ◌&&◌, nat_lt, max, pos, negsuc, List, [], ◌∷◌, Bool, true, false, true≢false, Option, Some, None, option_map, option_and_then, refl, ap, ap₂, sym, subst, ◌∙◌, arith, append-nil}
 use Rattle.std.specs.FinMap as map
 use Rattle.json.specs.Json as json
@@ -16,6 +16,9 @@ use Rattle.serde_json.specs.Written.{number_text, outline, items_outline, compac
 use Rattle.serde_json.proofs.Numbers.{number_of-decimal, number_of-negative}
 use Rattle.serde_json.proofs.Texts.{print-outline}
 use Rattle.canvas_model.specs.declared.ObjId.{ObjId}
+use Rattle.canvas_model.specs.Change.{Change, Create, Set, Move, Delete}
+use Rattle.canvas_model.specs.Verdict.{Outcome, Joined, Created, WasSet, Moved, Removed, Refused, number_of as reason_number}
+use Rattle.canvas_model.specs.Log.{What, Join, Edit, Entry}
 use Rattle.canvas_model.specs.Value as value
 use Rattle.canvas_model.specs.Value.{Value, Values, no_more, more}
 use Rattle.canvas_model.specs.Document.{Object, Place, Name}
@@ -24,8 +27,12 @@ use Rattle.canvas_value.specs.Range as range
 use Rattle.canvas_value.specs.Range.{is_within}
 use Rattle.canvas_codec.specs.Parts.{each_test, each_written, maybe_test, maybe_written}
 use Rattle.canvas_value.proofs.Tests.{both_hold, both_true}
+use Rattle.canvas_forms.specs.Version.{version_two}
 use Rattle.canvas_forms.specs.Ids.{client_form, id_form}
 use Rattle.canvas_forms.specs.Places.{place_form}
+use Rattle.canvas_forms.specs.Changes.{change_form}
+use Rattle.canvas_forms.specs.Outcomes.{outcome_form, reason_form}
+use Rattle.canvas_forms.specs.Entries.{what_form, entry_form}
 use Rattle.canvas_forms.specs.Rows.{prop_form, row_form}
 use Rattle.canvas_model.proofs.Tests.{lt_true}
 
@@ -163,3 +170,55 @@ rows_plain [] e = refl
 rows_plain (row ∷ rows) e =
     let h = both_hold (row_form.fits row) (each_test row_form.fits rows) e in
     both_true (is_plain (row_form.write row)) (are_plain (each_written row_form.write rows)) (row_plain row h.0) (rows_plain rows h.1)
+
+-- ---- what is written of entries is plain
+
+place_written : (place : Place) → place_form.fits place ≡ true → is_plain (place_form.write place) ≡ true
+place_written place e = place_plain (Some place) e
+
+change_plain : (change : Change) → change_form.fits change ≡ true → is_plain (change_form.write change) ≡ true
+change_plain (Create id kind place) e =
+    let h = both_hold (id_form.fits id) (place_form.fits place && true) e in
+    let k = both_hold (place_form.fits place) true h.1 in
+    rw (id_plain id h.0, place_written place k.0) refl
+change_plain (Set id name (Some v)) e =
+    let h = both_hold (id_form.fits id) (range.fits v && true) e in
+    let k = both_hold (range.fits v) true h.1 in
+    rw (id_plain id h.0, value_plain v k.0) refl
+change_plain (Set id name None) e = let h = both_hold (id_form.fits id) true e in rw (id_plain id h.0) refl
+change_plain (Move id place) e =
+    let h = both_hold (id_form.fits id) (place_form.fits place && true) e in
+    let k = both_hold (place_form.fits place) true h.1 in
+    rw (id_plain id h.0, place_written place k.0) refl
+change_plain (Delete id) e = let h = both_hold (id_form.fits id) true e in rw (id_plain id h.0) refl
+
+what_plain : (what : What) → what_form.fits what ≡ true → is_plain (what_form.write what) ≡ true
+what_plain Join e = refl
+what_plain (Edit change) e = change_plain change e
+
+ids_plain : (ids : List ObjId) → each_test id_form.fits ids ≡ true → are_plain (each_written id_form.write ids) ≡ true
+ids_plain [] e = refl
+ids_plain (id ∷ ids) e =
+    let h = both_hold (id_form.fits id) (each_test id_form.fits ids) e in
+    both_true (is_plain (id_form.write id)) (are_plain (each_written id_form.write ids)) (id_plain id h.0) (ids_plain ids h.1)
+
+reason_of_64 : (n : ℕ) → is_within 1 8 n ≡ true → nat_lt n (2 ^ 64) ≡ true
+reason_of_64 n e = grind (arith, e)
+
+outcome_plain : (outcome : Outcome) → (outcome_form version_two).fits outcome ≡ true → is_plain ((outcome_form version_two).write outcome) ≡ true
+outcome_plain (Joined client) e = let h = both_hold (client_form.fits client) true e in rw (small_of_64 client h.0) refl
+outcome_plain (Created place) e = let h = both_hold (place_form.fits place) true e in rw (place_written place h.0) refl
+outcome_plain WasSet e = refl
+outcome_plain (Moved place) e = let h = both_hold (place_form.fits place) true e in rw (place_written place h.0) refl
+outcome_plain (Removed ids) e = let h = both_hold (each_test id_form.fits ids) true e in rw (ids_plain ids h.0) refl
+outcome_plain (Refused reason None) e = let h = both_hold ((reason_form version_two).fits reason) true e in rw (reason_of_64 (reason_number reason) h.0) refl
+outcome_plain (Refused reason (Some place)) e =
+    let h = both_hold ((reason_form version_two).fits reason) (place_form.fits place && true) e in
+    let k = both_hold (place_form.fits place) true h.1 in
+    rw (reason_of_64 (reason_number reason) h.0, place_written place k.0) refl
+
+seq_of_64 : (n : ℕ) → n < 2 ^ 64 → nat_lt n (2 ^ 64) ≡ true
+seq_of_64 n h = grind (arith, h)
+
+pub entry_plain : (e : Entry) → client_form.fits e.author ≡ true → e.seq < 2 ^ 64 → what_form.fits e.what ≡ true → (outcome_form version_two).fits e.outcome ≡ true → is_plain ((entry_form version_two).write e) ≡ true
+entry_plain e author seq what outcome = rw (small_of_64 e.author author, seq_of_64 e.seq seq, what_plain e.what what, outcome_plain e.outcome outcome) refl

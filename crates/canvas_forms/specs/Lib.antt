@@ -8,5 +8,7 @@ pub mod Kinds
 pub mod Places
 pub mod Changes
 pub mod Outcomes
+pub mod Entries
+pub mod EntryTexts
 pub mod Rows
 pub mod InOrder

@@ -3,6 +3,8 @@
 //!
 //! A reader answers what it read, and whether each whole number in it was in range, as those of `canvas_value` do. So a JSON tree is read
 //! once, and a caller still can tell a JSON tree of another shape from one with a number out of range.
+//!
+//! A [`SharedEntry`] is an entry with its text, which several values share.
 #![tactic(auto)]
 
 pub mod changes;
@@ -13,4 +15,7 @@ pub mod order;
 pub mod outcomes;
 mod places;
 pub mod rows;
+mod shared_entry;
 pub mod sound;
+
+pub use shared_entry::SharedEntry;

@@ -1,3 +1,4 @@
 pub mod Accepts
+pub mod Asking
 pub mod Tested
 pub mod Told

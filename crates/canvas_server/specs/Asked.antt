@@ -1,6 +1,8 @@
 -- What the server is asked.
-use Rattle.std.specs.Prelude.{ℕ}
+use Rattle.std.specs.Prelude.{ℕ, Option, None, Some}
 use Rattle.canvas_model.specs.Log.{What, Join, Edit}
+use Rattle.canvas_model.specs.Messages.{Message}
+use Rattle.canvas_model.specs.Messages as messages
 use Rattle.canvas_server.specs.declared.request.Request.{Request}
 use Rattle.canvas_server.specs.declared.request.Request.TheVariants as request
 
@@ -14,3 +16,9 @@ pub record Asked : Type 0 where
 abbrev pub seen_request : {A : Type 0} → Request A → Asked
 seen_request request.Join = record { author = 0; seq = 0; what = Join }
 seen_request (request.Edit client seq change) = record { author = client; seq = seq; what = Edit change }
+
+-- the request that a message makes, if it makes one
+abbrev pub asked_by : Message → Option Asked
+asked_by messages.Join = Some (record { author = 0; seq = 0; what = Join })
+asked_by (messages.Edit client seq change) = Some (record { author = client; seq = seq; what = Edit change })
+asked_by _ = None

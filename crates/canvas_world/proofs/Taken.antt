@@ -11,8 +11,8 @@ use Rattle.canvas_model.specs.Messages as messages
 use Rattle.canvas_model.specs.World.{Letter, World, Answer, Take, Appends, Takes, If, At, is_full, state, appended, Step}
 use Rattle.canvas_model.specs.World as world
 use Rattle.canvas_model.proofs.Tests.{eq_true}
-use Rattle.canvas_server.specs.Asked.{Asked}
-use Rattle.canvas_world.specs.Parts.{asked_by, asker_of}
+use Rattle.canvas_server.specs.Asked.{Asked, asked_by}
+use Rattle.canvas_world.specs.Parts.{asker_of}
 use Rattle.canvas_server.specs.Served.{Served}
 use Rattle.canvas_server.specs.Answered.{Looks, LooksAs, IsNext, has_no_room}
 use Rattle.canvas_server.proofs.Tested.{room}

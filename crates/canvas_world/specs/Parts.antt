@@ -4,8 +4,6 @@ use Rattle.canvas_model.specs.Change.{Change}
 use Rattle.canvas_model.specs.Log.{What, Join, Edit, Fits, last_version}
 use Rattle.canvas_model.specs.Client.{last_number}
 use Rattle.canvas_model.specs.Local as local
-use Rattle.canvas_model.specs.Messages.{Message}
-use Rattle.canvas_model.specs.Messages as messages
 use Rattle.canvas_server.specs.Asked.{Asked}
 use Rattle.canvas_model.specs.World.{Letter, Node, World, Event, Answer, Nothing, MessageIs, EditIs, RefusedEdit, Judged, Take, state, posted, appended, Step}
 use Rattle.canvas_world.specs.Seen.{seen_answer}
@@ -16,12 +14,6 @@ use Rattle.canvas_server.specs.declared.taking.TakeError.TheVariants as refusal
 use Rattle.canvas_world.specs.declared.event.Answer.TheVariants as answer
 use Rattle.canvas_world.specs.declared.changing.Judging.{Judging}
 use Rattle.canvas_world.specs.declared.changing.Judging.TheVariants as judging
-
--- the request that a message is, if it is one
-abbrev pub asked_by : Message → Option Asked
-asked_by messages.Join = Some (record { author = 0; seq = 0; what = Join })
-asked_by (messages.Edit c n change) = Some (record { author = c; seq = n; what = Edit change })
-asked_by _ = None
 
 -- who asked for this: the node that sent it, if it is a Join, else 0
 abbrev pub asker_as : What → ℕ → ℕ

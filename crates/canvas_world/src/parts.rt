@@ -9,8 +9,8 @@ ghost use Rattle.canvas_client.specs.Asked.{refusal};
 ghost use Rattle.canvas_client.specs.Follow.{CanFollow};
 ghost use Rattle.canvas_client.specs.Seen.{seen_received};
 ghost use Rattle.canvas_judge.specs.Seen.{seen_message, seen_outcome};
-ghost use Rattle.canvas_server.specs.Asked.{seen_request};
-ghost use Rattle.canvas_world.specs.Parts.{NodeEdits, asked_by, asker_of};
+ghost use Rattle.canvas_server.specs.Asked.{asked_by, seen_request};
+ghost use Rattle.canvas_world.specs.Parts.{NodeEdits, asker_of};
 ghost use Rattle.canvas_world.specs.Seen.{seen_answer};
 
 use crate::Answer;
