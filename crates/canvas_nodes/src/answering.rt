@@ -23,15 +23,15 @@ pub trait Answerer {
     /// The messages that answer a Join, an edit or an Ask, in order. The last is a Welcome, an Idle or a No, and no other.
     ///
     /// Errors: out of memory.
-    fn answer(&mut self, message: &Message) -> Result<Vec<Message>, AllocError>
-        ensures gives { IfOk result (λ answer. gives self.old (seen_message message.now) (map seen_message answer.items) self.new) }
+    fn answer(&mut self, message: Message) -> Result<Vec<Message>, AllocError>
+        ensures gives { IfOk result (λ answer. gives self.old (seen_message message) (map seen_message answer.items) self.new) }
         ensures whole { IfOk result (λ answer. IsAnswer (map seen_message answer.items)) };
 
     /// The texts of such messages, in order. As a rule each is written anew; an answerer may have some ready that many are sent.
     ///
     /// Errors: out of memory.
-    fn texts(&mut self, alloc: Global, message: &Message) -> Result<Vec<Vec<u8>>, AllocError>
-        ensures { IfOk result (λ ts. GivesTexts gives self.old (seen_message message.now) (map (λ t. t.items) ts.items) self.new) }
+    fn texts(&mut self, alloc: Global, message: Message) -> Result<Vec<Vec<u8>>, AllocError>
+        ensures { IfOk result (λ ts. GivesTexts gives self.old (seen_message message) (map (λ t. t.items) ts.items) self.new) }
     {
         let answer = self.answer(message)?;
         texts_of(alloc, &answer)
@@ -55,7 +55,7 @@ pub fn answered<A: Answerer>(
         (λ reason. Replies A.gives answerer.old bytes.now (refusal_alone reason) answerer.new) }
 {
     match asked(alloc, bytes) {
-        Ok(message) => match answerer.texts(alloc, &message) {
+        Ok(message) => match answerer.texts(alloc, message) {
             Ok(texts) => Ok(texts),
             Err(_) => Err(NoReason::Memory),
         },

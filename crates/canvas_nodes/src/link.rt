@@ -61,7 +61,7 @@ pub trait Link {
     ///
     /// Answers Ended where the connection has ended or failed, Refused where the answer ends with a No, NotRead where what came isn't
     /// an answer, and Memory if memory runs out.
-    fn round(&mut self, message: &Message) -> Result<Vec<Message>, LinkError>
-        ensures gives { IfOk result (λ answer. gives self.old (seen_message message.now) (map seen_message answer.items) self.new) }
-        ensures fails { IfErr result (λ e. fails self.old (seen_message message.now) e self.new) };
+    fn round(&mut self, message: Message) -> Result<Vec<Message>, LinkError>
+        ensures gives { IfOk result (λ answer. gives self.old (seen_message message) (map seen_message answer.items) self.new) }
+        ensures fails { IfErr result (λ e. fails self.old (seen_message message) e self.new) };
 }

@@ -20,7 +20,7 @@ pub fn join<L: Link>(client: &mut Client, link: &mut L) -> Result<(), LinkError>
     ensures goes_on { GoesOn client.old client.new }
     ensures id { OnOk result (IsSome client.new.id) }
 {
-    ask(client, link, &Client::join_message())?;
+    ask(client, link, Client::join_message())?;
     match client.id() {
         Some(_) => Ok(()),
         None => Err(LinkError::NotRead),
@@ -75,7 +75,7 @@ fn send_edit<L: Link>(
     ensures goes_on { GoesOn client.old client.new }
 {
     let edit = client.message(alloc, i)?;
-    ask(client, link, &edit)
+    ask(client, link, edit)
 }
 
 // Asks for what came after the client's version, until its version stays.
@@ -102,15 +102,15 @@ fn ask_next<L: Link>(client: &mut Client, link: &mut L) -> Result<(), LinkError>
     ensures goes_on { GoesOn client.old client.new }
 {
     match client.ask_message() {
-        Some(message) => ask(client, link, &message),
+        Some(message) => ask(client, link, message),
         None => Ok(()),
     }
 }
 
 // Sends a message, and gives the client the answer.
-fn ask<L: Link>(client: &mut Client, link: &mut L, message: &Message) -> Result<(), LinkError>
-    ensures hears { OnOk result (Hears L.gives L.fails (seen_message message.now) client.old link.old client.new link.new) }
-    ensures breaks { IfErr result (λ e. Breaks L.gives L.fails (seen_message message.now) e client.old link.old client.new link.new) }
+fn ask<L: Link>(client: &mut Client, link: &mut L, message: Message) -> Result<(), LinkError>
+    ensures hears { OnOk result (Hears L.gives L.fails (seen_message message) client.old link.old client.new link.new) }
+    ensures breaks { IfErr result (λ e. Breaks L.gives L.fails (seen_message message) e client.old link.old client.new link.new) }
     ensures goes_on { GoesOn client.old client.new }
 {
     let answer = link.round(message)?;

@@ -12,7 +12,7 @@ use Rattle.canvas_codec.proofs.Forms.{first, second, via_is, end_is, member_is, 
 use Rattle.canvas_forms.specs.Version.{Version}
 use Rattle.canvas_forms.specs.Changes.{change_form}
 use Rattle.canvas_forms.proofs.Forms.{client_is, version_is, change_is, outcome_is}
-use Rattle.canvas_wire.specs.Entries.{word_or, word_or_in, word_or_written, what_of, change_in, what_form, entry_form}
+use Rattle.canvas_forms.specs.Entries.{word_or, word_or_in, word_or_written, what_of, change_in, what_form, entry_form}
 
 word_case : (b : Bool) (f : Bool) {X : Type 0} (x : Option X) → cond {A = Option (Option X × Bool)} b (Some (None, true)) None ≡ Some (x, f) → (b ≡ true) × (None ≡ x) × (true ≡ f)
 word_case true f x e = (refl, first e, second e)

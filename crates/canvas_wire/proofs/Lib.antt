@@ -10,6 +10,7 @@ mod Decoding
 mod Entry
 mod Message
 mod CopyTexts
+mod ToldTexts
 mod Checkpoint
 mod Head
 mod Row

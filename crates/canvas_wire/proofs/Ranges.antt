@@ -11,10 +11,11 @@ use Rattle.canvas_forms.specs.Version.{version_two}
 use Rattle.canvas_forms.specs.Ids.{client_form}
 use Rattle.canvas_forms.specs.Outcomes.{outcome_form}
 use Rattle.canvas_forms.proofs.Ranges.{version_fits}
-use Rattle.canvas_wire.specs.Entries.{what_form}
+use Rattle.canvas_forms.specs.Entries.{what_form}
 use Rattle.canvas_wire.specs.Checkpoints.{counts_form, clients_form}
 use Rattle.canvas_wire.specs.Heads.{Head, count_form}
-use Rattle.canvas_wire.specs.Text.{IsEntryInRange, IsHeadInRange}
+use Rattle.canvas_forms.specs.EntryTexts.{IsEntryInRange}
+use Rattle.canvas_wire.specs.Text.{IsHeadInRange}
 
 pub entry_fits : (e : Entry) → client_form.fits e.author ≡ true → what_form.fits e.what ≡ true → (outcome_form version_two).fits e.outcome ≡ true → e.seq ≤ last_version → IsEntryInRange e
 entry_fits e author what outcome seq = rw (author, version_fits e.seq seq, what, outcome) refl

@@ -9,11 +9,12 @@ use Rattle.canvas_model.specs.Messages.{Message}
 use Rattle.canvas_codec.specs.Codec.{IsCodec}
 use Rattle.canvas_forms.specs.Version.{Version}
 use Rattle.canvas_forms.specs.Rows.{row_form}
-use Rattle.canvas_wire.specs.Entries.{entry_form}
+use Rattle.canvas_forms.specs.Entries.{entry_form}
 use Rattle.canvas_wire.specs.Messages.{parts_form}
 use Rattle.canvas_wire.specs.Checkpoints.{Checkpoint, checkpoint_form}
 use Rattle.canvas_wire.specs.Heads.{Head, head_form}
-use Rattle.canvas_wire.specs.Text.{IsShallowEntry, SpellsEntry, EncodesEntry, IsEntryInRange, IsShallowMessage, SpellsMessage, EncodesMessage, IsMessageInRange, SpellsCheckpoint, SpellsHead, EncodesHead, IsHeadInRange, IsRow, IsShallowRow, SpellsRow, EncodesRow}
+use Rattle.canvas_forms.specs.EntryTexts.{IsShallowEntry, EncodesEntry, IsEntryInRange}
+use Rattle.canvas_wire.specs.Text.{SpellsEntry, IsShallowMessage, SpellsMessage, EncodesMessage, IsMessageInRange, SpellsCheckpoint, SpellsHead, EncodesHead, IsHeadInRange, IsRow, IsShallowRow, SpellsRow, EncodesRow}
 
 -- entries have a form in each version whose reasons are those that are known
 abbrev pub EntriesAreForms : Type 0

@@ -1,4 +1,3 @@
-pub mod Entries
 pub mod Messages
 pub mod Checkpoints
 pub mod Heads

@@ -19,7 +19,7 @@ use Rattle.canvas_forms.specs.Changes.{change_form}
 use Rattle.canvas_forms.specs.Outcomes.{alone}
 use Rattle.canvas_forms.specs.Rows.{rows_form}
 use Rattle.canvas_forms.specs.RowOrder.{are_in_order}
-use Rattle.canvas_wire.specs.Entries.{entry_form}
+use Rattle.canvas_forms.specs.Entries.{entry_form}
 
 -- the number of the version, and no other
 abbrev pub number_form : Version → Codec (Unit {0})
@@ -129,6 +129,10 @@ message_in v d = if is_orderly d then (parts_form v).read d else None
 -- the same, of an array that begins with this word
 abbrev pub message_after : Version → List ℕ → Items → Option (MessageParts × Bool)
 message_after v w ds = message_in v (array (item (string w) ds))
+
+-- the text of a told entry up to the entry
+abbrev pub entry_start : ℕ → List ℕ
+entry_start version = codes "[\"entry\"," ++ (decimal version ++ codes ",")
 
 -- the text of a copy up to its rows
 abbrev pub copy_start : ℕ → ℕ → List ℕ

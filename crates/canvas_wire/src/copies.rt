@@ -1,5 +1,5 @@
 // Copies of the document.
-ghost use Rattle.std.specs.Prelude.{◌≡◌, ◌<◌, ◌^◌, ◌++◌, IfOk, OnOk, string_bytes};
+ghost use Rattle.std.specs.Prelude.{◌≡◌, ◌<◌, ◌^◌, ◌++◌, ◌∷◌, ℕ, List, [], IfOk, OnOk, string_bytes};
 ghost use Rattle.std.specs.FinMap as map;
 ghost use Rattle.serde_json.specs.Written.{comma_if, compact_text};
 ghost use Rattle.canvas_model.specs.Document as document;
@@ -40,21 +40,13 @@ pub fn encode_rows<A: Allocator>(alloc: Global, doc: &Doc<A>) -> Result<Vec<u8>,
     Ok(text.into_bytes())
 }
 
-/// The JSON text of the copy of a document at this version, for a client of which so many edits were judged by then, round the text of its
-/// rows, which [`encode_rows`] wrote. The error is that memory ran out.
-pub fn encode_copy_of(
-    alloc: Global,
-    version: u64,
-    done: u64,
-    rows: &[u8],
-) -> Result<Vec<u8>, AllocError>
-    ensures { (doc : document.Doc) → EncodesRows rows.now doc → IfOk result (λ b. EncodesMessage b.items (messages.Copy version done doc)) }
+/// Returns the JSON text of a copy of a document, up to the text of its rows: of the document at this version, for a client whose first `done`
+/// edits were judged by then. The text of the rows, by [`encode_rows`], and a `]` follow. Errors: out of memory.
+pub fn encode_copy_start(alloc: Global, version: u64, done: u64) -> Result<Vec<u8>, AllocError>
+    ensures { (doc : document.Doc) (rows : List ℕ) → EncodesRows rows doc → IfOk result (λ start. EncodesMessage (start.items ++ (rows ++ 93 ∷ [])) (messages.Copy version done doc)) }
 {
-    let mut text = copy_start(alloc, version, done)?.into_bytes();
-    text.reserve(rows.len().saturating_add(1))?;
-    text.extend_from_slice(rows)?;
-    text.push(b']')?;
-    Ok(text)
+    let start = copy_start(alloc, version, done)?.into_bytes();
+    Ok(start)
 }
 
 // The text of a copy up to its rows.

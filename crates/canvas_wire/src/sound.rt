@@ -1,15 +1,17 @@
 // That the positions and names of what is written are such, and its numbers in range as far as their types say it. These functions
 // change nothing when they run: the proof of what is written needs them.
-ghost use Rattle.std.specs.Prelude.{◌≡◌, ◌≤◌, ℕ, true};
+ghost use Rattle.std.specs.Prelude.{◌≡◌, ◌≤◌, ◌<◌, ◌^◌, ℕ, true};
 ghost use Rattle.std.specs.List.{All};
 ghost use Rattle.canvas_model.specs.Log.{last_version};
 ghost use Rattle.canvas_model.specs.Storable.{AsksShallow};
 ghost use Rattle.canvas_judge.specs.Seen.{seen_message, seen_what};
 ghost use Rattle.canvas_forms.specs.Version.{version_two};
 ghost use Rattle.canvas_forms.specs.Ids.{client_form};
-ghost use Rattle.canvas_wire.specs.Entries.{what_form, entry_form};
+ghost use Rattle.canvas_forms.specs.Outcomes.{outcome_form};
+ghost use Rattle.canvas_forms.specs.Entries.{what_form, entry_form};
 ghost use Rattle.canvas_wire.specs.Heads.{head_form};
-ghost use Rattle.canvas_wire.specs.Text.{IsShallowEntry, IsEntryInRange, IsHeadInRange};
+ghost use Rattle.canvas_forms.specs.EntryTexts.{IsShallowEntry, IsEntryInRange};
+ghost use Rattle.canvas_wire.specs.Text.{IsHeadInRange};
 ghost use Rattle.canvas_wire.specs.Messages.{parts_form, parts_of, message_json, is_orderly};
 
 use canvas_forms::sound::{know_client, sound_change, sound_doc, sound_outcome};
@@ -51,12 +53,22 @@ fn know_clients(clients: &[Counts])
 pub(crate) fn sound_entry<A: Allocator>(entry: &Entry<A>)
     ensures sound { (entry_form version_two).sound entry.now ≡ true }
     ensures shallow { IsShallowEntry entry.now }
+    ensures author { client_form.fits entry.now.author ≡ true }
+    ensures seq { entry.now.seq < 2 ^ 64 }
+    ensures what { what_form.fits entry.now.what ≡ true }
+    ensures outcome { (outcome_form version_two).fits entry.now.outcome ≡ true }
     ensures in_range { entry.now.seq ≤ last_version → IsEntryInRange entry.now }
 {
     know_client(entry.author);
+    know_seq(entry.seq);
     sound_what(&entry.what);
     sound_outcome(&entry.outcome);
 }
+
+// Of a request's number.
+fn know_seq(seq: u64)
+    ensures { seq < 2 ^ 64 }
+{}
 
 // Of what was asked.
 fn sound_what<A: Allocator>(what: &What<A>)
