@@ -2,7 +2,7 @@
 ghost use Rattle.std.specs.Prelude.{◌≡◌, ◌<◌, IfOk, MatchOption, Some, slice_get};
 
 use crate::{Reader, Receipt, RoomName, SeatError};
-use canvas_judge::Entry;
+use canvas_forms::SharedEntry;
 use std::alloc::Global;
 
 /// Learns a receipt, and reads the tail from the version before: it begins with the receipt's entry, or is none because a checkpoint
@@ -12,7 +12,7 @@ pub fn read_back<N: RoomName>(
     alloc: Global,
     receipt: Receipt<N>,
     at_most: u64,
-) -> Result<Option<Vec<Entry>>, SeatError>
+) -> Result<Option<Vec<SharedEntry>>, SeatError>
     requires { 0 < at_most }
     ensures { IfOk result (λ tail. MatchOption tail (Unit {0}) (λ entries. slice_get entries.items 0 ≡ Some receipt.entry)) }
 {

@@ -22,7 +22,7 @@ pub use laws::read_back;
 pub use mark::{Mark, MarkVariant, Opening};
 pub use news::News;
 pub use opening::open_board;
-pub use page::Page;
+pub use page::{Page, RoomServer};
 pub use publisher::Publisher;
 pub use reader::Reader;
 pub use receipt::Receipt;

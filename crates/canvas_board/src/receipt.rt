@@ -4,12 +4,12 @@ ghost use Rattle.canvas_board.specs.Marks.{IsLegalHistory};
 ghost use Rattle.canvas_board.specs.Receipts.{EndsWith};
 
 use crate::{Front, RoomName};
-use canvas_judge::Entry;
+use canvas_forms::SharedEntry;
 use std::marker::Model;
 
 /// That an entry is published: the entry, its version, and the history that it ends.
 pub struct Receipt<N: RoomName> {
-    entry: Entry,
+    entry: SharedEntry,
     version: u64,
     front: Front<N>,
 }
@@ -42,7 +42,7 @@ impl<N: RoomName> Model for Receipt<N> {
 
 impl<N: RoomName> Receipt<N> {
     /// The receipt of an entry that ends this history at this version.
-    pub fn new(entry: Entry, version: u64, front: Front<N>) -> Receipt<N>
+    pub fn new(entry: SharedEntry, version: u64, front: Front<N>) -> Receipt<N>
         requires { EndsWith N.opening front entry version }
         ensures { result ≡ record { history = front; entry = entry; version = version } }
     {
@@ -72,7 +72,7 @@ impl<N: RoomName> Receipt<N> {
     }
 
     /// Its entry.
-    pub fn entry(&self) -> &Entry
+    pub fn entry(&self) -> &SharedEntry
         ensures { result.now ≡ self.now.entry }
     {
         &self.entry

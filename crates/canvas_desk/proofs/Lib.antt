@@ -1,3 +1,4 @@
+pub mod Looking
 pub mod Keeping
 pub mod Boards
 pub mod Batching

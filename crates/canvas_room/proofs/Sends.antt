@@ -1,7 +1,7 @@
 -- Which of a room's types may be sent to a thread or shared with one, one layer at a time: `search` alone gives up at the depth of them all.
 use denote.RattleType.{RattleType}
 use denote.Struct.Declared.{shape}
-use denote.Param.Send.{IsSend, IsSync, sendable, view_send, recorded_send, struct_send}
+use denote.Param.Send.{IsSend, IsSync, sendable, view_send, view_sync, recorded_send, struct_send}
 use denote.Param.SendFields.{as_row_send, declared_send, declared_sync, variants_send}
 use Rattle.core.proofs.option.Option.TheSendSync as option
 use Rattle.core.proofs.rt.Memory.TheSendSync as memory
@@ -21,10 +21,15 @@ use Rattle.canvas_judge.proofs.outcome.Outcome.TheSendSync as outcome
 use Rattle.canvas_judge.specs.contracts.state.State as State
 use Rattle.canvas_judge.specs.contracts.entry.Entry as Entry
 use Rattle.canvas_server.specs.contracts.request.Request as Request
-use Rattle.canvas_server.specs.contracts.server.Server as Server
+use Rattle.canvas_server.specs.contracts.server.ServerWith as Server
+use Rattle.canvas_forms.specs.contracts.shared_entry.SharedEntry as SharedEntry
+use Rattle.canvas_forms.specs.contracts.shared_entry.SharedEntry.TheInside as in_entry
+use Rattle.canvas_forms.specs.contracts.shared_entry.Spelled as Spelled
 use Rattle.canvas_board.specs.declared.history.RoomName.{Ghosts}
 use Rattle.canvas_board.specs.contracts.mark.Mark as Mark
 use Rattle.canvas_board.specs.contracts.page.Page as Page
+use Rattle.canvas_board.specs.contracts.page.Shared as Shared
+use Rattle.canvas_board.specs.contracts.page.SharedEntryFormGlobal.TheImpl as form
 use Rattle.canvas_board.specs.contracts.board.Board as Board
 use Rattle.canvas_board.specs.contracts.board.Step as Step
 use Rattle.canvas_board.specs.contracts.reader.Reader as Reader
@@ -123,23 +128,36 @@ Entry-send = search (leaves, sendable, crosses) depth 40 fits 4000
 pub Entry-sync : IsSync (Entry.the_row Heap.the_row ghosts)
 Entry-sync = search (leaves, sendable, crosses) depth 40 fits 4000
 
-pub Server-send : IsSend (Server.the_row Heap.the_row ghosts)
-Server-send = search (State-send, Entry-send, sendable, crosses) depth 40 fits 4000
+-- an entry with its text
+pub Spelled-send : IsSend Spelled.the_row
+Spelled-send = search (Entry-send, sendable, crosses) depth 40 fits 4000
 
-pub Server-sync : IsSync (Server.the_row Heap.the_row ghosts)
-Server-sync = search (State-sync, Entry-sync, sendable, crosses) depth 40 fits 4000
+pub Spelled-sync : IsSync Spelled.the_row
+Spelled-sync = search (Entry-sync, sendable, crosses) depth 40 fits 4000
+
+pub SharedEntry-send : IsSend SharedEntry.the_row
+SharedEntry-send = view_send in_entry.the_row _ _ _ _ (declared_send in_entry.the_type (Arc-send _ Spelled-send Spelled-sync, tt))
+
+pub SharedEntry-sync : IsSync SharedEntry.the_row
+SharedEntry-sync = view_sync in_entry.the_row _ _ _ _ (declared_sync in_entry.the_type (Arc-sync _ Spelled-send Spelled-sync, tt))
+
+pub Server-send : IsSend (Server.the_row Shared.the_row Heap.the_row SharedEntry.the_row form.ghosts ghosts)
+Server-send = search (State-send, SharedEntry-send, sendable, crosses) depth 40 fits 4000
+
+pub Server-sync : IsSync (Server.the_row Shared.the_row Heap.the_row SharedEntry.the_row form.ghosts ghosts)
+Server-sync = search (State-sync, SharedEntry-sync, sendable, crosses) depth 40 fits 4000
 
 pub Page-send : IsSend Page.the_row
-Page-send = search (Server-send, heap.the_field_send, sendable, crosses) depth 40 fits 4000
+Page-send = search (Server-send, sendable, crosses) depth 40 fits 4000
 
 pub Page-sync : IsSync Page.the_row
-Page-sync = search (Server-sync, heap.the_field_sync, sendable, crosses) depth 40 fits 4000
+Page-sync = search (Server-sync, sendable, crosses) depth 40 fits 4000
 
 pub Mark-send : IsSend Mark.the_row
-Mark-send = search (Entry-send, sendable, crosses) depth 40 fits 4000
+Mark-send = search (SharedEntry-send, sendable, crosses) depth 40 fits 4000
 
 pub Mark-sync : IsSync Mark.the_row
-Mark-sync = search (Entry-sync, sendable, crosses) depth 40 fits 4000
+Mark-sync = search (SharedEntry-sync, sendable, crosses) depth 40 fits 4000
 
 pub Board-send : (N : RattleType) (g : Ghosts N.Denot) → IsSend N → IsSend (Board.the_row N g)
 Board-send N g s = search (Page-send, front.the_send, sendable, crosses) depth 40 fits 4000
@@ -207,7 +225,7 @@ pub Request-send : IsSend (Request.the_row Heap.the_row ghosts)
 Request-send = search (leaves, sendable, crosses) depth 40 fits 4000
 
 pub Receipt-send : (N : RattleType) (g : Ghosts N.Denot) → IsSend N → IsSend (Receipt.the_row N g)
-Receipt-send N g s = search (Entry-send, front.the_send, sendable, crosses) depth 40 fits 4000
+Receipt-send N g s = search (SharedEntry-send, front.the_send, sendable, crosses) depth 40 fits 4000
 
 pub Told-send : (N : RattleType) (g : Ghosts N.Denot) → IsSend N → IsSend (SeatAnswer.the_row N g)
 Told-send N g s =

@@ -138,10 +138,10 @@ pub fn ask<K: Keeper, N: RoomName, R: Wait + Drop, W: Wait>(
     rt: &W,
     desk: &mut Desk<K, N, R>,
     seen: &Front<N>,
-    request: &Request,
+    request: Request,
 ) -> SeatAnswer<N>
     requires { IsPrefix seen.now desk.old.history }
-    ensures { IsAnswerTo N.opening seen.now (seen_request request.now) result.answer result.learns }
+    ensures { IsAnswerTo N.opening seen.now (seen_request request) result.answer result.learns }
 {
     let answer = desk.submit(rt, request);
     match failure_of(&answer) {

@@ -1,5 +1,5 @@
 // How the requests of a mailbox are committed as one batch.
-ghost use Rattle.std.specs.Prelude.{◌≡◌, ◌≤◌, IfErr, IfOk, IfSome, length, map};
+ghost use Rattle.std.specs.Prelude.{◌≡◌, ◌≤◌, IfErr, IfOk, length, map};
 ghost use Rattle.canvas_server.specs.Asked.{seen_request};
 ghost use Rattle.canvas_board.specs.Marks.{IsLegalHistory};
 ghost use Rattle.canvas_room.specs.Batches.{AreSaid, AreSeen, IsUnanswered, Says, seen_of};
@@ -112,38 +112,20 @@ fn leave_each<N: RoomName, W: Wait>(
     }
 }
 
-// Takes the tickets that wait, where one of another seat is among them. None too if memory runs out.
-fn waiting<N: RoomName, W: Wait>(
-    alloc: Global,
-    rt: &W,
-    mailbox: &Mailbox<N>,
-    seat: usize,
-    shown: &Front<N>,
-) -> Option<Batch<N>>
-    ensures most { IfSome result (λ batch. length batch.requests.items ≤ 64) }
-    ensures seen { IfSome result (λ batch. AreSeen shown.now (map seen_of batch.senders.items)) }
-{
-    if !mailbox.has_others(rt, seat) {
-        return None;
-    }
-    gather(alloc, rt, mailbox, shown).ok()
-}
-
-/// Where requests of other seats than this one wait, has all that wait committed as one batch, and leaves the answers in their slots.
-/// A request is left unanswered, and isn't kept, if memory runs out for the batch, or if it was refused and not all that is due
-/// is published. Fails where the batch as a whole was refused, and then nothing of it is due.
+/// Has all requests that wait committed as one batch, and leaves the answers in their slots. A request is left unanswered, and isn't kept,
+/// if memory runs out for the batch, or if it was refused and not all that is due is published. Fails where the batch as a whole was
+/// refused, and then nothing of it is due.
 #[tactic(auto, using(crate::proofs::Saying::answers_said, crate::proofs::Saying::batch_unanswered))]
 pub fn commit<K: Keeper, N: RoomName, R: Wait + Drop, W: Wait>(
     alloc: Global,
     rt: &W,
     desk: &mut Desk<K, N, R>,
     mailbox: &Mailbox<N>,
-    seat: usize,
 ) -> Result<(), SubmitError>
     ensures { IfErr result (IsUnanswered desk.new.failed) }
 {
     let shown = desk.shown();
-    let Some(batch) = waiting(alloc, rt, mailbox, seat, &shown) else {
+    let Ok(batch) = gather(alloc, rt, mailbox, &shown) else {
         return Ok(());
     };
     let answers = desk.submit_many(rt, &batch.requests)?;

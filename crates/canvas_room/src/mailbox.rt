@@ -1,5 +1,5 @@
 // A room's mailbox: seats queue their requests here for the seat that leads.
-ghost use Rattle.std.specs.Prelude.{◌≡◌, IfOk, IfSome, IsTrue};
+ghost use Rattle.std.specs.Prelude.{◌≡◌, IfOk, IfSome};
 ghost use mathlib.Core.List.{IsPrefix};
 ghost use Rattle.canvas_server.specs.Asked.{seen_request};
 ghost use Rattle.canvas_room.specs.Seats.{IsAnswerTo};
@@ -133,52 +133,12 @@ struct Calls {
     done: [bool; MOST_SEATS],
 }
 
-// Copies a request. Errors: out of memory.
-fn copy(alloc: Global, request: &Request) -> Result<Request, AllocError>
-    ensures { IfOk result (λ copy. seen_request copy ≡ seen_request request.now) }
-{
-    match request {
-        Request::Join => Ok(Request::Join),
-        Request::Edit {
-            client,
-            seq,
-            change,
-        } => Ok(Request::Edit {
-            client: *client,
-            seq: *seq,
-            change: change.copy_in(alloc)?,
-        }),
-    }
-}
-
-// Checks whether two requests are equal.
-fn same(request: &Request, other: &Request) -> bool
-    ensures { IsTrue result → seen_request request.now ≡ seen_request other.now }
-{
-    match (request, other) {
-        (Request::Join, Request::Join) => true,
-        (
-            Request::Edit {
-                client,
-                seq,
-                change,
-            },
-            Request::Edit {
-                client: other_client,
-                seq: other_seq,
-                change: other_change,
-            },
-        ) => client == other_client && seq == other_seq && change.same(other_change),
-        _ => false,
-    }
-}
-
 impl<N: RoomName> Ticket<N> {
     /// Copies a request, with what its seat has seen. Errors: out of memory.
     pub fn new(alloc: Global, request: &Request, seen: &Front<N>) -> Result<Ticket<N>, AllocError>
         ensures { IfOk result (λ ticket. (seen_request ticket.request ≡ seen_request request.now) × (ticket.seen ≡ seen.now)) }
     {
-        let request = copy(alloc, request)?;
+        let request = request.copy_in(alloc)?;
         Ok(Ticket {
             request,
             seen: seen.again(),
@@ -201,7 +161,7 @@ impl<N: RoomName> Reply<N> {
         ensures { IfSome result (λ told. IsAnswerTo N.opening seen.now (seen_request request.now) told.answer told.learns) }
     {
         let Reply { ticket, told } = self;
-        if !same(&ticket.request, request) || !ticket.seen.is_same(seen) {
+        if !ticket.request.same(request) || !ticket.seen.is_same(seen) {
             return None;
         }
         Some(told)
@@ -276,6 +236,14 @@ impl<N: RoomName> Mailbox<N> {
             }
         }
         unreachable!()
+    }
+
+    /// Checks whether a seat's slot is empty.
+    pub fn is_empty<W: Wait>(&self, rt: &W, seat: usize) -> bool {
+        match self.slots.get(seat) {
+            Some(slot) => matches!(*slot.content.lock(rt), Content::Empty),
+            None => true,
+        }
     }
 
     /// Checks whether another seat has a queued ticket.

@@ -6,10 +6,11 @@ ghost use Rattle.canvas_desk.specs.Ready.{IsKeeperAt};
 use crate::mailbox::Mailbox;
 use crate::seat_slot::SeatSlot;
 use crate::{RoomError, Seat};
-use canvas_board::{Blank, Board, Mark, Opening, Published, Reader, RoomName, Step, open_board};
+use canvas_board::{
+    Blank, Board, Mark, Opening, Published, Reader, RoomName, RoomServer, Step, open_board,
+};
 use canvas_desk::Desk;
 use canvas_journal::Keeper;
-use canvas_server::Server;
 use crossbeam_utils::rule::Protocol;
 use left_right::Absorb;
 use std::alloc::{AllocError, Global};
@@ -131,7 +132,7 @@ fn opened<K: Keeper + Drop, N: RoomName, R: Wait + Drop>(
     } = room;
     let (publisher, readers) = open_board::<N, R>(alloc, blank, &opening, seats, &rt)?;
     let Opening { state, version } = opening;
-    let server = Server::rebuild(alloc, state, version);
+    let server = RoomServer::rebuild(alloc, state, version);
     let desk = Desk::new(alloc, server, keeper, publisher, rt);
     let shared = Arc::new(alloc, Mutex::new(desk))?;
     let mailbox = Arc::new(alloc, Mailbox::new(alloc, seats)?)?;

@@ -41,6 +41,11 @@ impl<N: RoomName> SeatSlot<N> {
         }
     }
 
+    /// This seat leads from now on, if no other does. Returns whether it does.
+    pub fn lead(&self) -> bool {
+        self.mailbox.lead()
+    }
+
     /// Leaves a copy of a request in the slot, with what the seat has seen; if memory runs out for that, the request comes alone.
     /// It may wait for the slot's lock.
     pub fn post<W: Wait>(&self, rt: &W, request: &Request, seen: &Front<N>) {
@@ -99,14 +104,23 @@ impl<N: RoomName> SeatSlot<N> {
         }
     }
 
-    /// Has what waits in the mailbox committed as one batch, where requests of other seats wait there.
+    /// Commits all requests that wait in the mailbox as one batch, if other seats have some there. A copy of this seat's request is in it, unless
+    /// memory runs out for the copy.
     pub fn commit<K: Keeper, R: Wait + Drop, W: Wait>(
         &self,
         rt: &W,
         desk: &mut Desk<K, N, R>,
+        request: &Request,
+        seen: &Front<N>,
     ) -> Result<(), SubmitError>
         ensures { IfErr result (IsUnanswered desk.new.failed) }
     {
-        commit(self.alloc, rt, desk, &self.mailbox, self.seat)
+        if !self.mailbox.has_others(rt, self.seat) {
+            return Ok(());
+        }
+        if self.mailbox.is_empty(rt, self.seat) {
+            self.post(rt, request, seen);
+        }
+        commit(self.alloc, rt, desk, &self.mailbox)
     }
 }
