@@ -33,7 +33,7 @@ says_ends o q old m new says = ⊎_elim
     (λ (r : TellsRefusal o q old m new). subst EndsAnswer (sym r.told) (refused_ends r.error))
     says
 
-request_whole : (o : Opening) (q : Asked) (old : List Mark) (answer : List Message) (new : List Mark) → AnswersRequest o q old answer new → IsAnswer answer
+pub request_whole : (o : Opening) (q : Asked) (old : List Mark) (answer : List Message) (new : List Mark) → AnswersRequest o q old answer new → IsAnswer answer
 request_whole o q old answer new (m, is, says) = subst IsAnswer (sym is) (says_ends o q old m new says)
 
 entries_whole : (from : ℕ) (es : List Entry) → IsAnswer (tells from es ++ Idle ∷ [])

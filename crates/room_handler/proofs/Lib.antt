@@ -1,7 +1,9 @@
 pub mod Lengths
 pub mod Boards
 pub mod Judged
+pub mod Limits
 pub mod News
 pub mod Ends
+pub mod Requested
 pub mod SeesOn
 pub mod Shared

@@ -1,5 +1,5 @@
 -- Answers out of a copy that many are sent.
-use Rattle.std.proofs.Common.{◌≡◌, ◌<◌, ◌∷◌, [], ℕ, nat_lt, List, true, Option, Some, None, refl, sym, ap, ◌∙◌, arith}
+use Rattle.std.proofs.Common.{◌≡◌, ◌<◌, ◌∷◌, [], ℕ, nat_lt, List, true, Option, Some, None, refl, sym, subst, arith}
 use Rattle.std.specs.Prelude.{is_some}
 use Rattle.std.specs.Option.{option_map, unwrap_or}
 use mathlib.Core.Logic.{inl, inr}
@@ -11,8 +11,8 @@ use Rattle.canvas_server.specs.Served.{Served}
 use Rattle.canvas_wire.specs.Text.{EncodesMessage}
 use Rattle.canvas_board.specs.Marks.{Mark, Opening, SeesHistory, board}
 use Rattle.canvas_nodes.specs.Answers.{AreMessageTexts, GivesTexts}
-use Rattle.room_handler.specs.News.{tells_or_copies}
-use Rattle.room_handler.specs.Table.{AnswersAsk, Gives, SeesOn, TellsTexts}
+use Rattle.room_handler.specs.News.{copies}
+use Rattle.room_handler.specs.Table.{AnswersAsk, Gives, SeesOn, TellsCopy, TellsTexts}
 use Rattle.room_handler.proofs.Ends.{ask_whole}
 use Rattle.room_handler.proofs.SeesOn.{sees_further}
 
@@ -22,12 +22,12 @@ counts_told None d e = cc
 counts_told (Some k) d e = (refl, cc)
 
 -- below the floor a client that has joined is told the copy
-pub told_copy : (b : Served) (client from d : ℕ) (copy idle : List ℕ) → option_map (λ k. k.done) (nth b.state.clients client) ≡ Some d → from < b.floor
-    → EncodesMessage copy (messages.Copy b.version d b.state.doc) → EncodesMessage idle Idle → TellsTexts b client from (copy ∷ idle ∷ [])
-told_copy b client from d copy idle counts below copied said =
+pub copy_told : (b : Served) (client from d : ℕ) (text : List ℕ) → option_map (λ k. k.done) (nth b.state.clients client) ≡ Some d → from < b.floor → from < b.version
+    → EncodesMessage text (messages.Copy b.version d b.state.doc) → TellsCopy b client from text
+copy_told b client from d text counts below ahead encodes =
     let known = counts_told (nth b.state.clients client) d counts in
     let is_below : nat_lt from b.floor ≡ true = grind (arith, below) in
-    (messages.Copy b.version d b.state.doc ∷ Idle ∷ [], (known.0, rw (is_below, known.1) refl), (copied, (said, tt)))
+    (ahead, (known.0, rw is_below refl), subst (λ (n : ℕ). EncodesMessage text (messages.Copy b.version n b.state.doc)) (sym known.1) encodes)
 
 module _ (o : Opening) (client version : ℕ) (texts : List (List ℕ)) where
   -- what the board of a history tells, whose beginning was seen
@@ -41,3 +41,13 @@ module _ (o : Opening) (client version : ℕ) (texts : List (List ℕ)) where
   -- what is answered after one look more
   pub told_later : (old mid new : List Mark) → SeesOn o old mid → GivesTexts (Gives o) mid (messages.Ask client version) texts new → GivesTexts (Gives o) old (messages.Ask client version) texts new
   told_later old mid new sees (answer, gives, whole, are) = (answer, (sees_further o old mid new sees gives.0, gives.1), whole, are)
+
+  -- what is told out of a copy that is there, and an Idle
+  pub copy_given : (old new : List Mark) (copy idle : List ℕ) → SeesOn o old new → TellsCopy (board o new) client version copy → EncodesMessage idle Idle → texts ≡ copy ∷ idle ∷ []
+      → GivesTexts (Gives o) old (messages.Ask client version) texts new
+  copy_given old new copy idle sees told said is =
+      told_on old new sees (
+        copies (board o new) client ∷ Idle ∷ [],
+        told.1,
+        subst (λ (ts : List (List ℕ)). AreMessageTexts ts (copies (board o new) client ∷ Idle ∷ [])) (sym is) (told.2, (said, tt)),
+      )

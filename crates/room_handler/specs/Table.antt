@@ -18,7 +18,8 @@ use Rattle.canvas_desk.specs.declared.faults.SubmitError.{SubmitError}
 use Rattle.canvas_desk.specs.declared.faults.SubmitError.TheVariants as submit
 use Rattle.canvas_room.specs.Seats.{Answers, IsRefusedSince, RefusesEdit}
 use Rattle.canvas_nodes.specs.Answers.{AreMessageTexts, refusal_alone}
-use Rattle.room_handler.specs.News.{news_of}
+use Rattle.canvas_wire.specs.Text.{EncodesMessage}
+use Rattle.room_handler.specs.News.{copies, news_of}
 
 -- no more was seen, or a legal history that begins with what was seen
 abbrev pub SeesOn : Opening → List Mark → List Mark → Type 0
@@ -80,6 +81,14 @@ TellsNews b client from answer = (joined b.state client ≡ true) × (answer ≡
 -- the same, as texts
 abbrev pub TellsTexts : Served → ℕ → ℕ → List (List ℕ) → Type 0
 TellsTexts b client from texts = (answer : List Message) × TellsNews b client from answer × AreMessageTexts texts answer
+
+-- a client that was told all up to a version, and isn't as far as the board, is told the board's copy, of which this is a text
+abbrev pub TellsCopy : Served → ℕ → ℕ → List ℕ → Type 0
+TellsCopy b client from text = (from < b.version) × TellsNews b client from (copies b client ∷ Idle ∷ []) × EncodesMessage text (copies b client)
+
+-- the same, and the version of that copy
+abbrev pub TellsCopyAt : Served → ℕ → ℕ → List ℕ → ℕ → Type 0
+TellsCopyAt b client from text version = TellsCopy b client from text × (version ≡ b.version)
 
 -- what is answered an Ask: the news of the board that was seen, or a No to a client that hasn't joined by then
 abbrev pub AnswersAsk : Served → ℕ → ℕ → List Message → Type 0

@@ -3,108 +3,78 @@ ghost use Rattle.std.specs.Prelude.{◌≡◌, ◌↔◌, IfOk, IfSome, IsTrue, 
 ghost use Rattle.std.specs.Option.{option_map};
 ghost use Rattle.canvas_model.specs.Messages as messages;
 ghost use Rattle.canvas_judge.specs.Seen.{seen_message};
-ghost use Rattle.canvas_nodes.specs.Answers.{GivesTexts, IsAnswer};
+ghost use Rattle.canvas_nodes.specs.Answers.{GivesTexts, IsAnswer, refusal_alone};
+ghost use Rattle.net_outbox.specs.Texts.{text_bytes};
 ghost use Rattle.canvas_board.specs.Marks.{board};
 ghost use Rattle.canvas_board.specs.News.{HasReached};
-ghost use Rattle.room_handler.specs.Table.{Gives, IsPush, SeesOn};
+ghost use Rattle.room_handler.specs.Seats.{SeatGives, SeatSeesOn};
+ghost use Rattle.room_handler.specs.Table.{AnswersAsk, IsPush, TellsCopyAt};
+ghost use Rattle.room_handler.specs.Told.{seen_told};
 
-use crate::asking::{answer_ask, push};
-use crate::{CHECKPOINT_AT, SharedCopy, answer};
+use crate::asking::{ask_told, push};
+use crate::messages::{alone, refusal};
+use crate::sharing::bytes_of_each;
+use crate::told::told_refusal;
+use crate::{Terms, Told, answer, told_texts};
 use canvas_board::RoomName;
 use canvas_journal::Keeper;
-use canvas_judge::Message;
+use canvas_judge::{Message, NoReason};
 use canvas_nodes::{Answerer, texts_of};
-use canvas_room::{EveryEntries, Lock, Pace, Seat};
+use canvas_room::{Lock, Seat};
+use net_outbox::{Text, own_texts};
 use std::alloc::{AllocError, Global};
 use std::marker::Model;
 use std::sync::Wait;
 
-/// A seat that answers clients, with what it needs to submit. Contracts see it as its seat.
-pub struct SeatAnswerer<N: RoomName, D: Drop, W: Drop> {
+/// A seat that replies to clients on these terms, with what it needs to submit. Contracts see what its seat has seen, and the limit of an edit's
+/// text.
+pub struct SeatAnswerer<N: RoomName, D: Drop, W: Drop, T: Terms<N> + Drop> {
     alloc: Global,
     rt: W,
     seat: Seat<N, D>,
+    terms: T,
 }
 
-impl<N: RoomName, D: Drop, W: Drop> Drop for SeatAnswerer<N, D, W> {
+impl<N: RoomName, D: Drop, W: Drop, T: Terms<N> + Drop> Drop for SeatAnswerer<N, D, W, T> {
     fn drop(self) {
         let SeatAnswerer {
             alloc: _,
             rt: _,
             seat: _,
+            terms: _,
         } = self;
     }
 }
 
-impl<N: RoomName, D: Drop, W: Drop> Model for SeatAnswerer<N, D, W> {
-    ghost use Rattle.std.specs.Prelude.{List};
+impl<N: RoomName, D: Drop, W: Drop, T: Terms<N> + Drop> Model for SeatAnswerer<N, D, W, T> {
     ghost use Rattle.std.specs.Coded.{codes};
     ghost use Rattle.canvas_model.specs.Codes.{value_code};
-    ghost use Rattle.canvas_board.specs.Marks.{Mark};
+    ghost use Rattle.room_handler.specs.Seats.{SeatValue};
 
-    ghost Value = { List Mark };
+    ghost Value = { SeatValue };
 
     ghost coded = { Prim.hlevel (codes, value_code) };
 
-    ghost view = { λ a. a.seat };
+    ghost view = { λ a. record { seen = a.seat; limit = T.limit a.terms } };
 }
 
-impl<N: RoomName, D: Drop, W: Drop> SeatAnswerer<N, D, W> {
-    /// An answerer at this seat, which waits by `rt`.
-    pub fn new(alloc: Global, rt: W, seat: Seat<N, D>) -> Self
-        ensures { result ≡ seat }
+impl<N: RoomName, D: Drop, W: Drop, T: Terms<N> + Drop> SeatAnswerer<N, D, W, T> {
+    /// An answerer at this seat, on these terms, which waits by `rt`.
+    pub fn new(alloc: Global, rt: W, seat: Seat<N, D>, terms: T) -> Self
+        ensures { result ≡ record { seen = seat; limit = T.limit terms } }
     {
-        SeatAnswerer { alloc, rt, seat }
-    }
-
-    /// The seat.
-    pub fn into_seat(self) -> Seat<N, D>
-        ensures { result ≡ self }
-    {
-        let SeatAnswerer {
-            alloc: _,
-            rt: _,
+        SeatAnswerer {
+            alloc,
+            rt,
             seat,
-        } = self;
-        seat
-    }
-}
-
-impl<K: Keeper + Drop, N: RoomName, R: Wait + Drop, W: Wait + Drop> SeatAnswerer<
-    N,
-    Lock<K, N, R>,
-    W,
-> {
-    /// What its seat answers a message, behind which it makes a checkpoint if one is due at this pace. Fails only if memory runs out for the
-    /// answer.
-    pub fn answer_at<P: Pace>(
-        &mut self,
-        message: &Message,
-        pace: &P,
-    ) -> Result<Vec<Message>, AllocError>
-        ensures gives { IfOk result (λ answer. Gives N.opening self.old (seen_message message.now) (map seen_message answer.items) self.new) }
-        ensures whole { IfOk result (λ answer. IsAnswer (map seen_message answer.items)) }
-        ensures sees { SeesOn N.opening self.old self.new }
-    {
-        answer(self.alloc, &self.rt, &mut self.seat, message, pace)
+            terms,
+        }
     }
 
-    // What its seat answers a message, where a checkpoint is made whenever 256 entries are kept. Fails only if memory runs out for the
-    // answer.
-    pub(crate) fn told(&mut self, message: &Message) -> Result<Vec<Message>, AllocError>
-        ensures gives { IfOk result (λ answer. Gives N.opening self.old (seen_message message.now) (map seen_message answer.items) self.new) }
-        ensures whole { IfOk result (λ answer. IsAnswer (map seen_message answer.items)) }
-        ensures sees { SeesOn N.opening self.old self.new }
-    {
-        self.answer_at(message, &EveryEntries(CHECKPOINT_AT))
-    }
-}
-
-impl<N: RoomName, D: Drop, W: Drop> SeatAnswerer<N, D, W> {
     /// Checks whether a client has joined, and so many entries are published. Never blocks. Errors: the room has ended.
     pub fn has_reached(&mut self, client: u32, version: u64) -> Result<bool, AllocError>
-        ensures reached { IfOk result (λ answer. IsTrue answer ↔ HasReached (board N.opening self.new) client version) }
-        ensures sees { SeesOn N.opening self.old self.new }
+        ensures reached { IfOk result (λ answer. IsTrue answer ↔ HasReached (board N.opening self.new.seen) client version) }
+        ensures sees { SeatSeesOn N.opening self.old self.new }
     {
         match self.seat.has_reached(client, version) {
             Ok(answer) => Ok(answer),
@@ -113,146 +83,167 @@ impl<N: RoomName, D: Drop, W: Drop> SeatAnswerer<N, D, W> {
         }
     }
 
-    /// How many entries are published. Never blocks. Errors: the room has ended.
-    pub fn version(&mut self) -> Result<u64, AllocError>
-        ensures version { IfOk result (λ version. version ≡ (board N.opening self.new).version) }
-        ensures sees { SeesOn N.opening self.old self.new }
-    {
-        match self.seat.version() {
-            Ok(version) => Ok(version),
-            // A seat keeps its room, so it is never closed.
-            Err(_) => Err(AllocError),
-        }
-    }
-
     /// What a client is told unasked that was told all up to this version: `push`.
-    pub fn push(&mut self, client: u32, version: u64) -> Result<Option<Vec<Message>>, AllocError>
-        ensures tells { IfOk result (λ told. IsPush (board N.opening self.new) client version (option_map (λ messages. map seen_message messages.items) told)) }
-        ensures sees { SeesOn N.opening self.old self.new }
+    pub fn push(&mut self, client: u32, version: u64) -> Result<Option<Vec<Told>>, AllocError>
+        ensures tells { IfOk result (λ told. IsPush (board N.opening self.new.seen) client version (option_map (λ messages. map seen_told messages.items) told)) }
+        ensures sees { SeatSeesOn N.opening self.old self.new }
     {
         push(self.alloc, &mut self.seat, client, version)
     }
 
-    /// The texts of what is answered an Ask, where a copy has to be sent out of a copy that many are sent. That is `held`, if it is of version
-    /// `least` or a later one, the client asks from below its floor, had joined by then, and the seat hasn't seen more; else one that is
-    /// made now, and held from then on. Never blocks. Errors: out of memory.
-    pub fn ask_texts(
+    /// Returns the text of the copy that is pushed to a client at this version, and the copy's version, as its terms say. Returns `None` if it
+    /// needs no copy. Errors: out of memory.
+    pub fn push_copy(
         &mut self,
-        held: &mut Option<SharedCopy<N>>,
-        least: u64,
+        client: u32,
+        version: u64,
+    ) -> Result<Option<(Text, u64)>, AllocError>
+        ensures copy { IfOk result (λ told. IfSome told (λ copy. TellsCopyAt (board N.opening self.new.seen) client version (text_bytes copy.0) copy.1)) }
+        ensures sees { SeatSeesOn N.opening self.old self.new }
+    {
+        self.terms
+            .push_copy(self.alloc, &mut self.seat, client, version)
+    }
+
+    // Checks whether an Ask from this version gets a copy out of one for many.
+    fn shares_copy(&self, version: u64) -> bool {
+        self.terms.shares_copy(version)
+    }
+
+    // Returns the texts of the answer to that Ask.
+    fn copied(&mut self, client: u32, version: u64) -> Result<Vec<Text>, AllocError>
+        ensures { IfOk result (λ ts. GivesTexts (SeatGives N.opening) self.old (messages.Ask client version) (map text_bytes ts.items) self.new) }
+    {
+        self.terms
+            .ask_texts(self.alloc, &mut self.seat, client, version)
+    }
+
+    // Returns the answer to any other Ask, and reports it to the terms.
+    fn told(&mut self, client: u32, version: u64) -> Result<Vec<Told>, AllocError>
+        ensures answers { IfOk result (λ told. AnswersAsk (board N.opening self.new.seen) client version (map seen_told told.items)) }
+        ensures sees { SeatSeesOn N.opening self.old self.new }
+    {
+        let told = ask_told(self.alloc, &mut self.seat, client, version);
+        let reason = match &told {
+            Ok(messages) => told_refusal(messages),
+            Err(_) => Some(NoReason::Memory),
+        };
+        self.terms.answered(reason);
+        told
+    }
+
+    // Returns the texts of that answer, if its terms let them wait to be sent. Errors: out of memory; they don't, and then no text is written.
+    fn asked(
+        &mut self,
+        alloc: Global,
         client: u32,
         version: u64,
     ) -> Result<Vec<Vec<u8>>, AllocError>
-        ensures gives { IfOk result (λ ts. GivesTexts (Gives N.opening) self.old (messages.Ask client version) (map (λ t. t.items) ts.items) self.new) }
-        ensures sees { SeesOn N.opening self.old self.new }
+        ensures { IfOk result (λ ts. GivesTexts (SeatGives N.opening) self.old (messages.Ask client version) (map (λ t. t.items) ts.items) self.new) }
     {
-        match self.texts_held(held, least, client, version)? {
-            Some(texts) => Ok(texts),
-            None => self.texts_now(held, client, version),
+        let told = self.told(client, version)?;
+        if !self.terms.may_send(&told) {
+            return Err(AllocError);
         }
+        told_texts(alloc, &told)
     }
 
-    // The texts of what is answered an Ask out of the copy that is held, if that is of version `least` or a later one. None where it has none
-    // for the client, or the seat has seen more.
-    fn texts_held(
-        &mut self,
-        held: &Option<SharedCopy<N>>,
-        least: u64,
-        client: u32,
-        version: u64,
-    ) -> Result<Option<Vec<Vec<u8>>>, AllocError>
-        ensures gives { IfOk result (λ given. IfSome given (λ ts. GivesTexts (Gives N.opening) self.old (messages.Ask client version) (map (λ t. t.items) ts.items) self.new)) }
-        ensures sees { SeesOn N.opening self.old self.new }
+    // An answer that refuses an edit as too large. Errors: out of memory.
+    fn too_large(&self) -> Result<Vec<Message>, AllocError>
+        ensures { IfOk result (λ answer. map seen_message answer.items ≡ refusal_alone NoReason.TooLarge) }
     {
-        match held {
-            Some(copy) if copy.version() >= least => self.texts_from(copy, client, version),
-            _ => Ok(None),
-        }
+        alone(self.alloc, Message::No(NoReason::TooLarge))
     }
 
-    // The texts of what is answered an Ask out of a copy that is made now, and held from then on. If none is due, they are written anew.
-    fn texts_now(
-        &mut self,
-        held: &mut Option<SharedCopy<N>>,
-        client: u32,
-        version: u64,
-    ) -> Result<Vec<Vec<u8>>, AllocError>
-        ensures gives { IfOk result (λ ts. GivesTexts (Gives N.opening) self.old (messages.Ask client version) (map (λ t. t.items) ts.items) self.new) }
-        ensures sees { SeesOn N.opening self.old self.new }
-    {
-        if !self.wants_copy(client, version)? {
-            return self.texts_anew(client, version);
-        }
-        let copy = self.share()?;
-        let texts = self.texts_from(&copy, client, version)?;
-        *held = Some(copy);
-        match texts {
-            Some(texts) => Ok(texts),
-            None => self.texts_anew(client, version),
-        }
-    }
-
-    // The texts of what is answered an Ask out of this copy. None where it has none for the client, or the seat has seen more.
-    fn texts_from(
-        &mut self,
-        copy: &SharedCopy<N>,
-        client: u32,
-        version: u64,
-    ) -> Result<Option<Vec<Vec<u8>>>, AllocError>
-        ensures gives { IfOk result (λ given. IfSome given (λ ts. GivesTexts (Gives N.opening) self.old (messages.Ask client version) (map (λ t. t.items) ts.items) self.new)) }
-        ensures sees { SeesOn N.opening self.old self.new }
-    {
-        let Some(texts) = copy.texts(self.alloc, client, version)? else {
-            return Ok(None);
+    // Reports the answer to a message to the terms.
+    fn note(&self, answer: &Result<Vec<Message>, AllocError>) {
+        let reason = match answer {
+            Ok(messages) => refusal(messages),
+            Err(_) => Some(NoReason::Memory),
         };
-        if !self.seat.go_to(copy.front()) {
-            return Ok(None);
-        }
-        Ok(Some(texts))
-    }
-
-    // Checks whether what is published has a copy for a client that asks from this version, and no entries.
-    fn wants_copy(&mut self, client: u32, version: u64) -> Result<bool, AllocError>
-        ensures { SeesOn N.opening self.old self.new }
-    {
-        let Ok(true) = self.seat.joined(client) else {
-            return Ok(false);
-        };
-        match self.seat.tail(self.alloc, version, 0) {
-            Ok(tail) => Ok(tail.is_none()),
-            // A seat keeps its room, so it is never closed.
-            Err(_) => Err(AllocError),
-        }
-    }
-
-    // A copy of what is published, for all that are sent it.
-    fn share(&mut self) -> Result<SharedCopy<N>, AllocError>
-        ensures { SeesOn N.opening self.old self.new }
-    {
-        match self.seat.snapshot(self.alloc) {
-            Ok(snapshot) => SharedCopy::of(self.alloc, &snapshot),
-            // A seat keeps its room, so it is never closed.
-            Err(_) => Err(AllocError),
-        }
-    }
-
-    // The texts of what is answered an Ask, each written anew.
-    fn texts_anew(&mut self, client: u32, version: u64) -> Result<Vec<Vec<u8>>, AllocError>
-        ensures gives { IfOk result (λ ts. GivesTexts (Gives N.opening) self.old (messages.Ask client version) (map (λ t. t.items) ts.items) self.new) }
-        ensures sees { SeesOn N.opening self.old self.new }
-    {
-        let answer = answer_ask(self.alloc, &mut self.seat, client, version)?;
-        texts_of(self.alloc, &answer)
+        self.terms.answered(reason);
     }
 }
 
-impl<K: Keeper + Drop, N: RoomName, R: Wait + Drop, W: Wait + Drop> Answerer
-    for SeatAnswerer<N, Lock<K, N, R>, W> {
-    ghost use Rattle.room_handler.specs.Table.{Gives};
+impl<K, N, R, W, T> SeatAnswerer<N, Lock<K, N, R>, W, T>
+where
+    K: Keeper + Drop,
+    N: RoomName,
+    R: Wait + Drop,
+    W: Wait + Drop,
+    T: Terms<N> + Drop,
+{
+    /// Returns the texts of the answer to a message, out of a copy that many are sent, if its terms say so. Errors: out of memory; its terms
+    /// don't let the texts wait to be sent.
+    pub fn reply_texts(&mut self, alloc: Global, message: Message) -> Result<Vec<Text>, AllocError>
+        ensures { IfOk result (λ ts. GivesTexts (SeatGives N.opening) self.old (seen_message message) (map text_bytes ts.items) self.new) }
+    {
+        let (client, version) = match &message {
+            Message::Ask { client, version } if self.shares_copy(*version) => (*client, *version),
+            _ => {
+                let texts = self.texts_anew(alloc, message)?;
+                return own_texts(alloc, texts);
+            }
+        };
+        self.copied(client, version)
+    }
 
-    ghost gives = { Gives N.opening };
+    // Returns the texts of the answer to a message, which share nothing with other texts. Errors: out of memory.
+    fn texts_anew(&mut self, alloc: Global, message: Message) -> Result<Vec<Vec<u8>>, AllocError>
+        ensures { IfOk result (λ ts. GivesTexts (SeatGives N.opening) self.old (seen_message message) (map (λ t. t.items) ts.items) self.new) }
+    {
+        let (client, version) = match &message {
+            Message::Ask { client, version } => (*client, *version),
+            _ => return self.answer_texts(alloc, message),
+        };
+        self.asked(alloc, client, version)
+    }
 
-    fn answer(&mut self, message: &Message) -> Result<Vec<Message>, AllocError> {
-        self.told(message)
+    // Returns the texts of the answer to a message that shares nothing. Errors: out of memory.
+    fn answer_texts(&mut self, alloc: Global, message: Message) -> Result<Vec<Vec<u8>>, AllocError>
+        ensures { IfOk result (λ ts. GivesTexts (SeatGives N.opening) self.old (seen_message message) (map (λ t. t.items) ts.items) self.new) }
+    {
+        let answer = self.answer(message)?;
+        texts_of(alloc, &answer)
+    }
+
+    // Returns the answer to a message. Makes a checkpoint after it, if one is due. Errors: out of memory.
+    fn answered(&mut self, message: Message) -> Result<Vec<Message>, AllocError>
+        ensures gives { IfOk result (λ answer. SeatGives N.opening self.old (seen_message message) (map seen_message answer.items) self.new) }
+        ensures whole { IfOk result (λ answer. IsAnswer (map seen_message answer.items)) }
+    {
+        let is_over = self.terms.is_over_limit(self.alloc, &message)?;
+        if is_over {
+            return self.too_large();
+        }
+        answer(self.alloc, &self.rt, &mut self.seat, message, &self.terms)
+    }
+}
+
+impl<K, N, R, W, T> Answerer for SeatAnswerer<N, Lock<K, N, R>, W, T>
+where
+    K: Keeper + Drop,
+    N: RoomName,
+    R: Wait + Drop,
+    W: Wait + Drop,
+    T: Terms<N> + Drop,
+{
+    ghost use Rattle.room_handler.specs.Seats.{SeatGives};
+
+    ghost gives = { SeatGives N.opening };
+
+    fn answer(&mut self, message: Message) -> Result<Vec<Message>, AllocError> {
+        let answer = self.answered(message);
+        self.note(&answer);
+        answer
+    }
+
+    fn texts(&mut self, alloc: Global, message: Message) -> Result<Vec<Vec<u8>>, AllocError> {
+        let (client, version) = match &message {
+            Message::Ask { client, version } if self.shares_copy(*version) => (*client, *version),
+            _ => return self.texts_anew(alloc, message),
+        };
+        let texts = self.copied(client, version)?;
+        bytes_of_each(alloc, &texts)
     }
 }

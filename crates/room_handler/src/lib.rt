@@ -1,5 +1,5 @@
-//! A seat of a room that answers clients: what is answered each message, what is told unasked, which edits are too large for a server, an
-//! answerer for connections, and a link in the same process.
+//! A seat of a room that replies to clients: the answer to each message, what is pushed, the terms, an answerer for connections, and a link in
+//! the same process.
 #![tactic(auto)]
 
 mod answerer;
@@ -10,11 +10,17 @@ mod messages;
 mod requests;
 mod seat_link;
 mod shared_copy;
+mod sharing;
+mod terms;
+mod told;
 
 pub use answerer::SeatAnswerer;
 pub use asking::push;
 pub use large::is_too_large;
 pub use laws::every_exchange;
-pub use messages::{CHECKPOINT_AT, answer};
+pub use messages::answer;
 pub use seat_link::SeatLink;
 pub use shared_copy::SharedCopy;
+pub use sharing::{ask_texts, copy_for};
+pub use terms::{Plain, Terms};
+pub use told::{Told, messages_of, told_texts};

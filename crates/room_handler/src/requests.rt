@@ -7,6 +7,7 @@ ghost use Rattle.canvas_board.specs.Marks.{SeesHistory};
 ghost use Rattle.canvas_room.specs.Seats.{IsOutcomeOf};
 ghost use Rattle.room_handler.specs.Table.{AnswersRequest, IsToldAs, SaysOf, SeesOn, answer_of, reason_not_kept};
 
+use crate::Terms;
 use canvas_board::{Receipt, RoomName};
 use canvas_desk::{Refusal, SubmitError};
 use canvas_journal::{KeepError, Keeper};
@@ -18,37 +19,38 @@ use std::sync::Wait;
 
 /// The answer to a request: a Welcome where it was a Join, Idle where it was an edit that is judged, now or before, and otherwise a No
 /// with the number of the `SubmitError`. It may wait for the room's lock. Fails only if memory runs out, and then nothing was
-/// asked of the room. Behind an answer a checkpoint is made if one is due at this pace.
-pub fn answer_request<K: Keeper + Drop, N: RoomName, R: Wait + Drop, W: Wait, P: Pace>(
+/// asked of the room. Behind an answer a checkpoint is made if one is due by these terms.
+pub fn answer_request<K: Keeper + Drop, N: RoomName, R: Wait + Drop, W: Wait, T: Terms<N>>(
     alloc: Global,
     rt: &W,
     seat: &mut Seat<N, Lock<K, N, R>>,
-    request: &Request,
-    pace: &P,
+    request: Request,
+    terms: &T,
 ) -> Result<Vec<Message>, AllocError>
-    ensures answers { IfOk result (λ answer. AnswersRequest N.opening (seen_request request.now) seat.old (map seen_message answer.items) seat.new) }
+    ensures answers { IfOk result (λ answer. AnswersRequest N.opening (seen_request request) seat.old (map seen_message answer.items) seat.new) }
     ensures sees { SeesOn N.opening seat.old seat.new }
 {
     let mut answer = Vec::with_capacity(alloc, 1)?;
-    let message = submit(rt, seat, request, pace);
+    let message = submit(rt, seat, request, terms);
     answer.push_reserved(message);
     Ok(answer)
 }
 
 // Has a request judged, and says what became of it.
-fn submit<K: Keeper + Drop, N: RoomName, R: Wait + Drop, W: Wait, P: Pace>(
+fn submit<K: Keeper + Drop, N: RoomName, R: Wait + Drop, W: Wait, T: Terms<N>>(
     rt: &W,
     seat: &mut Seat<N, Lock<K, N, R>>,
-    request: &Request,
-    pace: &P,
+    request: Request,
+    terms: &T,
 ) -> Message
-    ensures says { SaysOf N.opening (seen_request request.now) seat.old (seen_message result) seat.new }
+    ensures says { SaysOf N.opening (seen_request request) seat.old (seen_message result) seat.new }
     ensures sees { SeesOn N.opening seat.old seat.new }
 {
     match seat.submit(rt, request) {
         Ok(receipt) => {
-            let message = judged(receipt.entry());
-            take_in(rt, seat, receipt, pace);
+            let message = judged(receipt.entry().entry());
+            terms.published(receipt.version());
+            take_in(rt, seat, receipt, terms);
             message
         }
         Err(error) => refused(error),

@@ -1,24 +1,30 @@
 // A copy of the document that many clients are sent.
-ghost use Rattle.std.specs.Prelude.{◌≡◌, IfOk, IfSome, map};
+ghost use Rattle.std.specs.Prelude.{◌≡◌, IfOk, IfSome};
 ghost use Rattle.std.specs.Option.{option_map};
+ghost use Rattle.net_outbox.specs.Texts.{text_bytes};
 ghost use Rattle.canvas_model.specs.Numbered.{nth};
 ghost use Rattle.canvas_board.specs.Marks.{board};
-ghost use Rattle.room_handler.specs.Table.{TellsTexts};
+ghost use Rattle.room_handler.specs.Copies.{EndsCopies};
+ghost use Rattle.room_handler.specs.Table.{TellsCopy};
 
+use bytes::Bytes;
 use canvas_board::{Front, RoomName, Snapshot};
-use canvas_judge::{Counts, Message};
-use canvas_wire::{encode, encode_copy_of, encode_rows};
+use canvas_doc::Doc;
+use canvas_judge::Counts;
+use canvas_wire::{encode_copy_start, encode_rows};
+use net_outbox::Text;
 use std::alloc::{AllocError, Global};
 use std::marker::Model;
 
-/// A copy of the document at one moment, which is written once for all clients that are sent it: the text of its rows, and of each client
-/// how many of its edits were judged by then. Contracts see it as the history at that moment.
+/// A copy of the document at one moment, written once for all clients that are sent it: the text of its rows, which the copies share, and of
+/// each client how many of its edits were judged by then. Contracts view it as the history at that moment.
 pub struct SharedCopy<N: RoomName> {
     front: Front<N>,
     version: u64,
     floor: u64,
     clients: Vec<Counts>,
-    rows: Vec<u8>,
+    // The end of each copy: the text of its rows, and a bracket.
+    end: Bytes,
 }
 
 impl<N: RoomName> Drop for SharedCopy<N> {
@@ -28,7 +34,7 @@ impl<N: RoomName> Drop for SharedCopy<N> {
             version: _,
             floor: _,
             clients: _,
-            rows: _,
+            end: _,
         } = self;
     }
 }
@@ -46,7 +52,7 @@ impl<N: RoomName> Model for SharedCopy<N> {
 
     ghost view = { λ c. c.front };
 
-    ghost invariant = { λ c. IsKeptForCopies (board N.opening c.front) c.version c.floor c.clients.items c.rows.items };
+    ghost invariant = { λ c. IsKeptForCopies (board N.opening c.front) c.version c.floor c.clients.items c.end };
 }
 
 impl<N: RoomName> SharedCopy<N> {
@@ -60,7 +66,7 @@ impl<N: RoomName> SharedCopy<N> {
             version: snapshot.version(),
             floor: snapshot.floor(),
             clients: state.clients().to_vec(alloc)?,
-            rows: encode_rows(alloc, state.doc())?,
+            end: end_of_copies(alloc, state.doc())?,
         })
     }
 
@@ -72,7 +78,7 @@ impl<N: RoomName> SharedCopy<N> {
     }
 
     /// How many entries were published by then.
-    pub(crate) fn version(&self) -> u64
+    pub fn version(&self) -> u64
         ensures { result ≡ (board N.opening self.now).version }
     {
         self.version
@@ -91,15 +97,25 @@ impl<N: RoomName> SharedCopy<N> {
         }
     }
 
-    /// The texts of what a client is told that asks from a version below the last checkpoint of then. None where its version isn't below
+    /// Checks whether there is a text for a client at this version: it had joined by then, and its version is below the last checkpoint of then.
+    pub fn is_for(&self, client: u32, version: u64) -> bool {
+        self.done(client).is_some() && version < self.floor && version < self.version
+    }
+
+    /// Returns the end that all copies of its moment share.
+    pub fn end(&self) -> &Bytes {
+        &self.end
+    }
+
+    /// Returns the text of a copy for a client whose version is below the last checkpoint of then. Returns None if its version isn't below
     /// that, and if it hadn't joined. Errors: out of memory.
-    pub(crate) fn texts(
+    pub(crate) fn text(
         &self,
         alloc: Global,
         client: u32,
         version: u64,
-    ) -> Result<Option<Vec<Vec<u8>>>, AllocError>
-        ensures { IfOk result (λ given. IfSome given (λ texts. TellsTexts (board N.opening self.now) client version (map (λ text. text.items) texts.items))) }
+    ) -> Result<Option<Text>, AllocError>
+        ensures { IfOk result (λ given. IfSome given (λ text. TellsCopy (board N.opening self.now) client version (text_bytes text))) }
     {
         let Some(done) = self.done(client) else {
             return Ok(None);
@@ -107,9 +123,19 @@ impl<N: RoomName> SharedCopy<N> {
         if version >= self.floor {
             return Ok(None);
         }
-        let copy = encode_copy_of(alloc, self.version, done, &self.rows)?;
-        let idle: Message = Message::Idle;
-        let idle = encode(alloc, &idle)?;
-        Ok(Some(Vec::from_array(alloc, [copy, idle])?))
+        if version >= self.version {
+            return Ok(None);
+        }
+        let start = encode_copy_start(alloc, self.version, done)?;
+        Ok(Some(Text::sharing(start, &self.end)?))
     }
+}
+
+// Returns the end of each copy of a document. Errors: out of memory.
+fn end_of_copies(alloc: Global, doc: &Doc) -> Result<Bytes, AllocError>
+    ensures { IfOk result (λ end. EndsCopies end doc.now) }
+{
+    let mut end = encode_rows(alloc, doc)?;
+    end.push(b']')?;
+    Ok(Bytes::from_vec(end)?)
 }
