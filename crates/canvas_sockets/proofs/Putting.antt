@@ -1,17 +1,32 @@
 -- What a turn puts into the output, and what it took, one message more.
-use Rattle.std.proofs.Common.{◌≡◌, ℕ, zero, suc, ◌<◌, ◌≤◌, true, List, [], ◌∷◌, map, take, Option, refl, ap, sym, subst, arith}
+use Rattle.std.proofs.Common.{◌≡◌, ℕ, zero, suc, ◌<◌, ◌≤◌, true, List, [], ◌∷◌, map, take, Option, Result, Ok, Err, refl, ap, sym, subst, arith}
+use Rattle.std.specs.Result.{IfErr, OnErr}
 use Rattle.tungstenite.specs.Connection.{write_step}
 use Rattle.tungstenite.specs.Content.{Content, binary}
+use Rattle.tungstenite.specs.Failure.{IsIo}
 use Rattle.tungstenite.specs.Socket.{Socket, Writes}
 use Rattle.tungstenite.specs.declared.error.Error.{Error}
 use Rattle.canvas_model.specs.Messages.{Message}
 use Rattle.canvas_nodes.specs.Answers.{AreMessageTexts}
 use Rattle.canvas_sockets.specs.Served.{RefusesText, WritesEach}
-use Rattle.canvas_sockets.specs.Turned.{Puts, PutsAnswer, StopsPutting, StopsPuttingAnswer, Takes, TakesEach}
+use Rattle.canvas_sockets.specs.Turned.{Puts, PutsAnswer, RefusesFrame, StopsPutting, StopsPuttingAnswer, Takes, TakesEach}
 use Rattle.canvas_sockets.specs.declared.line.Line.{Line}
 use Rattle.canvas_sockets.specs.declared.turning.Taken.TheVariants as taken
 
+-- what two facts of an error make
+pub at_err : {T E P : Type 0} (Q R : E → Type 0) (r : Result T E) → ((e : E) → P → Q e → R e) → OnErr r P → IfErr r Q → IfErr r R
+at_err Q R (Ok x) f p q = tt
+at_err Q R (Err e) f p q = f e p q
+
 module _ {S : Type 0} (contents : S → Option (List ℕ)) where
+  -- a text that wasn't taken, by a writer that has changed nothing and whose stream didn't fail
+  pub refused_text : (old new : Socket S) (t : List ℕ) (e : Error) → new ≡ old → (IsIo e → ⊥) → RefusesText contents old t e new
+  refused_text old new t e same no_io = record { full = λ is. same; memory = λ is. same; failed = λ io. absurd (no_io io) }
+
+  -- the same of a frame
+  pub refused_frame : (old new : Socket S) (c : Content) (e : Error) → new ≡ old → (IsIo e → ⊥) → RefusesFrame contents old c e new
+  refused_frame old new c e same no_io = record { full = λ is. same; memory = λ is. same; failed = λ io. absurd (no_io io) }
+
   -- one text alone that joined the output
   pub puts_one : (old new : Socket S) (t : List ℕ) (answer : List Message) → AreMessageTexts (t ∷ []) answer → Writes contents old new (write_step old.conn (binary t)) → PutsAnswer contents old answer new
   puts_one old new t answer are wrote = (t ∷ [], are, (new, wrote, refl))

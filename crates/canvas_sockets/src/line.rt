@@ -1,8 +1,9 @@
 // The two sides of a connection.
 
+use net_frames::FrameWriter;
 use tungstenite::{NoMask, WebSocket};
 
-/// The two sides of a connection after its handshake: a WebSocket that reads, and one that writes.
+/// The two sides of a connection after its handshake: a WebSocket that reads, and a writer that buffers nothing itself.
 ///
 /// What the reader answers by itself, as a pong, goes nowhere: whoever has the line answers it by the writer. So no read touches what was
 /// written.
@@ -11,5 +12,5 @@ pub struct Line<I, O> {
     /// It reads.
     pub reader: WebSocket<I, NoMask>,
     /// It writes.
-    pub writer: WebSocket<O, NoMask>,
+    pub writer: FrameWriter<O>,
 }

@@ -126,7 +126,7 @@ fn send_each<S: Read + Write + Drop>(
 }
 
 // Puts each of these texts into the socket's output, as a binary message.
-pub(crate) fn write_each<S: Read + Write + Drop>(
+fn write_each<S: Read + Write + Drop>(
     alloc: Global,
     socket: &mut WebSocket<S, NoMask>,
     texts: &[Vec<u8>],
@@ -141,7 +141,7 @@ pub(crate) fn write_each<S: Read + Write + Drop>(
 }
 
 // Puts a text into the socket's output, as a binary message.
-pub(crate) fn write_text<S: Read + Write + Drop>(
+fn write_text<S: Read + Write + Drop>(
     alloc: Global,
     socket: &mut WebSocket<S, NoMask>,
     text: &[u8],

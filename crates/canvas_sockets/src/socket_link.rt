@@ -109,13 +109,13 @@ impl<S: Read + Write + Drop, K: MaskKeys + Drop> Link for SocketLink<S, K> {
 
     ghost fails = { λ _ _ _ _. Unit {0} };
 
-    fn round(&mut self, message: &Message) -> Result<Vec<Message>, LinkError>
+    fn round(&mut self, message: Message) -> Result<Vec<Message>, LinkError>
         ensures { IfOk result (λ answer. IsDecodedAnswer (map seen_message answer.items)) }
     {
         if self.broken {
             return Err(LinkError::Ended);
         }
-        let answer = self.ask(message);
+        let answer = self.ask(&message);
         self.broken = !matches!(&answer, Ok(_) | Err(LinkError::Refused(_)));
         answer
     }

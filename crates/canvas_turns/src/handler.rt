@@ -1,14 +1,16 @@
 // What serves a connection.
 ghost use Rattle.std.specs.Prelude.{◌≡◌, [], IfErr, IfOk, map};
+ghost use Rattle.net_outbox.specs.Texts.{text_bytes};
 
 use canvas_sockets::Replier;
+use net_outbox::Text;
 use std::alloc::{AllocError, Global};
 
 /// What there is to tell a client unasked: the texts of messages, in order, and the version that each of them leads to.
 #[derive(Drop)]
 pub struct Push {
     /// The texts.
-    pub texts: Vec<Vec<u8>>,
+    pub texts: Vec<Text>,
     /// The versions.
     pub versions: Vec<u64>,
     /// Whether there is more to tell that can't be told now, and is to be asked for in a moment.
@@ -33,14 +35,14 @@ pub trait Handler: Replier {
 
     /// What there is to tell unasked, maybe nothing. Errors: out of memory.
     fn push(&mut self, alloc: Global) -> Result<Push, AllocError>
-        ensures tells { IfOk result (λ push. TellsInTexts tells self.old (map (λ text. text.items) push.texts.items) push.versions.items self.new) }
+        ensures tells { IfOk result (λ push. TellsInTexts tells self.old (map text_bytes push.texts.items) push.versions.items self.new) }
         ensures fails { IfErr result (λ _. tells self.old [] self.new) };
 
     /// Its client was told all up to this version.
     fn go_to(&mut self, version: u64)
         ensures { goes_to self.old version self.new };
 
-    /// Called where nothing waits to leave. It is for what a handler keeps that contracts don't see, as permits.
+    /// Called if nothing waits to leave. It is for what a handler keeps that contracts don't see, as bytes of a budget.
     fn rest(&mut self)
         ensures { self.new ≡ self.old };
 }

@@ -124,7 +124,7 @@ fn tell<H: Handler, I: Drop, O: Read + Write + Drop, W: Waits>(
         return Ok(false);
     }
     let push = handler.push(alloc)?;
-    let count = write_some(alloc, &mut line.writer, &push.texts, MUCH_WAITS)?;
+    let count = write_some(&mut line.writer, &push.texts, MUCH_WAITS)?;
     if count > 0 || push.is_held {
         waits.told(count);
     }
@@ -206,7 +206,7 @@ fn failed<I: Drop, O: Read + Write + Drop, W: Waits>(
     ensures { result ≡ end_of error.now }
 {
     if let Error::Capacity(_) = error {
-        let _ = line.writer.close(Some(too_big()));
+        let _ = line.writer.write(Frame::Close(Some(too_big())));
     }
     leave(line, waits);
     end_of(error)

@@ -5,6 +5,7 @@ ghost use Rattle.tungstenite.specs.Socket.{IsFresh};
 ghost use Rattle.canvas_turns.specs.Lines.{IsFreshLine, IsNextLine, IsNextReader};
 
 use canvas_sockets::Line;
+use net_frames::FrameWriter;
 use net_idle::Pausing;
 use net_outbox::Outbox;
 use std::alloc::Global;
@@ -29,11 +30,7 @@ pub(crate) fn line_over<I: Drop, O: Drop>(
     };
     Line {
         reader: socket_over(alloc, inlet, config),
-        writer: socket_over(
-            alloc,
-            Outbox::new(alloc, output),
-            config.write_buffer_size(0),
-        ),
+        writer: FrameWriter::new(alloc, Outbox::new(alloc, output)),
     }
 }
 
@@ -50,7 +47,7 @@ pub(crate) fn next_line<I: Drop, O: Drop>(
     let Line { reader, writer } = line;
     Line {
         reader: next_reader(alloc, reader, config),
-        writer: socket_over(alloc, writer.into_inner(), config.write_buffer_size(0)),
+        writer: FrameWriter::new(alloc, writer.into_inner()),
     }
 }
 

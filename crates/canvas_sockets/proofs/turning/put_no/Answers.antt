@@ -1,4 +1,8 @@
+use Rattle.std.proofs.Common.{◌≡◌, ℕ, List, ◌++◌, ap, subst, ◌∙◌, append-nil}
 use Rattle.std.proofs.lemmas.Result.{IfErr-weaker, on_ok_weaker}
+use Rattle.tungstenite.specs.Connection.{write_step}
+use Rattle.tungstenite.specs.Content.{binary}
+use Rattle.tungstenite.specs.Socket.{Writes}
 use Rattle.tungstenite.specs.declared.error.Error.{Error}
 use Rattle.canvas_nodes.specs.Answers.{refusal_alone}
 use Rattle.canvas_sockets.specs.Served.{RefusesText}
@@ -8,13 +12,19 @@ use Rattle.canvas_sockets.proofs.turning.put_no.Goals as goal
 
 pub returns-clause-puts : goal.returns-clause-puts
 returns-clause-puts g c =
-    on_ok_weaker c.write_text.result
-    (λ h. puts_one g.S.Write.contents c.args.socket.now c.write_text.new.socket c.no_text.result.now (refusal_alone c.args.reason) (c.no_text.ensures, tt) h)
-    c.write_text.ensures.writes
+    let text = c.no_text.result.now in
+    let alone : text ++ c.new-nothing.result ≡ text = ap (λ (l : List ℕ). text ++ l) c.new-nothing.ensures ∙ append-nil text in
+    on_ok_weaker c.put_bytes.result
+    (λ h. puts_one g.S.Write.contents c.args.socket.now c.put_bytes.new.socket text (refusal_alone c.args.reason) (c.no_text.ensures, tt)
+    (subst (λ (l : List ℕ). Writes g.S.Write.contents c.args.socket.now c.put_bytes.new.socket (write_step c.args.socket.now.conn (binary l))) alone h))
+    c.put_bytes.ensures.writes
 
 pub returns-clause-stops : goal.returns-clause-stops
 returns-clause-stops g c =
-    IfErr-weaker c.write_text.result (λ (e : Error). RefusesText g.S.Write.contents c.args.socket.now c.no_text.result.now e c.write_text.new.socket)
-    (λ (e : Error). StopsPuttingAnswer g.S.Write.contents c.args.socket.now (refusal_alone c.args.reason) e c.write_text.new.socket)
-    (λ e h. refuses_one g.S.Write.contents c.args.socket.now c.write_text.new.socket c.no_text.result.now (refusal_alone c.args.reason) e (c.no_text.ensures, tt) h)
-    c.write_text.ensures.refuses
+    let text = c.no_text.result.now in
+    let alone : text ++ c.new-nothing.result ≡ text = ap (λ (l : List ℕ). text ++ l) c.new-nothing.ensures ∙ append-nil text in
+    IfErr-weaker c.put_bytes.result (λ (e : Error). RefusesText g.S.Write.contents c.args.socket.now (text ++ c.new-nothing.result) e c.put_bytes.new.socket)
+    (λ (e : Error). StopsPuttingAnswer g.S.Write.contents c.args.socket.now (refusal_alone c.args.reason) e c.put_bytes.new.socket)
+    (λ e h. refuses_one g.S.Write.contents c.args.socket.now c.put_bytes.new.socket text (refusal_alone c.args.reason) e (c.no_text.ensures, tt)
+    (subst (λ (l : List ℕ). RefusesText g.S.Write.contents c.args.socket.now l e c.put_bytes.new.socket) alone h))
+    c.put_bytes.ensures.refuses
