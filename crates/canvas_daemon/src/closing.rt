@@ -40,7 +40,7 @@ impl<A: Answerer + Drop> Closing<A> {
 impl<A: Answerer + Drop> Answerer for Closing<A> {
     ghost gives = { A.gives };
 
-    fn answer(&mut self, message: &Message) -> Result<Vec<Message>, AllocError> {
+    fn answer(&mut self, message: Message) -> Result<Vec<Message>, AllocError> {
         self.answerer.answer(message)
     }
 

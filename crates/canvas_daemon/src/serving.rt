@@ -16,7 +16,7 @@ use canvas_journal::{Journal, Keeper, open};
 use canvas_room::{BlankRoom, Lock, Room, Seat, blank_room};
 use canvas_shelf::Shelf;
 use canvas_sockets::serve_one;
-use room_handler::SeatAnswerer;
+use room_handler::{Plain, SeatAnswerer};
 use std::alloc::{AllocError, Global};
 use std::io::Write;
 use std::marker::Brand;
@@ -268,7 +268,8 @@ where
     let alloc = rt.alloc();
     // Each answer leaves at once; without this some would wait for an acknowledgement.
     let _ = stream.set_nodelay(true);
-    let mut answerer = Closing::new(SeatAnswerer::new(alloc, rt.clone()?, seat), removed);
+    let seated = SeatAnswerer::new(alloc, rt.clone()?, seat, Plain);
+    let mut answerer = Closing::new(seated, removed);
     if let Ok(mut socket) = tungstenite::accept(alloc, stream) {
         let _ended = serve_one(alloc, &mut answerer, &mut socket);
     }

@@ -19,12 +19,12 @@ use Rattle.canvas_threads.proofs.Headlines.{headline}
 use Rattle.canvas_threads.proofs.Rounds.{legal_at}
 
 -- whichever it was, it was one of two
-either : {V E C : Type 0} (A : Type 0) (B : E → Type 0) (r : Result V E) → (A → C) → ((e : E) → B e → C) → OnOk r A → IfErr r B → C
+pub either : {V E C : Type 0} (A : Type 0) (B : E → Type 0) (r : Result V E) → (A → C) → ((e : E) → B e → C) → OnOk r A → IfErr r B → C
 either A B (Ok v) ended broken ok err = ended ok
 either A B (Err e) ended broken ok err = broken e err
 
 module _ (sound : EachVersionIsSound) (stands_after : EachEntryStands) (leaves : EachVerdictLeavesRoot) (o : Opening) (old : Client) (before : List Mark) (new : Client) (after : List Mark) where
-  with_headline : (past : List Entry) → OpensAfter o past → (c : ℕ) (edits : List Change) → AreFirstOf c edits (log_of past after) → FollowsAt o past c edits after new → FollowsAt o past c edits after new × HasHeadline (log_of past after) c edits new
+  pub with_headline : (past : List Entry) → OpensAfter o past → (c : ℕ) (edits : List Change) → AreFirstOf c edits (log_of past after) → FollowsAt o past c edits after new → FollowsAt o past c edits after new × HasHeadline (log_of past after) c edits new
   with_headline past opens c edits all f = (f, headline (log_of past after) (legal_at sound stands_after leaves o past opens c edits after f.legal) c edits all new f.follows)
 
   pub keeps_following : {V : Type 0} (r : Result V LinkError) → OnOk r (Exchanges (Grants o) (RefusesRound o) old before new after) → IfErr r (λ e. BreaksOff (Grants o) (RefusesRound o) e old before new after) → KeepsFollowing o old before new after

@@ -37,7 +37,7 @@ module _ (sound : EachVersionIsSound) (stands_after : EachEntryStands) (leaves :
   abbrev judged_at : List Mark → ℕ
   judged_at seen = done (fold opening (log_of past seen)) c
 
-  first_at : (before after : List Mark) → SeesOn o before after → AreFirstOf c edits (log_of past after) → AreFirstOf c edits (log_of past before)
+  pub first_at : (before after : List Mark) → SeesOn o before after → AreFirstOf c edits (log_of past after) → AreFirstOf c edits (log_of past before)
   first_at before after sees all = first_before (log_of past before) (log_of past after) c edits (seen_longer o past before after sees) all
 
   more_judged : (before after : List Mark) → 0 < c → IsLegalHistory o after → SeesOn o before after → judged_at before ≤ judged_at after
@@ -51,7 +51,7 @@ module _ (sound : EachVersionIsSound) (stands_after : EachEntryStands) (leaves :
       let last : done (at_version (log_of past seen) (length (log_of past seen))) c ≡ judged_at seen = ap (λ (l : List Entry). done (fold opening l) c) (take_all (log_of past seen)) in
       omega (arith, g.acknowledged, mono, last)
 
-  same_follows : (before after : List Mark) (old new : Client) → new ≡ old → after ≡ before → FollowsAt o past c edits before old → FollowsAt o past c edits after new
+  pub same_follows : (before after : List Mark) (old new : Client) → new ≡ old → after ≡ before → FollowsAt o past c edits before old → FollowsAt o past c edits after new
   same_follows before after old new same at f = subst (λ (x : List Mark × Client). FollowsAt o past c edits x.0 x.1) (λ i. (sym at i, sym same i)) f
 
   -- an edit was sent, or was acknowledged before
@@ -88,7 +88,7 @@ module _ (sound : EachVersionIsSound) (stands_after : EachEntryStands) (leaves :
       → HearsNews (Grants o) (RefusesRound o) old before new after → FollowsAt o past c edits after new × (old.version ≤ new.version)
   heard_news old before new after f all h = heard sound stands_after leaves o past opens c edits (Ask h.0 old.version) old before new after (let both : Some h.0 ≡ Some c = sym h.1 ∙ f.follows.holds in cc) f all h.2
 
-  climbed : (n : ℕ) (old : Client) (before : List Mark) (new : Client) (after : List Mark) → FollowsAt o past c edits before old → AreFirstOf c edits (log_of past after)
+  pub climbed : (n : ℕ) (old : Client) (before : List Mark) (new : Client) (after : List Mark) → FollowsAt o past c edits before old → AreFirstOf c edits (log_of past after)
       → Climbs (Grants o) (RefusesRound o) n old before new after → FollowsAt o past c edits after new
   climbed zero old before new after f all h = same_follows before after old new h.0 h.1 f
   climbed (suc n) old before new after f all h = (heard_news h.0 h.1 new after (climbed n old before h.0 h.1 f (first_at h.1 after h.3.2.1.0.0 all) h.2) all h.3).0
@@ -111,12 +111,16 @@ module _ (sound : EachVersionIsSound) (stands_after : EachEntryStands) (leaves :
           (subst (λ (ms : List Message). HearsEach old ms new) is h.2.2) stays
       by (inr t) = absurd (h.2.1.1 (subst IsNo (sym t.1) tt))
 
-  caught : (old : Client) (before : List Mark) (new : Client) (after : List Mark) → FollowsAt o past c edits before old → AreFirstOf c edits (log_of past after)
+  pub caught : (old : Client) (before : List Mark) (new : Client) (after : List Mark) → FollowsAt o past c edits before old → AreFirstOf c edits (log_of past after)
       → CatchesUp (Grants o) (RefusesRound o) old before new after → FollowsAt o past c edits after new
   caught old before new after f all h = (heard_news h.1 h.2 new after (climbed h.0 old before h.1 h.2 f (first_at h.2 after h.4.2.1.0.0 all) h.3) all h.4).0
 
+  -- the state at the version of a client that has come to the end of the log
+  whole : (seen : List Mark) (client : Client) → client.version ≡ length (log_of past seen) → at_version (log_of past seen) client.version ≡ fold opening (log_of past seen)
+  whole seen client at = ap (λ (v : ℕ). at_version (log_of past seen) v) at ∙ ap (fold opening) (take_all (log_of past seen))
+
   -- the client has come to the end of the log
-  caught_at_end : (old : Client) (before : List Mark) (new : Client) (after : List Mark) → FollowsAt o past c edits before old → AreAllOf c edits (log_of past after)
+  pub caught_at_end : (old : Client) (before : List Mark) (new : Client) (after : List Mark) → FollowsAt o past c edits before old → AreAllOf c edits (log_of past after)
       → CatchesUp (Grants o) (RefusesRound o) old before new after → new.version ≡ length (log_of past after)
   caught_at_end old before new after f alone h =
       let all = all_first c edits (log_of past after) alone in
@@ -125,21 +129,19 @@ module _ (sound : EachVersionIsSound) (stands_after : EachEntryStands) (leaves :
       let at = last_news h.1 h.2 new after mid alone h.4 h.5 in
       omega (arith, last.1, at, h.5)
 
-  -- at the end of the log, with all its edits judged, it is up to date
-  up_to_date : (seen : List Mark) (client : Client) → FollowsAt o past c edits seen client → client.version ≡ length (log_of past seen) → length edits ≤ judged_at seen → IsUpToDate o seen client
-  up_to_date seen client f at judged = record { version = at ∙ sym r.version; nothing = nothing; view = f.follows.stands.shown ∙ (λ i. over (state i).doc (nothing i)) }
+  -- at the end of the log, with nothing waiting, it is up to date
+  pub at_rest : (seen : List Mark) (client : Client) → FollowsAt o past c edits seen client → client.version ≡ length (log_of past seen) → client.waiting ≡ [] → IsUpToDate o seen client
+  at_rest seen client f at nothing = record { version = at ∙ sym r.version; nothing = nothing; view = f.follows.stands.shown ∙ (λ i. over (state i).doc (nothing i)) }
     where
       r : Records (board o seen) (log_of past seen)
       r = records o past opens seen f.legal
 
-      whole : at_version (log_of past seen) client.version ≡ fold opening (log_of past seen)
-      whole = ap (λ (v : ℕ). at_version (log_of past seen) v) at ∙ ap (fold opening) (take_all (log_of past seen))
-
       state : at_version (log_of past seen) client.version ≡ (board o seen).state
-      state = whole ∙ sym r.state
+      state = whole seen client at ∙ sym r.state
 
-      nothing : client.waiting ≡ []
-      nothing = f.follows.waiting ∙ drop_past client.acknowledged edits (let count = f.follows.acknowledged ∙ ap (λ (s : State). done s c) whole in omega (arith, count, judged))
+  -- and so it is with all its edits judged
+  up_to_date : (seen : List Mark) (client : Client) → FollowsAt o past c edits seen client → client.version ≡ length (log_of past seen) → length edits ≤ judged_at seen → IsUpToDate o seen client
+  up_to_date seen client f at judged = at_rest seen client f at (f.follows.waiting ∙ drop_past client.acknowledged edits (let count = f.follows.acknowledged ∙ ap (λ (s : State). done s c) (whole seen client at) in omega (arith, count, judged)))
 
   pub exchanged : (old : Client) (before : List Mark) (new : Client) (after : List Mark) → FollowsAt o past c edits before old → AreFirstOf c edits (log_of past after)
       → Exchanges (Grants o) (RefusesRound o) old before new after → FollowsAt o past c edits after new
@@ -164,7 +166,7 @@ module _ (sound : EachVersionIsSound) (stands_after : EachEntryStands) (leaves :
   edit_broke i e old before new after f all (inr (asked, w, h)) =
       broke sound stands_after leaves o past opens c edits asked e old before new after (subst (IsAskedBy sound stands_after leaves o past opens c edits) (sym w.4) tt) f all h
 
-  catching_broke : (e : LinkError) (old : Client) (before : List Mark) (new : Client) (after : List Mark) → FollowsAt o past c edits before old → AreFirstOf c edits (log_of past after)
+  pub catching_broke : (e : LinkError) (old : Client) (before : List Mark) (new : Client) (after : List Mark) → FollowsAt o past c edits before old → AreFirstOf c edits (log_of past after)
       → BreaksCatching (Grants o) (RefusesRound o) e old before new after → FollowsAt o past c edits after new
   catching_broke e old before new after f all (n, mid, s, up, b) =
       let sees = by_break o (Ask b.0 mid.version) e mid s new after b.2 in

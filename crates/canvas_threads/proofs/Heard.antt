@@ -26,8 +26,13 @@ use Rattle.canvas_threads.proofs.Truth.{GoesFurther, as_before, by_message, copy
 use Rattle.canvas_threads.proofs.Histories.{Records}
 use Rattle.canvas_threads.proofs.News.{copy_true, news_true, next_first, rest_after}
 
+-- what is true of messages is true of the first of them
+pub beginning : (log : List Entry) (c : ℕ) (heard rest : List Message) → AreTrueFor log c (heard ++ rest) → AreTrueFor log c heard
+beginning log c [] rest are = tt
+beginning log c (m ∷ heard) rest are = (are.0, beginning log c heard rest are.1)
+
 module _ (sound : EachVersionIsSound) (stands_after : EachEntryStands) (leaves : EachVerdictLeavesRoot) (log : List Entry) (legal : IsLegal opening log) (c : ℕ) (edits : List Change) (all : AreFirstOf c edits log) where
-  can_follow : (m : Message) → IsTrueFor log c m → CanFollow m
+  pub can_follow : (m : Message) → IsTrueFor log c m → CanFollow m
   can_follow (messages.Entry zero e) is = absurd (cc)
   can_follow (messages.Entry (suc i) e) is = leaves (at_version log i) e (sound log legal i) (granted (at_version log i) e (step_at opening log i e legal.fits is).0)
   can_follow (messages.Copy v n d) is = tt
@@ -50,12 +55,8 @@ module _ (sound : EachVersionIsSound) (stands_after : EachEntryStands) (leaves :
       let rest = heard_each h.0 one.0 ms are.1 new h.2 in
       (rest.0, omega (arith, one.1, rest.1))
 
-  beginning : (heard rest : List Message) → AreTrueFor log c (heard ++ rest) → AreTrueFor log c heard
-  beginning [] rest are = tt
-  beginning (m ∷ heard) rest are = (are.0, beginning heard rest are.1)
-
   pub heard_some : (old : Client) → FollowsLog log c edits old → (ms : List Message) → AreTrueFor log c ms → (e : LinkError) (new : Client) → HearsSome old ms e new → GoesFurther sound stands_after log legal c edits all old new
-  heard_some old f ms are e new h = heard_each old f h.0 (beginning h.0 h.1 (subst (AreTrueFor log c) h.2 are)) new h.3
+  heard_some old f ms are e new h = heard_each old f h.0 (beginning log c h.0 h.1 (subst (AreTrueFor log c) h.2 are)) new h.3
 
   -- where the news of a board that records the log lead it no further, it has come to the end of the log, where nobody else made an edit under its id
   pub caught_up : AreAllOf c edits log → (b : Served) → Records b log → (old : Client) → FollowsLog log c edits old → (new : Client) → HearsEach old (news_of b c old.version ++ Idle ∷ []) new → new.version ≤ old.version → old.version ≡ length log

@@ -12,6 +12,7 @@ pub mod Headlines
 pub mod Joining
 pub mod Crashes
 pub mod AtSeats
+pub mod HeardPushes
 pub mod Following
 pub mod Lists
 pub mod Sends

@@ -17,8 +17,6 @@ use Rattle.canvas_client.specs.contracts.request.EditRequest as EditRequest
 use Rattle.canvas_pending.specs.contracts.pending.Pending as Pending
 use Rattle.canvas_board.specs.declared.history.RoomName.{Ghosts}
 use Rattle.canvas_room.specs.contracts.seat.Seat as Seat
-use Rattle.room_handler.specs.contracts.answerer.SeatAnswerer as Answerer
-use Rattle.room_handler.specs.contracts.answerer.SeatAnswerer.TheInside as in_answerer
 use Rattle.room_handler.specs.contracts.seat_link.SeatLink as Link
 use Rattle.room_handler.specs.contracts.seat_link.SeatLink.TheInside as in_link
 use Rattle.std.proofs.alloc.Global.TheSendSync as heap
@@ -79,13 +77,8 @@ Ended-each-send S s =
     recorded_send _ _ _ T.to_one (enum_send (enum.shape T) (search (d, submit_error.the_send, sendable) depth 40))
 
 module _ (N D W : RattleType) (g : Ghosts N.Denot) where
-  Answerer-send : IsSend (Seat.the_row N D g) → IsSend W → IsSend (Answerer.the_row N D W g)
-  Answerer-send s w =
-      view_send (in_answerer.the_row N D W g) _ _ _ _ (recorded_send (in_answerer.the_field N D W g).row _ _ (in_answerer.the_type N D W g).to_one
-      (struct_send (shape (in_answerer.the_type N D W g)) (heap.the_field_send, (w, (s, tt)))))
-
   -- a link to a seat
   pub SeatLink-send : IsSend (Seat.the_row N D g) → IsSend W → IsSend (Link.the_row N D W g)
   SeatLink-send s w =
       view_send (in_link.the_row N D W g) _ _ _ _ (recorded_send (in_link.the_field N D W g).row _ _ (in_link.the_type N D W g).to_one
-      (struct_send (shape (in_link.the_type N D W g)) (Answerer-send s w, tt)))
+      (struct_send (shape (in_link.the_type N D W g)) (heap.the_field_send, (w, (s, tt)))))

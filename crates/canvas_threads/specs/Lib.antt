@@ -5,3 +5,4 @@ pub mod Laws
 pub mod Worked
 pub mod Shown
 pub mod Errors
+pub mod Pushes

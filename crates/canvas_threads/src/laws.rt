@@ -1,5 +1,6 @@
 // Laws of clients that follow a log.
 ghost use Rattle.canvas_threads.specs.Laws.{EachAcknowledgedIsFound, EachEditIsFollowed, EachFollowerShows, EachPlacedEditIsFollowed, EachTruthIsFollowed, FollowersAgree, NewRoomOpens};
+ghost use Rattle.canvas_threads.specs.Pushes.{EachPushIsFollowed, EachPushIsNews, EachPushLeadsOn};
 
 use canvas_board::RoomName;
 use canvas_client::{every_placed_edit, every_told_entry};
@@ -33,4 +34,18 @@ pub fn found_again<K: Keeper, N: RoomName>()
     ensures { EachAcknowledgedIsFound N.opening K.honest K.moment K.left_since K.finds K.keeps }
 {
     found_after_every_crash::<K, N>();
+}
+
+/// Laws of pushes, for every room. A client keeps following its room by whatever it hears of a push, in any order, with losses and
+/// repeats. A push from the client's version on, heard whole and in its order, is the news of an Ask that the client might have sent. It
+/// raises the version of a client that follows its room, to that of the last entry or copy, if no other client made an edit under its
+/// id. The call does nothing when it runs: make it if a proof needs one of them.
+pub fn every_push<N: RoomName>()
+    ensures followed { EachPushIsFollowed N.opening }
+    ensures news { EachPushIsNews N.opening }
+    ensures leads_on { EachPushLeadsOn N.opening }
+{
+    every_log();
+    every_view();
+    every_told_entry();
 }

@@ -6,6 +6,7 @@ ghost use Rattle.canvas_threads.specs.Shown.{FollowsRoom, ShowsTheRoom};
 
 use crate::Gate;
 use crate::error::broken_off;
+use crate::hall::Hall;
 use crate::laws::every_follower;
 use crate::seats::{exchange_at, join_at};
 use canvas_board::RoomName;
@@ -67,8 +68,8 @@ impl<K: Keeper + Drop, N: RoomName, Q: Wait + Drop, W: Wait + Drop> SeatNode<N, 
         }
     }
 
-    /// Makes these edits one after the other, and exchanges after each between two calls of the gate. What the client refuses is passed
-    /// over.
+    /// Makes these edits one after the other. After each it exchanges, between two calls of the gate, and rings in the hall. What the
+    /// client refuses is passed over.
     ///
     /// The errors are those of `exchange_at`, as `broken_off` has them, and `NotKept(Memory)` if memory runs out besides.
     pub(crate) fn make_all<G: Gate>(
@@ -76,6 +77,7 @@ impl<K: Keeper + Drop, N: RoomName, Q: Wait + Drop, W: Wait + Drop> SeatNode<N, 
         alloc: Global,
         edits: &[EditRequest],
         gate: &G,
+        hall: &Hall,
         number: u64,
     ) -> Result<(), SubmitError>
         requires { FollowsRoom N.opening [] self.old.link self.old.client }
@@ -90,6 +92,7 @@ impl<K: Keeper + Drop, N: RoomName, Q: Wait + Drop, W: Wait + Drop> SeatNode<N, 
                 let exchanged = self.exchange(alloc);
                 gate.after(number, calls);
                 exchanged?;
+                hall.ring(self.client.version());
             }
         }
         Ok(())

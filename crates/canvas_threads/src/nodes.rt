@@ -4,6 +4,8 @@ ghost use Rattle.canvas_model.specs.Local as local;
 ghost use Rattle.canvas_threads.specs.Shown.{Ends, HasFollowed, ShowsPlan, ShowsTheRoom};
 ghost use Rattle.canvas_threads.specs.Worked.{Beside, HasWorked};
 
+use crate::hall::Hall;
+use crate::listening::listen;
 use crate::node::SeatNode;
 use crate::{Gate, Plan};
 use canvas_board::RoomName;
@@ -17,8 +19,9 @@ use std::sync::Wait;
 use std::thread::{Threads, map_vec};
 
 /// Runs a node for each of these lists of edits, on a thread of its own at a seat of the room: it joins, makes its edits, and exchanges
-/// after each between two calls of the gate. Once all have ended, each exchanges once more, so that its client reads up to the room's
-/// last version. Answers the clients, in the order of the lists.
+/// after each between two calls of the gate. While another node makes edits, it then hears what is published, and waits for more. Once all
+/// have ended, each exchanges once more, so its client reads up to the room's last version. Returns the clients, in the order of the
+/// lists.
 ///
 /// Each client has made all edits of its list that it didn't refuse. If nobody else made an edit under its id, nothing waits at it, its
 /// edits stand in the room's history, each once, and it shows the room's document as its seat has seen it.
@@ -87,13 +90,15 @@ trait Site: Drop {
     // That it shows what the seat has seen in the end.
     ghost shows: { List local.EditRequest → client.Client → Type 0 };
 
-    // Has a client join and make the edits of a plan. The errors are those of `SeatNode`.
+    // Has a client join, make the edits of a plan, and hear what others publish while they make theirs. The errors are those of
+    // `SeatNode` and `listen`.
     fn work<W: Wait + Clone + Drop, P: Plan, G: Gate>(
         self,
         alloc: Global,
         rt: &W,
         plan: P,
         gate: &G,
+        hall: &Hall,
         number: u64,
     ) -> Result<(Client, Self), SubmitError>
         ensures { IfOk result (λ done. HasFollowed P.asks follows plan done.1 done.0) };
@@ -123,17 +128,23 @@ impl<K: Keeper + Drop, N: RoomName, Q: Wait + Drop> Site for Seat<N, Lock<K, N, 
         rt: &W,
         plan: P,
         gate: &G,
+        hall: &Hall,
         number: u64,
     ) -> Result<(Client, Self), SubmitError> {
+        let at_work = hall.work();
         let link = SeatLink::new(alloc, rt.clone()?, self);
         let mut node = SeatNode::join(alloc, link)?;
+        hall.ring(node.client.version());
         let Some(id) = node.client.id() else {
             unreachable!()
         };
         let edits = plan.edits(alloc, id)?;
-        node.make_all(alloc, &edits, gate, number)?;
-        let SeatNode { link, client } = node;
-        Ok((client, link.into_seat()))
+        node.make_all(alloc, &edits, gate, hall, number)?;
+        drop(at_work);
+        let SeatNode { link, mut client } = node;
+        let mut seat = link.into_seat();
+        listen(alloc, rt, &mut client, &mut seat, hall, number)?;
+        Ok((client, seat))
     }
 
     fn finish<W: Wait + Clone + Drop>(
@@ -181,8 +192,9 @@ where
     requires { length plans.items ≤ length sites.items }
     ensures { IfOk result (λ all. Beside (λ plan done. HasFollowed P.asks S.follows plan done.site done.client) plans.items all.items) }
 {
+    let hall = Hall::new(alloc, plans.len())?;
     let jobs = jobs_of(alloc, sites, plans)?;
-    let ended = run_each(alloc, rt, jobs, gate)?;
+    let ended = run_each(alloc, rt, jobs, gate, &hall)?;
     all_done(alloc, ended)
 }
 
@@ -214,6 +226,7 @@ fn run_each<S, R, P, G>(
     rt: &R,
     jobs: Vec<Job<S, P>>,
     gate: &G,
+    hall: &Hall,
 ) -> Result<Vec<Result<Done<S>, SubmitError>>, AllocError>
 where
     S: Site + Send + Drop,
@@ -223,20 +236,21 @@ where
     ensures len { IfOk result (λ ended. length ended.items ≡ length jobs.items) }
     ensures each { IfOk result (λ ended. (i : ℕ) (job : _) (done : _) → i < length jobs.items → IfOk (slice_index_or ended.items i done) (λ d. HasFollowed P.asks S.follows (slice_index_or jobs.items i job).plan d.site d.client)) }
 {
-    map_vec(rt, jobs, &|job| run(alloc, rt, job, gate))
+    map_vec(rt, jobs, &|job| run(alloc, rt, job, gate, hall))
 }
 
-// Has a client join at a job's seat, and make what its plan asks for.
+// Has a client join at a job's seat, make what its plan asks for, and hear what others publish.
 fn run<S: Site + Drop, W: Wait + Clone + Drop, P: Plan, G: Gate>(
     alloc: Global,
     rt: &W,
     job: Job<S, P>,
     gate: &G,
+    hall: &Hall,
 ) -> Result<Done<S>, SubmitError>
     ensures { IfOk result (λ done. HasFollowed P.asks S.follows job.plan done.site done.client) }
 {
     let Job { number, site, plan } = job;
-    let (client, site) = site.work(alloc, rt, plan, gate, number)?;
+    let (client, site) = site.work(alloc, rt, plan, gate, hall, number)?;
     Ok(Done { client, site })
 }
 

@@ -5,13 +5,15 @@ ghost use Rattle.canvas_nodes.specs.GoesOn.{GoesOn};
 ghost use Rattle.canvas_board.specs.Marks.{IsLegalHistory};
 ghost use Rattle.room_handler.specs.Table.{SeesOn};
 ghost use Rattle.canvas_threads.specs.Exchanges.{CatchesUpAt, JoinsAt, KeepsFollowing, MayJoinAt};
+ghost use Rattle.canvas_threads.specs.Pushes.{HearsAll, RestsAt};
 
+use crate::pushes::hear_all;
 use canvas_board::RoomName;
 use canvas_client::{Client, every_told_entry};
 use canvas_journal::Keeper;
 use canvas_model::{every_log, every_view};
 use canvas_nodes::{LinkError, exchange, join};
-use canvas_room::Lock;
+use canvas_room::{Lock, Seat};
 use room_handler::{SeatLink, every_exchange};
 use std::alloc::Global;
 use std::sync::Wait;
@@ -60,4 +62,31 @@ pub fn exchange_at<K: Keeper + Drop, N: RoomName, R: Wait + Drop, W: Wait + Drop
     every_told_entry();
     every_exchange::<N>();
     exchange(alloc, client, link)
+}
+
+/// Hears at a seat what is published after the client's version, as a client that is pushed it: push after push, each the answer to an Ask
+/// that the client might have sent, without its Idle. It ends once nothing is published after its version, or a push doesn't raise that.
+/// Never blocks.
+///
+/// A client that followed what the seat had seen, if no other edit took a number of one of its edits, follows what the seat has seen
+/// since, as after `exchange_at`. This is so if it breaks off too. If it doesn't, no edit waits and no other client made an edit under
+/// its id, the client shows the document of all that the seat has seen.
+///
+/// Errors: out of memory; Refused, for the reason Stranger, if the client hasn't joined in this room.
+pub fn hear_at<N: RoomName, D: Drop>(
+    alloc: Global,
+    client: &mut Client,
+    seat: &mut Seat<N, D>,
+) -> Result<(), LinkError>
+    requires { IsSome client.old.id }
+    ensures hears { OnOk result (HearsAll N.opening client.old seat.old client.new seat.new) }
+    ensures follows { KeepsFollowing N.opening client.old seat.old client.new seat.new }
+    ensures rests { OnOk result (RestsAt N.opening client.old seat.old client.new seat.new) }
+    ensures goes_on { GoesOn client.old client.new }
+    ensures sees { SeesOn N.opening seat.old seat.new }
+{
+    every_log();
+    every_view();
+    every_told_entry();
+    hear_all(alloc, client, seat)
 }

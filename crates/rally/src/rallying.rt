@@ -20,8 +20,9 @@ use std::sync::Wait;
 use std::thread::Threads;
 
 /// Opens the document of a folder, which is made where it is missing, and has so many clients edit it at once, each on a thread of its
-/// own at a seat of the document's room: each makes a page, and sets a property of that so often. Once all have, each reads what the
-/// others made. Writes `rally version V equal yes`, or `no` where the clients' versions or documents differ, and answers which.
+/// own at a seat of the document's room: each makes a page, and sets a property of that so often. Then it hears what is published, and
+/// waits for more, until all have. Writes `rally version V equal yes`, or `no` if the clients' versions or documents differ, and returns
+/// which.
 ///
 /// The errors: `Device`, where the folder or the output failed, or the room refused an edit; `Damaged`, `TooLarge` and `Memory`, as
 /// `canvas_daemon::serve` answers them; `Usage`, only for fewer clients than 1 or more than 64. With an error other than `Device`
