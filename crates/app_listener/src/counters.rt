@@ -89,6 +89,11 @@ impl Figures {
         bytes_kept(self.notes.counts().checkpoint_bytes)
     }
 
+    /// Returns how many bytes the last checkpoint took: about as many as the text of a copy.
+    pub fn checkpoint_bytes(&self) -> u64 {
+        self.notes.counts().checkpoint_bytes
+    }
+
     /// Checks whether a checkpoint is due: the entries after the last one take as many bytes as it did, and are 256 or take 1 MiB. One that
     /// was refused is tried again after as many further entries as a checkpoint may keep.
     pub fn is_checkpoint_due(&self) -> bool {

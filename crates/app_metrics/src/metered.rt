@@ -2,6 +2,7 @@
 ghost use Rattle.std.specs.Prelude.{◌≡◌};
 
 use crate::{Judgement, Meter, how_judged};
+use canvas_forms::SharedEntry;
 use canvas_journal::{KeepError, Keeper};
 use canvas_judge::{Entry, State};
 use std::alloc::Global;
@@ -106,9 +107,9 @@ impl<K: Keeper, C: Clock> Keeper for Metered<K, C> {
 
     ghost is_spent = { K.is_spent };
 
-    fn append(&mut self, alloc: Global, entry: &Entry) -> Result<(), KeepError> {
+    fn append(&mut self, alloc: Global, entry: &SharedEntry) -> Result<(), KeepError> {
         self.keeper.append(alloc, entry)?;
-        self.count(entry);
+        self.count(entry.entry());
         Ok(())
     }
 
@@ -125,9 +126,9 @@ impl<K: Keeper, C: Clock> Keeper for Metered<K, C> {
         Ok(())
     }
 
-    fn stage(&mut self, alloc: Global, entry: &Entry) -> Result<(), KeepError> {
+    fn stage(&mut self, alloc: Global, entry: &SharedEntry) -> Result<(), KeepError> {
         self.keeper.stage(alloc, entry)?;
-        self.count(entry);
+        self.count(entry.entry());
         Ok(())
     }
 

@@ -16,11 +16,12 @@ use Rattle.canvas_board.specs.contracts.rule.PublishedProtocolBoardLinkedListMar
 use Rattle.canvas_board.specs.declared.history.RoomName.{Ghosts}
 use Rattle.canvas_board.proofs.history.Front.TheSendSync as front
 use Rattle.room_handler.specs.contracts.shared_copy.SharedCopy as SharedCopy
+use Rattle.bytes.proofs.shared.Bytes.TheSendSync as bytes
 use Rattle.crossbeam_channel.specs.contracts.channel.Receiver as Receiver
 use Rattle.canvas_bell.proofs.Bell.TheSendSync as bell
 use Rattle.app_listener.proofs.options.Shared.TheSendSync as shared
 use Rattle.app_server.proofs.glancing.Seen.TheSendSync as seen
-use Rattle.app_server.proofs.permits.Permits.TheSendSync as permits
+use Rattle.app_server.proofs.budget.Budget.TheSendSync as budget
 use Rattle.app_server.proofs.polling.Caller.TheSendSync as caller
 use Rattle.app_server.proofs.polling.Post.TheSendSync as post
 use Rattle.app_server.specs.contracts.copies.Copies as Copies
@@ -46,22 +47,22 @@ Connections-send = search (leaves, sendable, crosses) depth 40 fits 4000
 
 -- the copy that clients are sent
 pub SharedCopy-send : (N : RattleType) (g : Ghosts N.Denot) → IsSend N → IsSend (SharedCopy.the_row N g)
-SharedCopy-send N g n = search (front.the_send, leaves, sendable, crosses) depth 40 fits 4000
+SharedCopy-send N g n = search (front.the_send, bytes.the_send, leaves, sendable, crosses) depth 40 fits 4000
 
 pub Held-send : (N : RattleType) (g : Ghosts N.Denot) → IsSend N → IsSend (Held.the_row N g)
-Held-send N g n = let c = SharedCopy-send N g n in declared_send (Held.the_type N g) (search (c, leaves, sendable, crosses) depth 40 fits 4000, (search sendable, tt))
+Held-send N g n = let c = SharedCopy-send N g n in declared_send (Held.the_type N g) (search (c, leaves, sendable, crosses) depth 40 fits 4000, (search (bytes.the_send, leaves, sendable, crosses) depth 40 fits 4000, tt))
 
 pub Copies-send : (N : RattleType) (g : Ghosts N.Denot) → IsSend N → IsSend (Copies.the_row N g)
-Copies-send N g n = let h = Held-send N g n in declared_send (Copies.the_type N g) (search (permits.the_send, sendable), (search (h, sendable, crosses) depth 40 fits 4000, tt))
+Copies-send N g n = let h = Held-send N g n in declared_send (Copies.the_type N g) (search (h, sendable, crosses) depth 40 fits 4000, tt)
 
 pub Copies-sync : (N : RattleType) (g : Ghosts N.Denot) → IsSend N → IsSync (Copies.the_row N g)
-Copies-sync N g n = let h = Held-send N g n in declared_sync (Copies.the_type N g) (search (permits.the_sync, sendable), (search (h, sendable, crosses) depth 40 fits 4000, tt))
+Copies-sync N g n = let h = Held-send N g n in declared_sync (Copies.the_type N g) (search (h, sendable, crosses) depth 40 fits 4000, tt)
 
 -- what the thread of a seat is given
 pub SeatTask-send : (N D R : RattleType) (g : Ghosts N.Denot) → IsSend N → IsSend (Seat.the_row N D g) → IsSend R → IsSend (SeatTask.the_row N D R g)
 SeatTask-send N D R g n s r =
     recorded_send (SeatTask.the_field N D R g).row _ _ (SeatTask.the_type N D R g).to_one
-    (struct_send (shape (SeatTask.the_type N D R g)) (r, (s, (Arc-send _ shared.the_send shared.the_sync, (Arc-send _ (Copies-send N g n) (Copies-sync N g n), (Connections-send, (post.the_field_send, (search (rings, sendable, crosses) depth 40 fits 4000, tt))))))))
+    (struct_send (shape (SeatTask.the_type N D R g)) (r, (s, (Arc-send _ shared.the_send shared.the_sync, (Arc-send _ (Copies-send N g n) (Copies-sync N g n), (Arc-send _ budget.the_send budget.the_sync, (Connections-send, (post.the_field_send, (search (rings, sendable, crosses) depth 40 fits 4000, tt)))))))))
 
 module _ (K N R : RattleType) (k : keeper.Ghosts K.Denot) (g : Ghosts N.Denot) where
   -- a room

@@ -7,17 +7,13 @@ use Rattle.canvas_board.specs.News.{HasReached}
 use Rattle.canvas_live.specs.Word.{SpellsLive}
 use Rattle.canvas_live.specs.declared.place.Place.{Place}
 use Rattle.canvas_nodes.specs.Answers.{AreMessageTexts, IsUnasked, SpellsAsked, refusal_alone}
-use Rattle.room_handler.specs.Table.{IsPush, SeesOn}
-use Rattle.app_server.specs.Seats.{SeatGives, SeatedValue}
+use Rattle.room_handler.specs.Seats.{SeatGives, SeatSeesOn, SeatValue}
+use Rattle.room_handler.specs.Table.{IsPush}
 
 -- A connection's seat, and from where its client is told unasked, if it is.
 pub record LiveValue : Type 0 where
-  pub seat : SeatedValue
+  pub seat : SeatValue
   pub place : Option Place
-
--- no more was seen than goes on from what was, and the limit stays
-abbrev pub SeatSeesOn : Opening → SeatedValue → SeatedValue → Type 0
-SeatSeesOn o old new = SeesOn o old.seen new.seen × (new.limit ≡ old.limit)
 
 -- what a client is told unasked that was told all up to a version: a push, or nothing
 abbrev pub TellsUnasked : Opening → List Mark → ℕ → ℕ → List Message → Type 0
@@ -37,13 +33,13 @@ abbrev pub RepliesToLive : Opening → LiveValue → List ℕ → List Message �
 RepliesToLive o old bytes answer new =
     (place : Place) × SpellsLive bytes place × SeatSeesOn o old.seat new.seat × (BeginsAt o old place answer new ⊎ RefusesPlace o old place answer new)
 
--- what a seat answers a message; it may have seen more since
-abbrev pub GivesOn : Opening → LiveValue → Message → List Message → LiveValue → Type 0
-GivesOn o old m answer new = (mid : SeatedValue) × SeatGives o old.seat m answer mid × SeatSeesOn o mid new.seat × (new.place ≡ old.place)
+-- what is replied to a message that a client sends: what the seat gives, and the place stays
+abbrev pub GivesLive : Opening → LiveValue → Message → List Message → LiveValue → Type 0
+GivesLive o old m answer new = SeatGives o old.seat m answer new.seat × (new.place ≡ old.place)
 
 -- the same, as texts
-abbrev pub GivesOnInTexts : Opening → LiveValue → Message → List (List ℕ) → LiveValue → Type 0
-GivesOnInTexts o old m texts new = (answer : List Message) × GivesOn o old m answer new × AreMessageTexts texts answer
+abbrev pub GivesLiveInTexts : Opening → LiveValue → Message → List (List ℕ) → LiveValue → Type 0
+GivesLiveInTexts o old m texts new = (answer : List Message) × GivesLive o old m answer new × AreMessageTexts texts answer
 
 -- what is replied to other bytes: NotRead, and nothing has changed
 abbrev pub RefusesBytes : LiveValue → List ℕ → List Message → LiveValue → Type 0
@@ -56,7 +52,7 @@ RepliesToWord o old bytes answer new = RepliesToLive o old bytes answer new ⊎ 
 -- what a seat replies to bytes: to a message that a client sends, and to others; want of memory can be met at any
 abbrev pub LiveReplies : Opening → LiveValue → List ℕ → List Message → LiveValue → Type 0
 LiveReplies o old bytes answer new =
-    ((m : Message) × SpellsAsked bytes m × GivesOn o old m answer new)
+    ((m : Message) × SpellsAsked bytes m × GivesLive o old m answer new)
     ⊎ (IsUnasked bytes no.NotRead × RepliesToWord o old bytes answer new)
     ⊎ (answer ≡ refusal_alone no.Memory)
 

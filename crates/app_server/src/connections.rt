@@ -1,5 +1,6 @@
 // A seat's thread: it serves one connection after the other.
 
+use crate::budget::Budget;
 use crate::live_seat::LiveSeat;
 use crate::polling::{Caller, Post, Watch};
 use app_listener::{Limits, Shared};
@@ -10,6 +11,7 @@ use canvas_room::Lock;
 use canvas_turns::{Handler, LineEnd, serve_turns};
 use crossbeam_channel::Receiver;
 use http::{HeaderName, HeaderValue, Request, Response};
+use room_handler::Terms;
 use std::alloc::Global;
 use std::io::{self, Eprint};
 use std::net::TcpStream;
@@ -19,12 +21,13 @@ use tungstenite::handshake::server::ErrorResponse;
 use tungstenite::{Callback, WebSocketConfig};
 
 /// Serves each connection that comes at a seat, one after the other. Ends once no more can come.
-pub(crate) fn serve_each<K, N, L, R>(
+pub(crate) fn serve_each<K, N, L, R, T>(
     rt: &R,
     shared: &Shared,
-    seat: &mut LiveSeat<'_, N, Lock<K, N, L>, R>,
+    seat: &mut LiveSeat<'_, N, Lock<K, N, L>, R, T>,
     post: &mut Post,
     bell: &Bell<Caller>,
+    budget: &Budget,
     connections: &Receiver<TcpStream, Global>,
 )
 where
@@ -32,6 +35,7 @@ where
     N: RoomName,
     L: Wait + Drop,
     R: Wait + Clock + Eprint + AllocGlobal + Clone + Drop,
+    T: Terms<N> + Drop,
 {
     for _ in rt.forever() {
         let Ok(stream) = connections.recv(rt) else {
@@ -39,7 +43,7 @@ where
         };
         let number = shared.figures.begin();
         tell(rt, shared, number, "begins");
-        let end = serve(rt, shared, seat, post, bell, &stream);
+        let end = serve(rt, shared, seat, post, bell, budget, &stream);
         seat.leave();
         shared.figures.end();
         tell(rt, shared, number, end.words());
@@ -87,6 +91,7 @@ fn serve<H: Handler, R: Clock + AllocGlobal>(
     handler: &mut H,
     post: &mut Post,
     bell: &Bell<Caller>,
+    budget: &Budget,
     stream: &TcpStream,
 ) -> End {
     if limit(stream, shared.limits).is_err() {
@@ -107,7 +112,7 @@ fn serve<H: Handler, R: Clock + AllocGlobal>(
     if post.begin(stream).is_err() {
         return End::SocketFailed;
     }
-    let end = match Watch::new(rt, post, bell, shared.limits.idle_seconds) {
+    let end = match Watch::new(rt, post, bell, budget, shared.limits.idle_seconds) {
         Ok(mut watch) => serve_accepted(rt.alloc(), handler, &mut watch, stream, config),
         Err(_) => End::SocketFailed,
     };

@@ -1,114 +1,238 @@
 // The copies of a document that clients are sent.
-ghost use Rattle.std.specs.Prelude.{IfOk, map};
+ghost use Rattle.std.specs.Prelude.{IfOk, IfSome, map};
+ghost use Rattle.net_outbox.specs.Texts.{text_bytes};
 ghost use Rattle.canvas_model.specs.Messages as messages;
+ghost use Rattle.canvas_board.specs.Marks.{board};
 ghost use Rattle.canvas_nodes.specs.Answers.{GivesTexts};
-ghost use Rattle.room_handler.specs.Table.{Gives};
+ghost use Rattle.room_handler.specs.Table.{Gives, SeesOn, TellsCopyAt};
 
-use crate::permits::Permits;
+use crate::budget::{Budget, MOST_LOOKS, rest};
+use bytes::Bytes;
 use canvas_board::RoomName;
-use room_handler::{SeatAnswerer, SharedCopy};
-use std::alloc::AllocError;
+use canvas_room::Seat;
+use net_outbox::Text;
+use room_handler::{SharedCopy, ask_texts, copy_for};
+use std::alloc::{AllocError, Global};
 use std::sync::{Mutex, Wait};
 use std::time::Clock;
 
-// A copy, and how many clients want one.
+// The last copy that was made, and the texts of earlier ones that clients are still sent. The budget counts the latter.
 struct Held<N: RoomName> {
     copy: Option<SharedCopy<N>>,
-    wanted: u64,
+    earlier: Vec<Bytes>,
 }
 
 impl<N: RoomName> Drop for Held<N> {
     fn drop(self) {
-        let Held { copy: _, wanted: _ } = self;
+        let Held {
+            copy: _,
+            earlier: _,
+        } = self;
     }
 }
 
-/// The copy of a document that clients are sent, written once for all who want one at about the same time, and let go once nobody does. So
-/// many are on their way at once.
+impl<N: RoomName> Held<N> {
+    // Drops the texts that no client is sent any more.
+    fn tidy(&mut self, budget: &Budget) {
+        self.earlier.retain(|end| is_sent(end, budget));
+        let is_sent = match &self.copy {
+            Some(copy) => !copy.end().is_unique(),
+            None => false,
+        };
+        if !is_sent {
+            self.copy = None;
+        }
+    }
+
+    // Makes room for a copy of version `least` or later, for a client at this version. Returns whether there is room. There is if the client can
+    // be sent the last copy, if no client is sent that, or if its text could be counted.
+    fn makes_room(&mut self, budget: &Budget, least: u64, client: u32, version: u64) -> bool {
+        let is_free = match &self.copy {
+            Some(copy) => copy.end().is_unique()
+                || (copy.version() >= least && copy.is_for(client, version)),
+            None => true,
+        };
+        is_free || self.sets_aside(budget)
+    }
+
+    // Counts the text of the last copy, which clients are still sent, and makes place for another one. Returns whether it did: the budget has room
+    // for the text, or it is the only one.
+    fn sets_aside(&mut self, budget: &Budget) -> bool {
+        let Ok(Some((end, _))) = self.last() else {
+            return false;
+        };
+        let bytes = end.len() as u64;
+        if self.earlier.is_empty() {
+            budget.take_anyway(bytes);
+        } else if !budget.take(bytes) {
+            return false;
+        }
+        if self.earlier.push(end).is_err() {
+            budget.give(bytes);
+            return false;
+        }
+        self.copy = None;
+        true
+    }
+
+    // Returns the text of the last copy, and its version. Errors: out of memory.
+    fn last(&self) -> Result<Option<(Bytes, u64)>, AllocError> {
+        match &self.copy {
+            Some(copy) => Ok(Some((copy.end().clone()?, copy.version()))),
+            None => Ok(None),
+        }
+    }
+
+    // Counts the text of the copy that was the last one, if there is a later one now.
+    fn replace(&mut self, budget: &Budget, last: Option<(Bytes, u64)>) {
+        let Some((end, version)) = last else {
+            return;
+        };
+        let is_last = match &self.copy {
+            Some(copy) => copy.version() == version,
+            None => false,
+        };
+        if is_last || end.is_unique() {
+            return;
+        }
+        budget.take_anyway(end.len() as u64);
+        if let Err(error) = self.earlier.push(end) {
+            budget.give(error.value.len() as u64);
+        }
+    }
+}
+
+// Checks whether a client is sent this text. If none is, its bytes are given back to the budget.
+fn is_sent(end: &Bytes, budget: &Budget) -> bool {
+    if end.is_unique() {
+        budget.give(end.len() as u64);
+        return false;
+    }
+    true
+}
+
+/// The copy of a document that clients are sent. It is written once for all that need one at about the same time, and dropped once it is sent.
+/// The unsent bytes of each client refer to its text.
 pub(crate) struct Copies<N: RoomName> {
-    permits: Permits,
     held: Mutex<Held<N>>,
 }
 
 impl<N: RoomName> Drop for Copies<N> {
     fn drop(self) {
-        let Copies {
-            permits: _,
-            held: _,
-        } = self;
+        let Copies { held: _ } = self;
     }
 }
 
 impl<N: RoomName> Copies<N> {
-    /// So many at once, and nobody wants one yet. Errors: out of memory.
-    pub(crate) fn new<R>(rt: &R, at_once: usize) -> Result<Copies<N>, AllocError>
-    where
-        R: Wait + AllocGlobal,
-    {
+    /// Returns one without a copy.
+    pub(crate) fn new(alloc: Global) -> Copies<N> {
         let held = Held {
             copy: None,
-            wanted: 0,
+            earlier: Vec::new(alloc),
         };
-        Ok(Copies {
-            permits: Permits::new(rt, at_once)?,
+        Copies {
             held: Mutex::new(held),
-        })
-    }
-
-    /// A client wants a copy: waits until one may be on its way. Returns whether one may, within 30 seconds.
-    pub(crate) fn begin<R: Wait + Clock>(&self, rt: &R) -> bool {
-        self.want(rt);
-        let may = self.permits.take(rt);
-        if !may {
-            self.leave(rt);
         }
-        may
     }
 
-    /// A client wants a copy, if one may be on its way now. Returns whether one may.
-    pub(crate) fn begin_now<R: Wait + Clock>(&self, rt: &R) -> bool {
-        self.want(rt);
-        let may = self.permits.take_now(rt);
-        if !may {
-            self.leave(rt);
-        }
-        may
+    /// Drops the texts that no client is sent any more. Called once a client has its copy, or has left.
+    pub(crate) fn tidy<R: Wait>(&self, rt: &R, budget: &Budget) {
+        self.held.lock(rt).tidy(budget);
     }
 
-    /// A copy that was begun has left, or never will.
-    pub(crate) fn end<R: Wait>(&self, rt: &R) {
-        self.permits.give(rt);
-        self.leave(rt);
-    }
-
-    // One client more wants a copy.
-    fn want<R: Wait>(&self, rt: &R) {
+    /// Makes room for a copy of version `least` or later, for a client at this version. Returns whether there is room. To make a copy, the budget
+    /// must have room for the text of the last one, if clients are still sent that.
+    pub(crate) fn makes_room<R: Wait>(
+        &self,
+        rt: &R,
+        budget: &Budget,
+        least: u64,
+        client: u32,
+        version: u64,
+    ) -> bool {
         let mut held = self.held.lock(rt);
-        held.wanted = held.wanted.saturating_add(1);
+        held.tidy(budget);
+        held.makes_room(budget, least, client, version)
     }
 
-    // One client fewer does.
-    fn leave<R: Wait>(&self, rt: &R) {
-        let mut held = self.held.lock(rt);
-        held.wanted = held.wanted.saturating_sub(1);
-        if held.wanted == 0 {
-            held.copy = None;
+    /// Makes room for a copy of version `least` or later, for a client at this version, once there is some. Returns whether there was within
+    /// 30 seconds; it doesn't wait if four answers wait already.
+    pub(crate) fn makes_room_later<R: Wait + Clock>(
+        &self,
+        rt: &R,
+        budget: &Budget,
+        least: u64,
+        client: u32,
+        version: u64,
+    ) -> bool {
+        if self.makes_room(rt, budget, least, client, version) {
+            return true;
         }
+        let has_room = budget.begin_waiting() && self.gets_room(rt, budget, least, client, version);
+        budget.end_waiting();
+        has_room
+    }
+
+    // Makes room for a copy of version `least` or later, for a client at this version, once there is some. Returns whether there was within
+    // 30 seconds.
+    fn gets_room<R: Wait + Clock>(
+        &self,
+        rt: &R,
+        budget: &Budget,
+        least: u64,
+        client: u32,
+        version: u64,
+    ) -> bool {
+        for _look in 0..MOST_LOOKS {
+            rest(rt);
+            if self.makes_room(rt, budget, least, client, version) {
+                return true;
+            }
+        }
+        false
     }
 
     /// The texts of what a client is answered that asks from this version, by a copy of version `least` at least, where one is due. Fails
     /// only if memory runs out.
-    pub(crate) fn texts<R: Wait, D: Drop, W: Drop>(
+    pub(crate) fn texts<R: Wait, D: Drop>(
         &self,
         rt: &R,
-        answerer: &mut SeatAnswerer<N, D, W>,
+        alloc: Global,
+        budget: &Budget,
+        seat: &mut Seat<N, D>,
         least: u64,
         client: u32,
         version: u64,
-    ) -> Result<Vec<Vec<u8>>, AllocError>
-        ensures { IfOk result (λ ts. GivesTexts (Gives N.opening) answerer.old (messages.Ask client version) (map (λ t. t.items) ts.items) answerer.new) }
+    ) -> Result<Vec<Text>, AllocError>
+        ensures gives { IfOk result (λ ts. GivesTexts (Gives N.opening) seat.old (messages.Ask client version) (map text_bytes ts.items) seat.new) }
+        ensures sees { SeesOn N.opening seat.old seat.new }
     {
         let mut held = self.held.lock(rt);
-        answerer.ask_texts(&mut held.copy, least, client, version)
+        let last = held.last()?;
+        let texts = ask_texts(alloc, seat, &mut held.copy, least, client, version);
+        held.replace(budget, last);
+        texts
+    }
+
+    /// Returns the text of a copy of version `least` or later, for a client at this version, and the copy's version. Returns `None` if the client
+    /// needs no copy. Errors: out of memory.
+    pub(crate) fn copy_for<R: Wait, D: Drop>(
+        &self,
+        rt: &R,
+        alloc: Global,
+        budget: &Budget,
+        seat: &mut Seat<N, D>,
+        least: u64,
+        client: u32,
+        version: u64,
+    ) -> Result<Option<(Text, u64)>, AllocError>
+        ensures copy { IfOk result (λ told. IfSome told (λ copy. TellsCopyAt (board N.opening seat.new) client version (text_bytes copy.0) copy.1)) }
+        ensures sees { SeesOn N.opening seat.old seat.new }
+    {
+        let mut held = self.held.lock(rt);
+        let last = held.last()?;
+        let told = copy_for(alloc, seat, &mut held.copy, least, client, version);
+        held.replace(budget, last);
+        told
     }
 }

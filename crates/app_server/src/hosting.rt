@@ -3,6 +3,7 @@ ghost use Rattle.std.specs.Prelude.{◌≡◌, ◌⊎◌, IfErr, IfOk, string_by
 ghost use Rattle.net_http.specs.Identities.{IsIdentity};
 ghost use Rattle.app_storage.specs.Faults.{IsPageFault, IsPreparingFault, IsRunningFault, MayEndServer, IsStopFault, IsThreadFault};
 
+use crate::budget::Budget;
 use crate::copies::Copies;
 use crate::documents::{DocumentJournal, take_document};
 use crate::folders::take_folder;
@@ -36,9 +37,6 @@ use std::sync::atomic::AtomicBool;
 use std::sync::{Arc, Wait};
 use std::thread::Threads;
 use std::time::Clock;
-
-// How many copies of the document are on their way at once.
-const MOST_COPIES: usize = 4;
 
 /// How many threads accept connections.
 const DOORS: u32 = 16;
@@ -361,7 +359,8 @@ where
     R: Net + Threads + Wait + Clock + Eprint + AllocGlobal + Clone + Send + Sync + Drop + 'static,
     ensures { IfErr result IsThreadFault }
 {
-    let copies = Arc::new(rt.alloc(), Copies::new(rt, MOST_COPIES)?)?;
+    let copies = Arc::new(rt.alloc(), Copies::new(rt.alloc()))?;
+    let budget = Arc::new(rt.alloc(), Budget::new())?;
     let (mut posts, bell) = begin_posts(rt, seats.len())?;
     let bell = Arc::new(rt.alloc(), bell)?;
     for seat in seats {
@@ -373,6 +372,7 @@ where
             seat,
             shared: Arc::try_clone(shared)?,
             copies: Arc::try_clone(&copies)?,
+            budget: Arc::try_clone(&budget)?,
             connections: connections.clone()?,
             post,
             bell: Arc::try_clone(&bell)?,

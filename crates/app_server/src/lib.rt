@@ -1,6 +1,7 @@
 //! A server of one document that one leaves running, over the document of a folder or of an etcd.
 #![tactic(auto)]
 
+mod budget;
 mod connections;
 mod copies;
 mod documents;
@@ -10,11 +11,9 @@ mod hosting;
 mod live_seat;
 mod opening;
 mod own_document;
-mod pace;
-mod permits;
 mod polling;
 mod progress;
-mod seated;
+mod seat_terms;
 mod standby;
 mod stopping;
 mod tasks;

@@ -3,40 +3,47 @@ ghost use Rattle.std.specs.Prelude.{◌≡◌, ◌⊎◌, ◌∷◌, [], None, I
 ghost use Rattle.canvas_model.specs.Messages.{Idle};
 ghost use Rattle.canvas_judge.specs.Seen.{seen_message};
 ghost use Rattle.canvas_nodes.specs.Answers.{AreMessageTexts, refusal_alone};
+ghost use Rattle.net_outbox.specs.Texts.{text_bytes};
 ghost use Rattle.canvas_turns.specs.Told.{version_told};
+ghost use Rattle.room_handler.specs.Seats.{SeatSeesOn};
+ghost use Rattle.room_handler.specs.Told.{seen_told};
 ghost use Rattle.canvas_sockets.specs.Turned.{RepliesInTexts};
-ghost use Rattle.app_server.specs.Live.{BeginsAt, GivesOnInTexts, RefusesPlace, RepliesToWord, SeatSeesOn};
+ghost use Rattle.app_server.specs.Live.{BeginsAt, GivesLiveInTexts, RefusesPlace, RepliesToWord, TellsUnasked};
 
 use crate::polling::Caller;
-use crate::seated::Seated;
+use crate::seat_terms::SeatTerms;
 use app_listener::Shared;
 use canvas_bell::Bell;
 use canvas_board::RoomName;
 use canvas_journal::Keeper;
 use canvas_judge::{Message, NoReason};
 use canvas_live::{Place, place_in};
-use canvas_nodes::{Answerer, asked, texts_of};
+use canvas_nodes::{asked, texts_of};
 use canvas_room::Lock;
 use canvas_sockets::Replier;
 use canvas_turns::{Handler, Push};
+use net_outbox::{Text, own_texts};
+use room_handler::{SeatAnswerer, Terms, Told, told_texts};
 use std::alloc::{AllocError, Global};
 use std::marker::Model;
 use std::sync::Wait;
 use std::time::Clock;
 
-/// A seat that answers the messages of one client after the other, and tells one that wants to be told unasked what is published. Contracts see
-/// the seat, and from where the client is told.
-pub(crate) struct LiveSeat<'a, N: RoomName, D: Drop, W: Drop> {
-    seated: Seated<'a, N, D, W>,
+/// A connection's seat: it replies to messages, and pushes what is published to a live client. Contracts see the seat, and the client's place.
+/// `T` are the terms of its answerer.
+pub(crate) struct LiveSeat<'a, N: RoomName, D: Drop, W: Drop, T: Terms<N> + Drop> {
+    answerer: SeatAnswerer<N, D, W, T>,
+    terms: SeatTerms<'a, N, W>,
     place: Option<Place>,
     shared: &'a Shared,
     bell: &'a Bell<Caller>,
 }
 
-impl<N: RoomName, D: Drop, W: Drop> Drop for LiveSeat<'_, N, D, W> {
+impl<N: RoomName, D: Drop, W: Drop, T: Terms<N> + Drop> Drop for LiveSeat<'_, N, D, W, T> {
     fn drop(self) {
         let LiveSeat {
-            seated: _,
+            answerer: _,
+            terms: _,
             place: _,
             shared: _,
             bell: _,
@@ -44,7 +51,7 @@ impl<N: RoomName, D: Drop, W: Drop> Drop for LiveSeat<'_, N, D, W> {
     }
 }
 
-impl<'a, N: RoomName, D: Drop, W: Drop> Model for LiveSeat<'a, N, D, W> {
+impl<'a, N: RoomName, D: Drop, W: Drop, T: Terms<N> + Drop> Model for LiveSeat<'a, N, D, W, T> {
     ghost use Rattle.std.specs.Coded.{codes};
     ghost use Rattle.canvas_model.specs.Codes.{value_code};
     ghost use Rattle.app_server.specs.Live.{LiveValue};
@@ -53,20 +60,28 @@ impl<'a, N: RoomName, D: Drop, W: Drop> Model for LiveSeat<'a, N, D, W> {
 
     ghost coded = { Prim.hlevel (codes, value_code) };
 
-    ghost view = { λ s. record { seat = s.seated; place = s.place } };
+    ghost view = { λ s. record { seat = s.answerer; place = s.place } };
 }
 
-impl<'a, N: RoomName, D: Drop, W: Wait + Clock + Clone + Drop> LiveSeat<'a, N, D, W> {
-    /// A connection's seat, whose client isn't told unasked.
+impl<'a, N: RoomName, D: Drop, W: Wait + Clock + Drop, T: Terms<N> + Drop> LiveSeat<
+    'a,
+    N,
+    D,
+    W,
+    T,
+> {
+    /// Returns a connection's seat, whose client isn't live. The terms are those of the answerer.
     pub(crate) fn new(
-        seated: Seated<'a, N, D, W>,
+        answerer: SeatAnswerer<N, D, W, T>,
+        terms: SeatTerms<'a, N, W>,
         shared: &'a Shared,
         bell: &'a Bell<Caller>,
-    ) -> LiveSeat<'a, N, D, W>
-        ensures { result ≡ record { seat = seated.entry; place = None } }
+    ) -> LiveSeat<'a, N, D, W, T>
+        ensures { result ≡ record { seat = answerer; place = None } }
     {
         LiveSeat {
-            seated,
+            answerer,
+            terms,
             place: None,
             shared,
             bell,
@@ -81,22 +96,32 @@ impl<'a, N: RoomName, D: Drop, W: Wait + Clock + Clone + Drop> LiveSeat<'a, N, D
             self.shared.figures.end_live();
         }
         self.place = None;
-        self.seated.leave();
+        self.terms.leave();
     }
 
-    // Rings for what is published, if something was submitted.
-    fn ring(&mut self)
-        ensures { SeatSeesOn N.opening self.old.seat self.new.seat × (self.new.place ≡ self.old.place) }
-    {
-        if let Some(version) = self.seated.submitted() {
+    // Rings for the entry that was published last, if one was since it rang.
+    fn ring(&self) {
+        if let Some(version) = self.terms.take_published() {
             self.bell.ring(version);
         }
     }
 
+    // Returns what is pushed to a client at this place, maybe nothing. Errors: out of memory.
+    fn told_after(&mut self, alloc: Global, place: Place) -> Result<Vec<Told>, AllocError>
+        ensures tells { IfOk result (λ messages. TellsUnasked N.opening self.new.seat.seen place.client place.version (map seen_told messages.items)) }
+        ensures sees { SeatSeesOn N.opening self.old.seat self.new.seat }
+        ensures place { self.new.place ≡ self.old.place }
+    {
+        match self.answerer.push(place.client, place.version)? {
+            Some(told) => Ok(told),
+            None => Ok(Vec::new(alloc)),
+        }
+    }
+
     // The reply to bytes that are no message: they may be the word by which a client wants to be told unasked.
-    fn reply_to_word(&mut self, alloc: Global, bytes: &[u8]) -> Result<Vec<Vec<u8>>, NoReason>
+    fn reply_to_word(&mut self, alloc: Global, bytes: &[u8]) -> Result<Vec<Text>, NoReason>
         ensures { MatchResult result
-            (λ ts. RepliesInTexts (RepliesToWord N.opening) self.old bytes.now (map (λ t. t.items) ts.items) self.new)
+            (λ ts. RepliesInTexts (RepliesToWord N.opening) self.old bytes.now (map text_bytes ts.items) self.new)
             (λ reason. RepliesToWord N.opening self.old bytes.now (refusal_alone reason) self.new) }
     {
         match place_in(alloc, bytes) {
@@ -107,41 +132,42 @@ impl<'a, N: RoomName, D: Drop, W: Wait + Clock + Clone + Drop> LiveSeat<'a, N, D
     }
 
     // Answers a client that wants to be told unasked from this place on.
-    fn begin(&mut self, alloc: Global, place: Place) -> Result<Vec<Vec<u8>>, NoReason>
-        ensures begins { IfOk result (λ ts. AreMessageTexts (map (λ t. t.items) ts.items) (Idle ∷ []) × SeatSeesOn N.opening self.old.seat self.new.seat × BeginsAt N.opening self.old place (Idle ∷ []) self.new) }
+    fn begin(&mut self, alloc: Global, place: Place) -> Result<Vec<Text>, NoReason>
+        ensures begins { IfOk result (λ ts. AreMessageTexts (map text_bytes ts.items) (Idle ∷ []) × SeatSeesOn N.opening self.old.seat self.new.seat × BeginsAt N.opening self.old place (Idle ∷ []) self.new) }
         ensures refuses { IfErr result (λ reason. (reason ≡ NoReason.Memory) ⊎ ((reason ≡ NoReason.Stranger) × SeatSeesOn N.opening self.old.seat self.new.seat × RefusesPlace N.opening self.old place (refusal_alone reason) self.new)) }
     {
-        let idle: Message = Message::Idle;
-        let Ok(texts) = texts_of(alloc, &[idle]) else {
+        let Ok(texts) = idle_alone(alloc) else {
             return Err(NoReason::Memory);
         };
-        match self.seated.has_reached(place.client, place.version) {
+        match self.answerer.has_reached(place.client, place.version) {
             Ok(true) => {
+                self.terms.answer();
                 if self.place.is_none() {
                     self.shared.figures.begin_live();
                 }
                 self.place = Some(place);
                 Ok(texts)
             }
-            Ok(false) => Err(NoReason::Stranger),
-            Err(_) => Err(NoReason::Memory),
+            Ok(false) => Err(self.terms.refuse(NoReason::Stranger)),
+            Err(_) => Err(self.terms.refuse(NoReason::Memory)),
         }
     }
 }
 
-impl<'a, K, N, R, W> LiveSeat<'a, N, Lock<K, N, R>, W>
+impl<'a, K, N, R, W, T> LiveSeat<'a, N, Lock<K, N, R>, W, T>
 where
     K: Keeper + Drop,
     N: RoomName,
     R: Wait + Drop,
-    W: Wait + Clock + Clone + Drop,
+    W: Wait + Clock + Drop,
+    T: Terms<N> + Drop,
 {
     // The reply to a message that a client sends. Rings for what it published, if it did.
-    fn reply_to_asked(&mut self, alloc: Global, message: &Message) -> Result<Vec<Vec<u8>>, NoReason>
-        ensures gives { IfOk result (λ ts. GivesOnInTexts N.opening self.old (seen_message message.now) (map (λ t. t.items) ts.items) self.new) }
+    fn reply_to_asked(&mut self, alloc: Global, message: Message) -> Result<Vec<Text>, NoReason>
+        ensures gives { IfOk result (λ ts. GivesLiveInTexts N.opening self.old (seen_message message) (map text_bytes ts.items) self.new) }
         ensures memory { IfErr result (λ reason. reason ≡ NoReason.Memory) }
     {
-        let texts = self.seated.texts(alloc, message);
+        let texts = self.answerer.reply_texts(alloc, message);
         self.ring();
         match texts {
             Ok(texts) => Ok(texts),
@@ -150,36 +176,38 @@ where
     }
 }
 
-impl<'a, K, N, R, W> Replier for LiveSeat<'a, N, Lock<K, N, R>, W>
+impl<'a, K, N, R, W, T> Replier for LiveSeat<'a, N, Lock<K, N, R>, W, T>
 where
     K: Keeper + Drop,
     N: RoomName,
     R: Wait + Drop,
-    W: Wait + Clock + Clone + Drop,
+    W: Wait + Clock + Drop,
+    T: Terms<N> + Drop,
 {
     ghost use Rattle.app_server.specs.Live.{LiveReplies};
 
     ghost replies = { LiveReplies N.opening };
 
-    fn reply(&mut self, alloc: Global, bytes: &[u8]) -> Result<Vec<Vec<u8>>, NoReason> {
+    fn reply(&mut self, alloc: Global, bytes: &[u8]) -> Result<Vec<Text>, NoReason> {
         match asked(alloc, bytes) {
-            Ok(message) => self.reply_to_asked(alloc, &message),
+            Ok(message) => self.reply_to_asked(alloc, message),
             Err(NoReason::NotRead) => self.reply_to_word(alloc, bytes),
             Err(reason) => Err(reason),
         }
     }
 
     fn sent(&mut self) {
-        self.seated.sent();
+        self.terms.sent();
     }
 }
 
-impl<'a, K, N, R, W> Handler for LiveSeat<'a, N, Lock<K, N, R>, W>
+impl<'a, K, N, R, W, T> Handler for LiveSeat<'a, N, Lock<K, N, R>, W, T>
 where
     K: Keeper + Drop,
     N: RoomName,
     R: Wait + Drop,
-    W: Wait + Clock + Clone + Drop,
+    W: Wait + Clock + Drop,
+    T: Terms<N> + Drop,
 {
     ghost use Rattle.app_server.specs.Live.{LiveGoesTo, LiveTells};
 
@@ -196,11 +224,24 @@ where
         let Some(place) = self.place else {
             return Ok(nothing(alloc, false));
         };
-        let Some(told) = self.seated.push(place.client, place.version)? else {
+        if !self.terms.may_tell(place.client, place.version) {
             return Ok(nothing(alloc, true));
-        };
+        }
+        if let Some((copy, version)) = self.answerer.push_copy(place.client, place.version)? {
+            return Ok(Push {
+                texts: Vec::from_array(alloc, [copy])?,
+                versions: Vec::from_array(alloc, [version])?,
+                is_held: false,
+            });
+        }
+        let told = self.told_after(alloc, place)?;
+        let texts = told_texts(alloc, &told)?;
+        let texts = own_texts(alloc, texts)?;
+        if !self.terms.takes(&texts) {
+            return Ok(nothing(alloc, true));
+        }
         Ok(Push {
-            texts: texts_of(alloc, &told)?,
+            texts,
             versions: versions_of(alloc, &told)?,
             is_held: false,
         })
@@ -217,8 +258,17 @@ where
     }
 
     fn rest(&mut self) {
-        self.seated.rest();
+        self.terms.rest();
     }
+}
+
+// Returns the text of an Idle. Errors: out of memory.
+fn idle_alone(alloc: Global) -> Result<Vec<Text>, AllocError>
+    ensures { IfOk result (λ ts. AreMessageTexts (map text_bytes ts.items) (Idle ∷ [])) }
+{
+    let idle: Message = Message::Idle;
+    let texts = texts_of(alloc, &[idle])?;
+    own_texts(alloc, texts)
 }
 
 // Nothing to tell, or nothing now.
@@ -234,17 +284,27 @@ fn nothing(alloc: Global, is_held: bool) -> Push
 }
 
 // The version that each of these messages leads to. Errors: out of memory.
-fn versions_of(alloc: Global, messages: &[Message]) -> Result<Vec<u64>, AllocError>
-    ensures { IfOk result (λ versions. versions.items ≡ map version_told (map seen_message messages.now)) }
+fn versions_of(alloc: Global, told: &[Told]) -> Result<Vec<u64>, AllocError>
+    ensures { IfOk result (λ versions. versions.items ≡ map version_told (map seen_told told.now)) }
 {
-    let mut versions = Vec::with_capacity(alloc, messages.len())?;
-    for message in messages {
-        versions.push(version_told(message))?;
+    let mut versions = Vec::with_capacity(alloc, told.len())?;
+    for message in told {
+        versions.push(version_of(message))?;
     }
     Ok(versions)
 }
 
-// The version that a message leads to whoever is told it.
+// The version that what is told leads a client to.
+fn version_of(told: &Told) -> u64
+    ensures { result ≡ version_told (seen_told told.now) }
+{
+    match told {
+        Told::Entry { version, .. } => *version,
+        Told::Other(message) => version_told(message),
+    }
+}
+
+// The version that a message leads a client to.
 fn version_told(message: &Message) -> u64
     ensures { result ≡ version_told (seen_message message.now) }
 {

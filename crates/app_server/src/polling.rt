@@ -1,5 +1,6 @@
 // Where the thread of a seat waits for its connection.
 
+use crate::budget::Budget;
 use canvas_bell::{Bell, Call};
 use canvas_turns::{Waits, Woken};
 use mio::event::Events;
@@ -101,6 +102,7 @@ pub(crate) struct Watch<'a, R> {
     rt: &'a R,
     post: &'a mut Post,
     bell: &'a Bell<Caller>,
+    budget: &'a Budget,
     idle_millis: u64,
     begun: Instant,
     // For how many milliseconds it was waited since the peer was last seen to be there, and how many bytes had left then. The time of turns
@@ -122,12 +124,14 @@ impl<'a, R: Clock> Watch<'a, R> {
         rt: &'a R,
         post: &'a mut Post,
         bell: &'a Bell<Caller>,
+        budget: &'a Budget,
         idle_seconds: u64,
     ) -> io::Result<Watch<'a, R>> {
         Ok(Watch {
             rt,
             post,
             bell,
+            budget,
             idle_millis: idle_seconds.saturating_mul(1_000),
             begun: Instant::now(rt)?,
             silent: 0,
@@ -221,7 +225,8 @@ impl<R: Clock> Waits for Watch<'_, R> {
             self.silent = 0;
         }
         self.taken = taken;
-        if self.patience.ends(now, taken, waiting) {
+        let least = self.budget.least_taken();
+        if self.patience.ends(now, taken, waiting, least) {
             return Woken::Slow;
         }
         if self.pings(now, waiting) {

@@ -1,10 +1,11 @@
 // What the threads of a server do, each for as long as the server runs.
 
+use crate::budget::Budget;
 use crate::connections::serve_each;
 use crate::copies::Copies;
 use crate::live_seat::LiveSeat;
 use crate::polling::{Caller, Post};
-use crate::seated::Seated;
+use crate::seat_terms::{SeatFlags, SeatTerms};
 use app_listener::{Shared, stand};
 use app_storage::Task;
 use canvas_bell::Bell;
@@ -12,6 +13,7 @@ use canvas_board::RoomName;
 use canvas_journal::Keeper;
 use canvas_room::{Lock, Seat};
 use crossbeam_channel::{Receiver, Sender};
+use room_handler::SeatAnswerer;
 use std::alloc::Global;
 use std::io::Eprint;
 use std::net::TcpStream;
@@ -24,6 +26,7 @@ pub(crate) struct SeatTask<N: RoomName, D: Drop, R: Drop> {
     pub(crate) seat: Seat<N, D>,
     pub(crate) shared: Arc<Shared, Global>,
     pub(crate) copies: Arc<Copies<N>, Global>,
+    pub(crate) budget: Arc<Budget, Global>,
     pub(crate) connections: Receiver<TcpStream, Global>,
     pub(crate) post: Post,
     pub(crate) bell: Arc<Bell<Caller>, Global>,
@@ -36,6 +39,7 @@ impl<N: RoomName, D: Drop, R: Drop> Drop for SeatTask<N, D, R> {
             seat: _,
             shared: _,
             copies: _,
+            budget: _,
             connections: _,
             post: _,
             bell: _,
@@ -57,6 +61,7 @@ where
             seat,
             shared,
             copies,
+            budget,
             connections,
             mut post,
             bell,
@@ -64,10 +69,23 @@ where
         let Ok(own) = rt.clone() else {
             return;
         };
-        if let Ok(seated) = Seated::new(rt.alloc(), own, seat, &shared, copies) {
-            let mut seat = LiveSeat::new(seated, &shared, &bell);
-            serve_each(&rt, &shared, &mut seat, &mut post, &bell, &connections);
-        }
+        let Ok(shown) = Arc::try_clone(&copies) else {
+            return;
+        };
+        let flags = SeatFlags::new();
+        let terms = SeatTerms::new(&rt, &shared, shown, &budget, &flags);
+        let answerer = SeatAnswerer::new(rt.alloc(), own, seat, terms);
+        let terms = SeatTerms::new(&rt, &shared, copies, &budget, &flags);
+        let mut seat = LiveSeat::new(answerer, terms, &shared, &bell);
+        serve_each(
+            &rt,
+            &shared,
+            &mut seat,
+            &mut post,
+            &bell,
+            &budget,
+            &connections,
+        );
     }
 }
 

@@ -1,9 +1,67 @@
-use Rattle.std.proofs.Common.{[], refl}
-use Rattle.app_server.proofs.Live.{tells_nothing}
+use Rattle.std.proofs.Common.{◌≡◌, ℕ, List, ap, sym, refl, subst, ◌∙◌, map, Vec, Global}
+use Rattle.net_outbox.specs.Texts.{text_bytes}
+use Rattle.canvas_nodes.specs.Answers.{AreMessageTexts}
+use Rattle.canvas_turns.specs.Told.{version_told}
+use Rattle.room_handler.specs.Told.{seen_told}
+use Rattle.room_handler.specs.declared.told.Told.{Told}
+use Rattle.app_server.specs.Live.{LiveValue}
+use Rattle.app_server.proofs.Live.{fails_after, seat_further, told_copy, told_each, told_nothing}
 use Rattle.app_server.proofs.live_seat.LiveSeatLockHandler.push.Goals as goal
 
--- nothing can be told now
-pub returns-in_default-2-clause-tells : goal.returns-in_default-2-clause-tells
-returns-in_default-2-clause-tells g c =
-    rw (← c.self.view_is, c.nothing-in_default-2.ensures.texts, c.nothing-in_default-2.ensures.versions)
-    ([], ((c.push.ensures.sees, c.push.ensures.limit), refl, tells_nothing g.N.RoomName.opening c.self.inside.place c.push.new.self.seen), tt, refl)
+-- a copy is told
+pub returns-in-Some-2-clause-tells : goal.returns-in-Some-2-clause-tells
+returns-in-Some-2-clause-tells g c =
+    let o = g.N.RoomName.opening in
+    let old : LiveValue = record { seat = c.self.inside.answerer; place = c.self.inside.place } in
+    let new : LiveValue = record { seat = c.push_copy.new.self; place = c.self.inside.place } in
+    let told = rw c.in-Some-2.is at c.in_ok-copy.ensures.copy in
+    rw (← c.self.view_is)
+    (told_copy o old new c.in-Some.place (text_bytes c.in-Some-2.copy) c.in-Some-2.version _ _ c.push_copy.ensures.sees refl c.in-Some.is told (ap (map text_bytes) c.in_ok-from_array.ensures.items) c.in_ok-from_array-2.ensures.items)
+
+-- the texts, or the versions, have no room
+pub returns-in_err-texts-clause-fails : goal.returns-in_err-texts-clause-fails
+returns-in_err-texts-clause-fails g c =
+    let o = g.N.RoomName.opening in
+    let old : LiveValue = record { seat = c.self.inside.answerer; place = c.self.inside.place } in
+    let new = c.told_after.new.self in
+    let sees = seat_further o old.seat c.push_copy.new.self new.seat c.push_copy.ensures.sees c.told_after.ensures.sees in
+    rw (← c.self.view_is) (fails_after o old new c.from_residual-in_err-texts.result sees c.told_after.ensures.place)
+
+pub returns-in_err-texts-2-clause-fails : goal.returns-in_err-texts-2-clause-fails
+returns-in_err-texts-2-clause-fails g c =
+    let o = g.N.RoomName.opening in
+    let old : LiveValue = record { seat = c.self.inside.answerer; place = c.self.inside.place } in
+    let new = c.told_after.new.self in
+    let sees = seat_further o old.seat c.push_copy.new.self new.seat c.push_copy.ensures.sees c.told_after.ensures.sees in
+    rw (← c.self.view_is) (fails_after o old new c.from_residual-in_err-texts-2.result sees c.told_after.ensures.place)
+
+pub returns-in_err-versions_of-clause-fails : goal.returns-in_err-versions_of-clause-fails
+returns-in_err-versions_of-clause-fails g c =
+    let o = g.N.RoomName.opening in
+    let old : LiveValue = record { seat = c.self.inside.answerer; place = c.self.inside.place } in
+    let new = c.told_after.new.self in
+    let sees = seat_further o old.seat c.push_copy.new.self new.seat c.push_copy.ensures.sees c.told_after.ensures.sees in
+    rw (← c.self.view_is) (fails_after o old new c.from_residual-in_err-versions_of.result sees c.told_after.ensures.place)
+
+-- there is no room to send them
+pub returns-then-not-takes-clause-tells : goal.returns-then-not-takes-clause-tells
+returns-then-not-takes-clause-tells g c =
+    let o = g.N.RoomName.opening in
+    let old : LiveValue = record { seat = c.self.inside.answerer; place = c.self.inside.place } in
+    let new = c.told_after.new.self in
+    let sees = seat_further o old.seat c.push_copy.new.self new.seat c.push_copy.ensures.sees c.told_after.ensures.sees in
+    let nothing = c.nothing-then-not-takes.ensures in
+    rw (← c.self.view_is) (told_nothing o old new _ _ sees c.told_after.ensures.place (ap (map text_bytes) nothing.texts) nothing.versions)
+
+-- the news are told
+pub returns-clause-tells : goal.returns-clause-tells
+returns-clause-tells g c =
+    let o = g.N.RoomName.opening in
+    let old : LiveValue = record { seat = c.self.inside.answerer; place = c.self.inside.place } in
+    let new = c.told_after.new.self in
+    let sees = seat_further o old.seat c.push_copy.new.self new.seat c.push_copy.ensures.sees c.told_after.ensures.sees in
+    let told = map seen_told c.in_ok-told.told.items in
+    let are = subst (λ (l : List Told). AreMessageTexts (map (λ (t : Vec ℕ Global). t.items) c.in_ok-texts.texts.items) (map seen_told l)) c.deref.ensures.value c.in_ok-texts.ensures in
+    let sent = subst (λ (ts : List (List ℕ)). AreMessageTexts ts told) (sym c.in_ok-texts-2.ensures) are in
+    let each = c.in_ok-versions_of.ensures ∙ ap (λ (l : List Told). map version_told (map seen_told l)) c.deref-3.ensures.value in
+    rw (← c.self.view_is) (told_each o old new c.in-Some.place told _ _ sees c.told_after.ensures.place c.in-Some.is c.in_ok-told.ensures.tells sent each)

@@ -1,0 +1,172 @@
+// How many bytes may wait to leave for all connections together.
+
+use canvas_judge::Message;
+use net_outbox::{MUCH_WAITS, Text};
+use room_handler::Told;
+use std::sync::Wait;
+use std::sync::atomic::{AtomicU64, Ordering};
+use std::thread::sleep;
+use std::time::{Clock, Duration};
+
+// The bytes that may wait for all connections together, besides those that each may have: 64 MiB.
+const MOST_BYTES: u64 = 64 * 1024 * 1024;
+
+// The number of connections that may wait for room for an answer at once.
+const MOST_WAITING: u64 = 4;
+
+// How often a connection that waits for room checks for it.
+const LOOK_MILLIS: u64 = 20;
+
+/// The number of checks in 30 seconds.
+pub(crate) const MOST_LOOKS: u32 = 1_500;
+
+// The bytes that a slow peer must take in 8 seconds: 4 kB a second, and 256 kB a second while a connection waits for room.
+const LEAST_TAKEN: u64 = 32_000;
+
+const LEAST_TAKEN_WHEN_SHORT: u64 = 2_048_000;
+
+/// The bytes that wait to be sent for all connections together, besides the 512 KiB that each connection may have.
+///
+/// An answer of more than 256 KiB is counted until it is sent. So is the text of an earlier copy of the document, while a client is sent it.
+/// A connection that finds no room waits for it. While one waits, slow peers are ended.
+#[derive(Drop)]
+pub(crate) struct Budget {
+    used: AtomicU64,
+    // How many connections need room, for an answer or a push, and how many wait for it with an answer.
+    wanted: AtomicU64,
+    waiting: AtomicU64,
+}
+
+impl Budget {
+    /// Returns an unused budget.
+    pub(crate) fn new() -> Budget {
+        Budget {
+            used: AtomicU64::new(0),
+            wanted: AtomicU64::new(0),
+            waiting: AtomicU64::new(0),
+        }
+    }
+
+    /// Checks whether there is room for these bytes. There always is if nothing else is counted.
+    pub(crate) fn has_room(&self, bytes: u64) -> bool {
+        fits(self.used.load(Ordering::SeqCst), bytes)
+    }
+
+    /// Takes these bytes, if there is room. Returns whether there was.
+    pub(crate) fn take(&self, bytes: u64) -> bool {
+        let has_room = fits(self.used.fetch_add(bytes, Ordering::SeqCst), bytes);
+        if !has_room {
+            self.give(bytes);
+        }
+        has_room
+    }
+
+    /// Takes these bytes, also if there is no room.
+    pub(crate) fn take_anyway(&self, bytes: u64) {
+        self.used.fetch_add(bytes, Ordering::SeqCst);
+    }
+
+    /// Gives these bytes back.
+    pub(crate) fn give(&self, bytes: u64) {
+        self.used.fetch_sub(bytes, Ordering::SeqCst);
+    }
+
+    /// Counts one more connection that needs room.
+    pub(crate) fn want(&self) {
+        self.wanted.fetch_add(1, Ordering::SeqCst);
+    }
+
+    /// Counts one connection less that needs room.
+    pub(crate) fn want_no_more(&self) {
+        self.wanted.fetch_sub(1, Ordering::SeqCst);
+    }
+
+    /// Takes these bytes, once there is room. Returns whether there was within 30 seconds; it doesn't wait if four answers wait already.
+    pub(crate) fn take_later<R: Wait + Clock>(&self, rt: &R, bytes: u64) -> bool {
+        if self.take(bytes) {
+            return true;
+        }
+        let has_taken = self.begin_waiting() && self.takes(rt, bytes);
+        self.end_waiting();
+        has_taken
+    }
+
+    /// Counts one more answer that waits for room. Returns whether it may: fewer than four did before. `end_waiting` is called in either case.
+    pub(crate) fn begin_waiting(&self) -> bool {
+        self.want();
+        self.waiting.fetch_add(1, Ordering::SeqCst) < MOST_WAITING
+    }
+
+    /// Counts one answer less that waits for room.
+    pub(crate) fn end_waiting(&self) {
+        self.waiting.fetch_sub(1, Ordering::SeqCst);
+        self.want_no_more();
+    }
+
+    // Takes these bytes, once there is room. Returns whether there was within 30 seconds.
+    fn takes<R: Wait + Clock>(&self, rt: &R, bytes: u64) -> bool {
+        for _look in 0..MOST_LOOKS {
+            rest(rt);
+            if self.take(bytes) {
+                return true;
+            }
+        }
+        false
+    }
+
+    /// Returns how many bytes a slow peer must take in 8 seconds.
+    pub(crate) fn least_taken(&self) -> u64 {
+        if self.wanted.load(Ordering::SeqCst) > 0 {
+            LEAST_TAKEN_WHEN_SHORT
+        } else {
+            LEAST_TAKEN
+        }
+    }
+}
+
+/// Sleeps until the next check for room.
+pub(crate) fn rest<R: Wait + Clock>(rt: &R) {
+    sleep(rt, Duration::from_millis(LOOK_MILLIS));
+}
+
+// Checks whether these bytes fit besides those that are counted.
+fn fits(used: u64, bytes: u64) -> bool {
+    used == 0 || used.saturating_add(bytes) <= MOST_BYTES
+}
+
+/// Returns how many bytes an answer of these messages takes of the budget: those of its text, if they are more than 256 KiB. A copy of the
+/// document counts as so many.
+pub(crate) fn bytes_of_answer(told: &[Told], copy: u64) -> u64 {
+    let mut bytes: usize = 0;
+    for message in told {
+        bytes = bytes.saturating_add(bytes_of(message, copy));
+    }
+    counted(bytes, MUCH_WAITS)
+}
+
+// Returns how many bytes the text of a message has: those of its entry, or so many, if it is a copy.
+fn bytes_of(message: &Told, copy: u64) -> usize {
+    match message {
+        Told::Entry { entry, .. } => entry.text().len(),
+        Told::Other(Message::Copy(_)) => copy as usize,
+        Told::Other(_) => 0,
+    }
+}
+
+/// Returns how many bytes a push of these texts takes of the budget: the own bytes of those that go out until 256 KiB wait, if they are more
+/// than 512 KiB.
+pub(crate) fn bytes_of_push(texts: &[Text]) -> u64 {
+    let mut bytes: usize = 0;
+    for text in texts {
+        if bytes >= MUCH_WAITS {
+            break;
+        }
+        bytes = bytes.saturating_add(text.own().len());
+    }
+    counted(bytes, 2 * MUCH_WAITS)
+}
+
+// Returns these bytes, if they are more than those that are free, else 0.
+fn counted(bytes: usize, free: usize) -> u64 {
+    if bytes > free { bytes as u64 } else { 0 }
+}

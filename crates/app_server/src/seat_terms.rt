@@ -1,0 +1,319 @@
+// The terms of a server's seat.
+ghost use Rattle.std.specs.Prelude.{◌≡◌, IfOk, IfSome, map};
+ghost use Rattle.canvas_model.specs.Messages as messages;
+ghost use Rattle.canvas_board.specs.Marks.{board};
+ghost use Rattle.canvas_nodes.specs.Answers.{GivesTexts};
+ghost use Rattle.net_outbox.specs.Texts.{text_bytes};
+ghost use Rattle.room_handler.specs.Table.{Gives, SeesOn, TellsCopyAt};
+
+use crate::budget::{Budget, bytes_of_answer, bytes_of_push};
+use crate::copies::Copies;
+use app_listener::Shared;
+use canvas_board::RoomName;
+use canvas_desk::TailLimit;
+use canvas_judge::{Message, NoReason};
+use canvas_room::{Pace, Seat};
+use net_outbox::Text;
+use room_handler::{Terms, Told, is_too_large};
+use std::alloc::{AllocError, Global};
+use std::cell::Cell;
+use std::sync::{Arc, Wait};
+use std::time::Clock;
+
+/// What a seat of a server keeps from one message to the next, in one thread.
+#[derive(Drop)]
+pub(crate) struct SeatFlags {
+    // True if it was given a copy since all was sent.
+    has_copy: Cell<bool>,
+    // The bytes that it has taken of the budget, and those that its next push needs.
+    taken: Cell<u64>,
+    wanted: Cell<Option<u64>>,
+    // True if the last message could be read and got a reply.
+    has_answered: Cell<bool>,
+    // The version of a published entry of this seat, until the bell is rung.
+    published: Cell<Option<u64>>,
+}
+
+impl SeatFlags {
+    /// Returns the flags of a seat that has read no message.
+    pub(crate) fn new() -> SeatFlags {
+        SeatFlags {
+            has_copy: Cell::new(false),
+            taken: Cell::new(0),
+            wanted: Cell::new(None),
+            has_answered: Cell::new(false),
+            published: Cell::new(None),
+        }
+    }
+}
+
+/// The terms of a server's seat. Its options limit edits, and its figures set the pace of checkpoints. A client below the floor is sent the copy
+/// that is written for all. Noes are counted.
+///
+/// A long answer is counted in the budget of all connections until all is sent or the connection ends. If the budget has no room, the reply
+/// waits. Once all is sent, it closes a file that the folder has removed, if there is one.
+pub(crate) struct SeatTerms<'a, N: RoomName, W> {
+    rt: &'a W,
+    shared: &'a Shared,
+    copies: Arc<Copies<N>, Global>,
+    budget: &'a Budget,
+    flags: &'a SeatFlags,
+}
+
+impl<N: RoomName, W> Drop for SeatTerms<'_, N, W> {
+    fn drop(self) {
+        let SeatTerms {
+            rt: _,
+            shared: _,
+            copies: _,
+            budget: _,
+            flags: _,
+        } = self;
+    }
+}
+
+impl<'a, N: RoomName, W: Wait + Clock> SeatTerms<'a, N, W> {
+    /// Returns the terms of a seat with these flags, which waits by `rt`.
+    pub(crate) fn new(
+        rt: &'a W,
+        shared: &'a Shared,
+        copies: Arc<Copies<N>, Global>,
+        budget: &'a Budget,
+        flags: &'a SeatFlags,
+    ) -> SeatTerms<'a, N, W> {
+        SeatTerms {
+            rt,
+            shared,
+            copies,
+            budget,
+            flags,
+        }
+    }
+
+    /// Gives all back to the budget, and forgets its last reply. Called once its connection has ended.
+    pub(crate) fn leave(&self) {
+        self.flags.has_answered.set(false);
+        self.want_no_more();
+        self.end_copy();
+    }
+
+    // Gives all back to the budget, and drops its copy.
+    fn end_copy(&self) {
+        self.give_back();
+        if self.flags.has_copy.replace(false) {
+            self.copies.tidy(self.rt, self.budget);
+        }
+    }
+
+    // Gives back the bytes that it has taken of the budget.
+    fn give_back(&self) {
+        let taken = self.flags.taken.replace(0);
+        if taken > 0 {
+            self.budget.give(taken);
+        }
+    }
+
+    // Records that a push needs room for these bytes.
+    fn want(&self, bytes: u64) {
+        let wanted = self.flags.wanted.replace(Some(bytes));
+        if wanted.is_none() {
+            self.budget.want();
+        }
+    }
+
+    // Records that no push needs room.
+    fn want_no_more(&self) {
+        let wanted = self.flags.wanted.replace(None);
+        if wanted.is_some() {
+            self.budget.want_no_more();
+        }
+    }
+
+    /// Gives all back to the budget, and closes a file that the folder has removed, if there is one. Called once all is sent.
+    pub(crate) fn rest(&self) {
+        self.end_copy();
+        if let Some(removed) = &self.shared.removed {
+            removed.close();
+        }
+    }
+
+    /// Called once a reply is in the output. Counts a No 9 if the message couldn't be read.
+    pub(crate) fn sent(&self) {
+        if !self.flags.has_answered.replace(false) {
+            self.shared.figures.refuse(NoReason::NotRead);
+        }
+    }
+
+    /// Returns the version of the last entry of this seat's that was published, if one was since this was asked the last time.
+    pub(crate) fn take_published(&self) -> Option<u64> {
+        self.flags.published.replace(None)
+    }
+
+    /// Records that the last message got a reply.
+    pub(crate) fn answer(&self) {
+        self.flags.has_answered.set(true);
+    }
+
+    /// Records that the reply was a No for this reason, and counts it.
+    pub(crate) fn refuse(&self, reason: NoReason) -> NoReason
+        ensures { result ≡ reason }
+    {
+        self.answer();
+        self.shared.figures.refuse(reason);
+        reason
+    }
+
+    /// Checks whether there may be room by now for a push to this client at this version: a copy, or the bytes that had no room before.
+    pub(crate) fn may_tell(&self, client: u32, version: u64) -> bool {
+        let wanted = self.flags.wanted.get();
+        let has_room = match wanted {
+            Some(bytes) if bytes > 0 => self.budget.has_room(bytes),
+            _ => !self.is_below(version) || self.makes_room_for_copy(client, version),
+        };
+        if has_room {
+            self.want_no_more();
+        } else if wanted.is_none() {
+            self.want(0);
+        }
+        has_room
+    }
+
+    // Makes room for a copy for a client at this version. Returns whether there is room.
+    fn makes_room_for_copy(&self, client: u32, version: u64) -> bool {
+        let least = self.shared.figures.least_copy();
+        self.copies
+            .makes_room(self.rt, self.budget, least, client, version)
+    }
+
+    /// Takes the bytes that these texts need, which are pushed, of the budget. Returns whether there was room.
+    pub(crate) fn takes(&self, texts: &[Text]) -> bool {
+        let bytes = bytes_of_push(texts);
+        self.give_back();
+        let has_room = bytes == 0 || self.budget.take(bytes);
+        if has_room {
+            self.flags.taken.set(bytes);
+        } else {
+            self.want(bytes);
+        }
+        has_room
+    }
+
+    // Takes the bytes that an answer of these messages needs of the budget, once there is room. Returns whether there was, within 30 seconds.
+    fn takes_later(&self, told: &[Told]) -> bool {
+        let bytes = bytes_of_answer(told, self.shared.figures.checkpoint_bytes());
+        if bytes == 0 {
+            return true;
+        }
+        self.give_back();
+        let has_room = self.budget.take_later(self.rt, bytes);
+        if has_room {
+            self.flags.taken.set(bytes);
+        }
+        has_room
+    }
+
+    // Checks whether this version is below the floor, by what was published a tenth of a second ago.
+    fn is_below(&self, version: u64) -> bool {
+        version < self.shared.figures.floor()
+    }
+
+    // Returns the texts of the answer to an Ask that needs a copy. Errors: no room for another copy within 30 seconds, or out of memory.
+    fn copied<D: Drop>(
+        &self,
+        alloc: Global,
+        seat: &mut Seat<N, D>,
+        client: u32,
+        version: u64,
+    ) -> Result<Vec<Text>, AllocError>
+        ensures gives { IfOk result (λ ts. GivesTexts (Gives N.opening) seat.old (messages.Ask client version) (map text_bytes ts.items) seat.new) }
+        ensures sees { SeesOn N.opening seat.old seat.new }
+    {
+        let least = self.shared.figures.least_copy();
+        if !self
+            .copies
+            .makes_room_later(self.rt, self.budget, least, client, version)
+        {
+            return Err(AllocError);
+        }
+        self.flags.has_copy.set(true);
+        self.copies
+            .texts(self.rt, alloc, self.budget, seat, least, client, version)
+    }
+}
+
+impl<N: RoomName, W: Wait + Clock> Pace for SeatTerms<'_, N, W> {
+    fn is_due(&self, _kept: u64) -> bool {
+        self.shared.figures.is_checkpoint_due()
+    }
+
+    fn tail(&self) -> TailLimit {
+        TailLimit {
+            entries: self.shared.figures.tail_entries(),
+            bytes: self.shared.figures.tail_bytes(),
+        }
+    }
+}
+
+impl<N: RoomName, W: Wait + Clock> Terms<N> for SeatTerms<'_, N, W> {
+    ghost use Rattle.std.specs.Prelude.{Some};
+
+    ghost limit = { λ t. Some t.shared.now.limits.message_bytes };
+
+    fn is_over_limit(&self, alloc: Global, message: &Message) -> Result<bool, AllocError> {
+        is_too_large(alloc, message, self.shared.limits.message_bytes)
+    }
+
+    fn shares_copy(&self, version: u64) -> bool {
+        self.is_below(version)
+    }
+
+    fn ask_texts<D: Drop>(
+        &self,
+        alloc: Global,
+        seat: &mut Seat<N, D>,
+        client: u32,
+        version: u64,
+    ) -> Result<Vec<Text>, AllocError> {
+        let texts = self.copied(alloc, seat, client, version);
+        self.answer();
+        if texts.is_err() {
+            self.refuse(NoReason::Memory);
+        }
+        texts
+    }
+
+    fn push_copy<D: Drop>(
+        &self,
+        alloc: Global,
+        seat: &mut Seat<N, D>,
+        client: u32,
+        version: u64,
+    ) -> Result<Option<(Text, u64)>, AllocError> {
+        if !self.is_below(version) {
+            return Ok(None);
+        }
+        self.flags.has_copy.set(true);
+        let least = self.shared.figures.least_copy();
+        self.copies
+            .copy_for(self.rt, alloc, self.budget, seat, least, client, version)
+    }
+
+    fn may_send(&self, told: &[Told]) -> bool {
+        let has_room = self.takes_later(told);
+        if !has_room {
+            self.refuse(NoReason::Memory);
+        }
+        has_room
+    }
+
+    fn published(&self, version: u64) {
+        self.flags.published.set(Some(version));
+    }
+
+    fn answered(&self, refusal: Option<NoReason>) {
+        self.answer();
+        if let Some(reason) = refusal {
+            self.refuse(reason);
+        }
+    }
+}
