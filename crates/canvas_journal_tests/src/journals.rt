@@ -3,6 +3,7 @@ use crate::bytes::{ABC, AFTER_JOIN, EMPTY, JOINED, JOINED_TWICE, OLD_JOINED};
 use crate::documents::{is_file, is_there, renew, shelf_in, write};
 use canvas_journal::{KeepError, Keeper, OpenError, open};
 use canvas_judge::{Entry, Outcome, State, What};
+use canvas_wire::share_entry;
 use std::fs;
 use std::test::Fail;
 
@@ -57,6 +58,21 @@ fn checkpoint_first<K: Keeper>(rt: &HostRuntime, keeper: &mut K) -> Result<(), K
     }
 }
 
+// What a keeper answers where the entry of a Join that gives this id is appended, or made ready.
+fn take_in<K: Keeper>(
+    rt: &HostRuntime,
+    keeper: &mut K,
+    client: u32,
+    is_staged: bool,
+) -> Result<(), KeepError> {
+    let entry = share_entry(rt.alloc(), join(client))?;
+    if is_staged {
+        keeper.stage(rt.alloc(), &entry)
+    } else {
+        keeper.append(rt.alloc(), &entry)
+    }
+}
+
 // What a keeper answers to a step.
 fn answer<K: Keeper>(
     rt: &HostRuntime,
@@ -65,8 +81,8 @@ fn answer<K: Keeper>(
     step: Step,
 ) -> Result<(), KeepError> {
     match step {
-        Step::Append(client) => keeper.append(rt.alloc(), &join(client)),
-        Step::Stage(client) => keeper.stage(rt.alloc(), &join(client)),
+        Step::Append(client) => take_in(rt, keeper, client, false),
+        Step::Stage(client) => take_in(rt, keeper, client, true),
         Step::Unstage => {
             keeper.unstage();
             Ok(())

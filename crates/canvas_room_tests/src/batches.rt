@@ -59,7 +59,7 @@ pub fn all_answered<N: RoomName, W: Wait>(
     desk: &mut MemDesk<'_, N, W>,
     batches: &[Batch],
 ) -> Result<bool, Fail> {
-    desk.submit(rt, &Request::Join)?;
+    desk.submit(rt, Request::Join)?;
     for batch in batches {
         if !is_answered(rt, alloc, desk, batch)? {
             return Ok(false);

@@ -22,7 +22,7 @@ use std::test::Fail;
 fn submit_each<K: Keeper, N: RoomName, R: Wait + Drop, W: Wait>(
     rt: &W,
     desk: &mut Desk<K, N, R>,
-    requests: &[Request],
+    requests: Vec<Request>,
 )
     requires { desk.old.failed ≡ false }
     ensures later { IsTrue (K.honest desk.old.keeper) → K.moment desk.old.keeper ≤ K.moment desk.new.keeper }
@@ -58,10 +58,10 @@ fn submit_all<K: Keeper, N: RoomName, R: Wait + Drop, W: Wait>(
 fn submit_first<K: Keeper, N: RoomName, R: Wait + Drop, W: Wait>(
     rt: &W,
     desk: &mut Desk<K, N, R>,
-    request: &Request,
-    others: &[Request],
+    request: Request,
+    others: Vec<Request>,
 ) -> Result<Receipt<N>, SubmitError>
-    ensures entry { IfOk result (λ r. IsEntryFor (board N.opening desk.old.due) (seen_request request.now) r.entry) }
+    ensures entry { IfOk result (λ r. IsEntryFor (board N.opening desk.old.due) (seen_request request) r.entry) }
     ensures found { IsTrue (K.honest desk.old.keeper) → IfOk result (λ r. IsLeftFrom (K.moment desk.new.keeper) (K.left_since desk.new.keeper) (FindsSeen N.opening K.finds r.history)) }
 {
     found_after_every_crash::<K, N>();
@@ -74,9 +74,9 @@ fn submit_first<K: Keeper, N: RoomName, R: Wait + Drop, W: Wait>(
 fn joined_before<N: RoomName, W: Wait>(
     rt: &W,
     desk: &mut MemDesk<'_, N, W>,
-    edits: &[Request],
+    edits: Vec<Request>,
 ) -> Result<u64, SubmitError> {
-    let receipt = submit_first(rt, desk, &Request::Join, edits)?;
+    let receipt = submit_first(rt, desk, Request::Join, edits)?;
     Ok(receipt.version())
 }
 
@@ -98,8 +98,8 @@ pub fn versions_by<N: RoomName, W: Wait>(
     alloc: Global,
     desk: &mut MemDesk<'_, N, W>,
 ) -> Result<(u64, u64), Fail> {
+    let joined = joined_before(rt, desk, pages(alloc, 1, &[1, 2])?)?;
     let edits = pages(alloc, 1, &[1, 2])?;
-    let joined = joined_before(rt, desk, &edits)?;
     if !desk.has_failed() && edits.len() <= 64 {
         submit_all(rt, desk, &edits);
     }

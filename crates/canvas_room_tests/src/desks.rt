@@ -6,11 +6,11 @@ ghost use Rattle.canvas_journal.specs.Meaning.{opening_version};
 ghost use Rattle.canvas_shelf.specs.Shelved.{disk_of};
 
 use crate::trials::{Asked, is_answered};
-use canvas_board::{Blank, Opening, Receipt, RoomName, open_board};
+use canvas_board::{Blank, Opening, Receipt, RoomName, RoomServer, open_board};
 use canvas_desk::{Desk, SubmitError};
 use canvas_journal::{Journal, Keeper, open};
 use canvas_judge::State;
-use canvas_server::{Request, Server};
+use canvas_server::Request;
 use canvas_shelf::{Call, MemShelf};
 use std::alloc::Global;
 use std::marker::Brand;
@@ -48,7 +48,7 @@ fn desk_over<'a, K: Keeper + Drop, N: RoomName, W: Wait>(
     let opening = Opening { state, version: 0 };
     let (publisher, _readers) = open_board::<N, W>(alloc, blank, &opening, 1, rt)?;
     let Opening { state, version } = opening;
-    let server = Server::rebuild(alloc, state, version);
+    let server = RoomServer::rebuild(alloc, state, version);
     Ok(Desk::new(alloc, server, keeper, publisher, rt))
 }
 

@@ -1,8 +1,9 @@
 //! What one seat does.
 use canvas_board::RoomName;
 use canvas_desk::SubmitError;
+use canvas_forms::SharedEntry;
 use canvas_journal::Keeper;
-use canvas_judge::{Entry, Outcome};
+use canvas_judge::Outcome;
 use canvas_room::Seat;
 use canvas_server::Request;
 use std::alloc::Global;
@@ -21,8 +22,8 @@ fn page(alloc: Global, client: u32, seq: u64) -> Result<Request, Fail> {
 }
 
 // The id that an entry gives.
-fn id_in(entry: &Entry) -> Option<u32> {
-    match entry.outcome {
+fn id_in(entry: &SharedEntry) -> Option<u32> {
+    match entry.entry().outcome {
         Outcome::Joined(id) => Some(id),
         _ => None,
     }
@@ -33,7 +34,7 @@ pub fn join_by<K: Keeper + Drop, N: RoomName, Q: Wait + Drop, W: Wait>(
     rt: &W,
     seat: &mut SeatOf<K, N, Q>,
 ) -> Result<Option<u32>, SubmitError> {
-    let receipt = seat.submit(rt, &Request::Join)?;
+    let receipt = seat.submit(rt, Request::Join)?;
     Ok(id_in(receipt.entry()))
 }
 
@@ -47,15 +48,18 @@ pub fn refuses<K: Keeper + Drop, N: RoomName, Q: Wait + Drop, W: Wait>(
     wanted: Option<SubmitError>,
 ) -> Result<bool, Fail> {
     let request = page(alloc, client, seq)?;
-    Ok(seat.submit(rt, &request).err() == wanted)
+    Ok(seat.submit(rt, request).err() == wanted)
+}
+
+// The author and the number of an entry.
+fn whose(entry: &SharedEntry) -> (u32, u64) {
+    let entry = entry.entry();
+    (entry.author, entry.seq)
 }
 
 // Checks whether entries are these: author and number of each.
-fn are_these(entries: &[Entry], wanted: &[(u32, u64)]) -> bool {
-    entries
-        .iter()
-        .map(|entry| (entry.author, entry.seq))
-        .eq(wanted.iter().copied())
+fn are_these(entries: &[SharedEntry], wanted: &[(u32, u64)]) -> bool {
+    entries.iter().map(whose).eq(wanted.iter().copied())
 }
 
 /// Checks whether the entries that a seat reads after a version are these: author and number of each. None where it is to read none there,
@@ -98,7 +102,7 @@ fn join_and_learn<K: Keeper + Drop, N: RoomName, Q: Wait + Drop, W: Wait>(
     rt: &W,
     seat: &mut SeatOf<K, N, Q>,
 ) -> Option<Joined> {
-    let receipt = seat.submit(rt, &Request::Join).ok()?;
+    let receipt = seat.submit(rt, Request::Join).ok()?;
     let (id, before, version) = (id_in(receipt.entry()), receipt.before(), receipt.version());
     seat.learn(receipt);
     Some(Joined {

@@ -22,7 +22,7 @@ pub fn join() -> Request {
 /// A server that client 1 has joined.
 pub fn joined(alloc: Global) -> Result<Server, Fail> {
     let mut server = Server::new(alloc)?;
-    server.take(&join())?;
+    server.take(join())?;
     Ok(server)
 }
 
@@ -30,7 +30,7 @@ pub fn joined(alloc: Global) -> Result<Server, Fail> {
 pub fn with_pages(alloc: Global) -> Result<Server, Fail> {
     let mut server = joined(alloc)?;
     for seq in 1..3u64 {
-        server.take(&page(alloc, 1, seq)?)?;
+        server.take(page(alloc, 1, seq)?)?;
     }
     Ok(server)
 }
@@ -43,5 +43,5 @@ pub fn taken(
     seq: u64,
 ) -> Result<Result<Took, TakeError>, Fail> {
     let request = page(alloc, client, seq)?;
-    Ok(server.take(&request))
+    Ok(server.take(request))
 }

@@ -12,7 +12,7 @@ fn at_the_end(alloc: Global) -> Result<bool, Fail> {
     let repeat = taken(alloc, &mut server, 1, 3)?;
     let gap = taken(alloc, &mut server, 1, 5)?;
     let full = taken(alloc, &mut server, 1, 4)?;
-    let join = server.take(&join());
+    let join = server.take(join());
     Ok(
         last == Ok(Took::Judged(1 << 62))
             && repeat == Ok(Took::Repeat { done: 3 })

@@ -235,7 +235,7 @@ impl Link for Broken {
 
     ghost fails = { λ _ _ _ _. Unit {0} };
 
-    fn round(&mut self, _message: &Message) -> Result<Vec<Message>, LinkError> {
+    fn round(&mut self, _message: Message) -> Result<Vec<Message>, LinkError> {
         Err(LinkError::Ended)
     }
 }

@@ -55,8 +55,10 @@ fn two_agree<R: Threads + Wait + AllocGlobal + Copy + Send + Sync + Drop, G: Gat
     gate: &G,
 ) -> Result<bool, Fail> {
     let work = Work {
-        nodes: 2,
-        edits: &[Edit::Page, Edit::Page, Edit::Page],
+        lists: &[
+            &[Edit::Page, Edit::Page, Edit::Page],
+            &[Edit::Page, Edit::Page, Edit::Page],
+        ],
         has_floor: false,
     };
     let ended = ended(rt, Bench::of(2), work, gate)?;
@@ -101,13 +103,15 @@ fn are_judged(clients: &[Client], version: u64) -> bool {
     true
 }
 
+// The edits of a node that makes one page.
+const ONE_PAGE: &[Edit] = &[Edit::Page];
+
 // Checks whether eight nodes that make one edit each get eight ids, and make 16 entries.
 fn are_eight<R: Threads + Wait + AllocGlobal + Copy + Send + Sync + Drop>(
     rt: R,
 ) -> Result<bool, Fail> {
     let work = Work {
-        nodes: 8,
-        edits: &[Edit::Page],
+        lists: &[ONE_PAGE; 8],
         has_floor: false,
     };
     let Ok(Ran { clients, version }) = ended(rt, Bench::of(8), work, &NoGate)? else {
@@ -119,6 +123,30 @@ fn are_eight<R: Threads + Wait + AllocGlobal + Copy + Send + Sync + Drop>(
 #[test]
 fn eight_at_once(rt: HostRuntime) -> Result<(), Fail> {
     assert!(rt; are_eight(rt)?);
+    Ok(())
+}
+
+// Checks whether nodes that make none, two and nine pages agree: those that are done first hear what the last publishes.
+fn uneven_agree<R: Threads + Wait + AllocGlobal + Copy + Send + Sync + Drop>(
+    rt: R,
+) -> Result<bool, Fail> {
+    let work = Work {
+        lists: &[&[], &[Edit::Page; 2], &[Edit::Page; 9]],
+        has_floor: false,
+    };
+    let Ok(Ran { clients, version }) = ended(rt, Bench::of(3), work, &NoGate)? else {
+        return Ok(false);
+    };
+    let [one, two, three] = clients.as_slice() else {
+        return Ok(false);
+    };
+    let alloc = rt.alloc();
+    Ok(version == 14 && agree(alloc, one, two, 14)? && agree(alloc, one, three, 14)?)
+}
+
+#[test]
+fn uneven_lists(rt: HostRuntime) -> Result<(), Fail> {
+    assert!(rt; uneven_agree(rt)?);
     Ok(())
 }
 
@@ -136,8 +164,7 @@ fn counts<R: Threads + Wait + AllocGlobal + Copy + Send + Sync + Drop, G: Gate +
 #[test]
 fn no_lists(rt: HostRuntime) -> Result<(), Fail> {
     let work = Work {
-        nodes: 0,
-        edits: &[],
+        lists: &[],
         has_floor: false,
     };
     assert_eq!(rt; counts(rt, Bench::of(2), work, &NoGate)?, Ok((0, 0)));
@@ -147,8 +174,7 @@ fn no_lists(rt: HostRuntime) -> Result<(), Fail> {
 #[test]
 fn fails_once(rt: HostRuntime) -> Result<(), Fail> {
     let work = Work {
-        nodes: 2,
-        edits: &[Edit::Page, Edit::Page],
+        lists: &[&[Edit::Page, Edit::Page], &[Edit::Page, Edit::Page]],
         has_floor: false,
     };
     for failing in [5, 10] {
@@ -168,8 +194,7 @@ fn fails_once(rt: HostRuntime) -> Result<(), Fail> {
 #[test]
 fn refused_edit(rt: HostRuntime) -> Result<(), Fail> {
     let work = Work {
-        nodes: 1,
-        edits: &[Edit::Page, Edit::Refused, Edit::Page],
+        lists: &[&[Edit::Page, Edit::Refused, Edit::Page]],
         has_floor: false,
     };
     let gate = Counting::new();
@@ -183,8 +208,7 @@ fn copies<R: Threads + Wait + AllocGlobal + Copy + Send + Sync + Drop>(
     rt: R,
 ) -> Result<bool, Fail> {
     let work = Work {
-        nodes: 1,
-        edits: &[Edit::Page],
+        lists: &[&[Edit::Page]],
         has_floor: true,
     };
     let Ok(Ran { clients, .. }) = ended(rt, Bench::of(2), work, &NoGate)? else {

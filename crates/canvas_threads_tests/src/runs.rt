@@ -28,10 +28,8 @@ pub enum Edit {
 /// What nodes are to do at a room.
 #[derive(Clone, Copy)]
 pub struct Work {
-    /// How many nodes there are.
-    pub nodes: u32,
-    /// The edits that each of them makes.
-    pub edits: &'static [Edit],
+    /// The edits of each node.
+    pub lists: &'static [&'static [Edit]],
     /// Whether a client joins first at the room's last seat, and a checkpoint passes its entry.
     pub has_floor: bool,
 }
@@ -68,8 +66,8 @@ fn list_of(alloc: Global, edits: &[Edit]) -> Result<Vec<EditRequest>, AllocError
 // The requests of each node.
 fn lists_of(alloc: Global, work: Work) -> Result<Vec<Vec<EditRequest>>, AllocError> {
     let mut lists = Vec::new(alloc);
-    for _ in 0..work.nodes {
-        let list = list_of(alloc, work.edits)?;
+    for edits in work.lists {
+        let list = list_of(alloc, edits)?;
         lists.push(list)?;
     }
     Ok(lists)
@@ -83,7 +81,7 @@ fn makes_floor<K: Keeper + Drop, N: RoomName, Q: Wait + Drop, W: Wait>(
     let Some(seat) = seats.last_mut() else {
         return Ok(false);
     };
-    seat.submit(rt, &Request::Join)?;
+    seat.submit(rt, Request::Join)?;
     seat.tidy(rt, 0)
 }
 

@@ -5,11 +5,11 @@ use canvas_board::RoomName;
 use canvas_journal::Keeper;
 use canvas_judge::Message;
 use canvas_nodes::Answerer;
-use canvas_room::{BlankRoom, EveryEntries, Room};
+use canvas_room::{BlankRoom, Room};
 use canvas_sockets::serve_one;
 use canvas_wire::{decode, encode};
 use memory_sockets::{heard, sent, socket};
-use room_handler::{CHECKPOINT_AT, SeatAnswerer, answer};
+use room_handler::{Plain, SeatAnswerer, answer};
 use std::alloc::Global;
 use std::marker::Brand;
 use std::sync::Wait;
@@ -97,7 +97,7 @@ fn answered<K: Keeper + Drop, N: RoomName, Q: Wait + Drop, W: Wait>(
     line: &str,
 ) -> Result<Vec<Message>, Fail> {
     let message = decode(alloc, alloc, line.as_bytes())?;
-    Ok(answer(alloc, rt, seat, &message, &EveryEntries(CHECKPOINT_AT))?)
+    Ok(answer(alloc, rt, seat, message, &Plain)?)
 }
 
 // The same, noted.
@@ -254,7 +254,7 @@ fn served_at<K: Keeper + Drop, N: RoomName, Q: Wait + Drop, W: Wait + Copy + Dro
     let Some(seat) = seats.pop() else {
         return Err(Fail::from("no seat"));
     };
-    let mut answerer = SeatAnswerer::new(alloc, rt, seat);
+    let mut answerer = SeatAnswerer::new(alloc, rt, seat, Plain);
     served_by(alloc, &mut answerer, lines)
 }
 

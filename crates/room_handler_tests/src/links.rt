@@ -46,8 +46,8 @@ impl<'a> Link for Listed<'a> {
 
     ghost fails = { λ _ _ _ _. Unit {0} };
 
-    fn round(&mut self, message: &Message) -> Result<Vec<Message>, LinkError> {
-        let text = encode(self.alloc, message)?;
+    fn round(&mut self, message: Message) -> Result<Vec<Message>, LinkError> {
+        let text = encode(self.alloc, &message)?;
         self.asked.extend_from_slice(&text)?;
         self.asked.push(b'\n')?;
         let Some(answer) = self.answers.get(self.next) else {

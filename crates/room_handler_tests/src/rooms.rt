@@ -3,12 +3,12 @@ ghost use Rattle.std.specs.Prelude.{IfOk, map};
 ghost use Rattle.canvas_judge.specs.Seen.{seen_message};
 ghost use Rattle.canvas_nodes.specs.Answers.{IsAnswer, EndsAnswer};
 
-use canvas_doc::Change;
 use canvas_judge::{Entry, Message, NoReason};
 use canvas_nodes::{Answerer, answered};
 use canvas_server::{Request, Server, TakeError, Took};
 use canvas_sockets::Replier;
 use canvas_turns::{Handler, Push};
+use net_outbox::{Text, own_texts};
 use std::alloc::{AllocError, Global};
 use std::test::Fail;
 
@@ -27,7 +27,7 @@ impl Room {
     }
 
     // Takes a request and publishes its entry. Tells why it was refused, if it was.
-    fn take(&mut self, request: &Request) -> Option<NoReason> {
+    fn take(&mut self, request: Request) -> Option<NoReason> {
         let took = self.server.take(request);
         let version = self.server.version();
         if self.server.published() <= version {
@@ -42,38 +42,24 @@ impl Room {
         }
     }
 
-    fn join(&mut self) -> Result<Vec<Message>, AllocError>
-        ensures { IfOk result (λ answer. IsAnswer (map seen_message answer.items)) }
+    // What is answered once a request is taken.
+    fn told_of(&self, request: &Request) -> Message
+        ensures { EndsAnswer (seen_message result) }
     {
-        let id = self.server.state().next();
-        match self.take(&Request::Join) {
-            None => alone(self.alloc, Message::Welcome(id)),
-            Some(reason) => alone(self.alloc, Message::No(reason)),
+        match request {
+            Request::Join => Message::Welcome(self.server.state().next()),
+            Request::Edit { .. } => Message::Idle,
         }
     }
 
-    // Takes an edit. Tells why it was refused, if it was.
-    fn take_edit(
-        &mut self,
-        client: u32,
-        seq: u64,
-        change: &Change,
-    ) -> Result<Option<NoReason>, AllocError> {
-        let request = Request::Edit {
-            client,
-            seq,
-            change: change.copy_in(self.alloc)?,
-        };
-        Ok(self.take(&request))
-    }
-
-    fn edit(&mut self, client: u32, seq: u64, change: &Change) -> Result<Vec<Message>, AllocError>
+    fn submit(&mut self, request: Request) -> Result<Vec<Message>, AllocError>
         ensures { IfOk result (λ answer. IsAnswer (map seen_message answer.items)) }
     {
-        match self.take_edit(client, seq, change)? {
-            None => alone(self.alloc, Message::Idle),
-            Some(reason) => alone(self.alloc, Message::No(reason)),
+        let told = self.told_of(&request);
+        if let Some(reason) = self.take(request) {
+            return alone(self.alloc, Message::No(reason));
         }
+        alone(self.alloc, told)
     }
 
     // The entry after that version, if there is one.
@@ -121,16 +107,13 @@ fn told(alloc: Global, version: u64, entry: Entry) -> Result<Vec<Message>, Alloc
 impl Answerer for Room {
     ghost gives = { λ _ _ _ _. Unit {0} };
 
-    fn answer(&mut self, message: &Message) -> Result<Vec<Message>, AllocError> {
-        match message {
-            Message::Join => self.join(),
-            Message::Edit {
-                client,
-                seq,
-                change,
-            } => self.edit(*client, *seq, change),
-            Message::Ask { client, version } => self.tell(*client, *version),
-            _ => alone(self.alloc, Message::No(NoReason::NotRead)),
+    fn answer(&mut self, message: Message) -> Result<Vec<Message>, AllocError> {
+        if let Message::Ask { client, version } = &message {
+            return self.tell(*client, *version);
+        }
+        match Request::asked_by(message) {
+            Some(request) => self.submit(request),
+            None => alone(self.alloc, Message::No(NoReason::NotRead)),
         }
     }
 }
@@ -138,8 +121,14 @@ impl Answerer for Room {
 impl Replier for Room {
     ghost replies = { λ _ _ _ _. Unit {0} };
 
-    fn reply(&mut self, alloc: Global, bytes: &[u8]) -> Result<Vec<Vec<u8>>, NoReason> {
-        answered(alloc, self, bytes)
+    fn reply(&mut self, alloc: Global, bytes: &[u8]) -> Result<Vec<Text>, NoReason> {
+        match answered(alloc, self, bytes) {
+            Ok(texts) => match own_texts(alloc, texts) {
+                Ok(texts) => Ok(texts),
+                Err(_) => Err(NoReason::Memory),
+            },
+            Err(reason) => Err(reason),
+        }
     }
 }
 

@@ -13,9 +13,9 @@ const ENTRY: &str = "[\"entry\",1,[0,0,\"join\",[\"joined\",1]]]\n";
 fn count_over(alloc: Global, bytes: &[u8], before: u32) -> Result<usize, LinkError> {
     let mut link = SocketLink::new(alloc, socket(alloc, bytes, Role::Client));
     for _ in 0..before {
-        let _ = link.round(&Message::Join);
+        let _ = link.round(Message::Join);
     }
-    link.round(&Message::Join).map(|messages| messages.len())
+    link.round(Message::Join).map(|messages| messages.len())
 }
 
 // The same, where it sends these lines.
@@ -77,7 +77,7 @@ fn goes_on_after_no_alone(rt: HostRuntime) -> Result<(), Fail> {
 // What a round sends, where a server sends these bytes.
 fn told_over(alloc: Global, bytes: &[u8]) -> Result<Vec<u8>, LinkError> {
     let mut link = SocketLink::new(alloc, socket(alloc, bytes, Role::Client));
-    link.round(&Message::Join)?;
+    link.round(Message::Join)?;
     Ok(link.into_socket().into_inner().writer)
 }
 

@@ -9,6 +9,7 @@ use canvas_room::{BlankRoom, Lock, Room, Seat, blank_room};
 use canvas_shelf::{Call, MemShelf};
 use canvas_sockets::serve_one;
 use memory_sockets::{heard, socket};
+use room_handler::SeatAnswerer;
 use std::alloc::{AllocError, Global};
 use std::marker::Brand;
 use std::sync::Wait;
@@ -87,7 +88,8 @@ fn told_at<K: Keeper + Drop, N: RoomName, R: Wait + Copy + Drop>(
     seat: Seat<N, Lock<K, N, R>>,
     talk: Talk<'_>,
 ) -> Result<Vec<u8>, AllocError> {
-    let mut answerer = Sharing::new(alloc, rt, seat, talk.is_shared);
+    let terms = Sharing::new(talk.is_shared);
+    let mut answerer = SeatAnswerer::new(alloc, rt, seat, terms);
     told(alloc, &mut answerer, talk.sent)
 }
 

@@ -1,78 +1,84 @@
-// A seat that may answer out of a copy that is held.
-ghost use Rattle.std.specs.Prelude.{◌≡◌};
-
+// Terms on which an Ask may be answered out of a copy that is held.
 use canvas_board::RoomName;
-use canvas_journal::Keeper;
+use canvas_desk::TailLimit;
 use canvas_judge::Message;
-use canvas_nodes::{Answerer, texts_of};
-use canvas_room::{Lock, Seat};
-use room_handler::{SeatAnswerer, SharedCopy};
+use canvas_room::{Pace, Seat};
+use net_outbox::Text;
+use room_handler::{Plain, SharedCopy, Terms, ask_texts, copy_for};
 use std::alloc::{AllocError, Global};
-use std::marker::Model;
-use std::sync::Wait;
+use std::cell::Cell;
 
-/// A seat that answers clients; where it shares, each Ask that wants a copy out of one that is held. Contracts see it as its seat.
-pub struct Sharing<N: RoomName, D: Drop, W: Drop> {
-    answerer: SeatAnswerer<N, D, W>,
-    held: Option<SharedCopy<N>>,
+/// Plain terms; if they share, each Ask is answered out of a copy that is held, where one is due.
+pub struct Sharing<N: RoomName> {
+    held: Cell<Option<SharedCopy<N>>>,
     is_shared: bool,
 }
 
-impl<N: RoomName, D: Drop, W: Drop> Drop for Sharing<N, D, W> {
+impl<N: RoomName> Drop for Sharing<N> {
     fn drop(self) {
         let Sharing {
-            answerer: _,
             held: _,
             is_shared: _,
         } = self;
     }
 }
 
-impl<N: RoomName, D: Drop, W: Drop> Model for Sharing<N, D, W> {
-    ghost use Rattle.std.specs.Prelude.{List};
-    ghost use Rattle.std.specs.Coded.{codes};
-    ghost use Rattle.canvas_model.specs.Codes.{value_code};
-    ghost use Rattle.canvas_board.specs.Marks.{Mark};
-
-    ghost Value = { List Mark };
-
-    ghost coded = { Prim.hlevel (codes, value_code) };
-
-    ghost view = { λ s. s.answerer };
-}
-
-impl<N: RoomName, D: Drop, W: Drop> Sharing<N, D, W> {
-    /// This seat, which waits by `rt`, and holds no copy yet.
-    pub fn new(alloc: Global, rt: W, seat: Seat<N, D>, is_shared: bool) -> Self
-        ensures { result ≡ seat }
-    {
+impl<N: RoomName> Sharing<N> {
+    /// No copy is held yet.
+    pub fn new(is_shared: bool) -> Self {
         Sharing {
-            answerer: SeatAnswerer::new(alloc, rt, seat),
-            held: None,
+            held: Cell::new(None),
             is_shared,
         }
     }
 }
 
-impl<K: Keeper + Drop, N: RoomName, R: Wait + Drop, W: Wait + Drop> Answerer
-    for Sharing<N, Lock<K, N, R>, W> {
-    ghost use Rattle.room_handler.specs.Table.{Gives};
-
-    ghost gives = { Gives N.opening };
-
-    fn answer(&mut self, message: &Message) -> Result<Vec<Message>, AllocError> {
-        self.answerer.answer(message)
+impl<N: RoomName> Pace for Sharing<N> {
+    fn is_due(&self, kept: u64) -> bool {
+        Plain.is_due(kept)
     }
 
-    fn texts(&mut self, alloc: Global, message: &Message) -> Result<Vec<Vec<u8>>, AllocError> {
-        match message {
-            Message::Ask { client, version } if self.is_shared => self
-                .answerer
-                .ask_texts(&mut self.held, 0, *client, *version),
-            _ => {
-                let answer = self.answerer.answer(message)?;
-                texts_of(alloc, &answer)
-            }
-        }
+    fn tail(&self) -> TailLimit {
+        Plain.tail()
+    }
+}
+
+impl<N: RoomName> Terms<N> for Sharing<N> {
+    ghost use Rattle.std.specs.Prelude.{None};
+
+    ghost limit = { λ _. None };
+
+    fn is_over_limit(&self, _alloc: Global, _message: &Message) -> Result<bool, AllocError> {
+        Ok(false)
+    }
+
+    fn shares_copy(&self, _version: u64) -> bool {
+        self.is_shared
+    }
+
+    fn ask_texts<D: Drop>(
+        &self,
+        alloc: Global,
+        seat: &mut Seat<N, D>,
+        client: u32,
+        version: u64,
+    ) -> Result<Vec<Text>, AllocError> {
+        let mut held = self.held.replace(None);
+        let texts = ask_texts(alloc, seat, &mut held, 0, client, version);
+        self.held.set(held);
+        texts
+    }
+
+    fn push_copy<D: Drop>(
+        &self,
+        alloc: Global,
+        seat: &mut Seat<N, D>,
+        client: u32,
+        version: u64,
+    ) -> Result<Option<(Text, u64)>, AllocError> {
+        let mut held = self.held.replace(None);
+        let copy = copy_for(alloc, seat, &mut held, 0, client, version);
+        self.held.set(held);
+        copy
     }
 }

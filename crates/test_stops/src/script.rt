@@ -1,7 +1,8 @@
 // Scripts of a journal.
 use crate::lines::find;
 use canvas_journal::{KeepError, Keeper};
-use canvas_wire::{decode_checkpoint, decode_entry};
+use canvas_judge::Entry;
+use canvas_wire::{decode_checkpoint, decode_entry, share_entry};
 use std::alloc::Global;
 use test_cases::Text;
 
@@ -37,6 +38,21 @@ fn write_told(answer: Result<(), KeepError>, text: &mut Text) {
     }
 }
 
+// What a journal answers where an entry is appended, or made ready.
+fn take_in<K: Keeper>(
+    alloc: Global,
+    journal: &mut K,
+    entry: Entry,
+    is_staged: bool,
+) -> Result<(), KeepError> {
+    let entry = share_entry(alloc, entry)?;
+    if is_staged {
+        journal.stage(alloc, &entry)
+    } else {
+        journal.append(alloc, &entry)
+    }
+}
+
 // Appends the entry that is written so, or makes it ready, and adds what that answers.
 fn add_entry<K: Keeper>(
     alloc: Global,
@@ -46,14 +62,7 @@ fn add_entry<K: Keeper>(
     text: &mut Text,
 ) {
     match decode_entry(alloc, alloc, written.as_bytes()) {
-        Ok(entry) => {
-            let answer = if is_staged {
-                journal.stage(alloc, &entry)
-            } else {
-                journal.append(alloc, &entry)
-            };
-            write_told(answer, text);
-        }
+        Ok(entry) => write_told(take_in(alloc, journal, entry, is_staged), text),
         Err(_) => text.push_str(" unreadable"),
     }
 }

@@ -2,7 +2,6 @@
 use canvas_board::{Receipt, RoomName};
 use canvas_desk::SubmitError;
 use canvas_journal::Keeper;
-use canvas_judge::Message;
 use canvas_room::{Lock, Room, Seat};
 use canvas_server::Request;
 use canvas_wire::{WireError, decode};
@@ -13,24 +12,11 @@ use test_cases::Text;
 /// A seat of a room.
 pub type SeatOf<K, N, Q> = Seat<N, Lock<K, N, Q>>;
 
-// What a message asks, if it asks the server for something.
-fn request_in(message: Message) -> Option<Request> {
-    if matches!(&message, Message::Join) {
-        return Some(Request::Join);
-    }
-    let (client, seq, change) = message.into_edit()?;
-    Some(Request::Edit {
-        client,
-        seq,
-        change,
-    })
-}
-
 // Adds what a text asks, if it is a message that asks the server for something.
 fn add_request(alloc: Global, text: &[u8], requests: &mut Vec<Request>) -> Result<(), AllocError> {
     match decode(alloc, alloc, text) {
         Ok(message) => {
-            if let Some(request) = request_in(message) {
+            if let Some(request) = Request::asked_by(message) {
                 requests.push(request)?;
             }
             Ok(())
@@ -102,13 +88,15 @@ fn write_requests<K: Keeper + Drop, N: RoomName, Q: Wait + Drop, W: Wait>(
     rt: &W,
     room: &Room<K, N, Q>,
     seat: &mut SeatOf<K, N, Q>,
-    requests: &[Request],
+    mut requests: Vec<Request>,
     text: &mut Text,
 ) {
-    match requests {
-        [] => text.push_str(" unreadable"),
-        [request] => write_answer(&seat.submit(rt, request), text),
-        _ => write_batch(rt, room, requests, text),
+    if requests.len() > 1 {
+        return write_batch(rt, room, &requests, text);
+    }
+    match requests.pop() {
+        Some(request) => write_answer(&seat.submit(rt, request), text),
+        None => text.push_str(" unreadable"),
     }
 }
 
@@ -152,7 +140,7 @@ pub fn write_step<K: Keeper + Drop, N: RoomName, Q: Wait + Drop, W: Wait>(
         return write_read(alloc, two, text);
     }
     match requests_of(alloc, line) {
-        Ok(requests) => write_requests(rt, room, one, &requests, text),
+        Ok(requests) => write_requests(rt, room, one, requests, text),
         Err(_) => text.refuse(),
     }
 }

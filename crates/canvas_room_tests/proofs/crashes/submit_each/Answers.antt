@@ -7,7 +7,16 @@ loop-request-preserved g c =
     let inv = c.loop-request.invariant in
     let told = c.submit-answer.ensures in
     record {
-      calls = (seen_request c.request-item.result ∷ []) ∷ inv.calls;
+      calls = (seen_request c.in-Some.request ∷ []) ∷ inv.calls;
+      run = (c.loop-request.desk, inv.run, inl (record { stays_failed = told.failed; stays_honest = told.honest; crash = told.crash }));
+    }
+
+pub loop-request-preserved-in-Some : goal.loop-request-preserved-in-Some
+loop-request-preserved-in-Some g c =
+    let inv = c.loop-request.invariant in
+    let told = c.submit-answer.ensures in
+    record {
+      calls = (seen_request c.in-Some.request ∷ []) ∷ inv.calls;
       run = (c.loop-request.desk, inv.run, inl (record { stays_failed = told.failed; stays_honest = told.honest; crash = told.crash }));
     }
 
