@@ -1,12 +1,14 @@
 """The groups of clients that break the protocol, or don't read. In each, two other clients measure how late edits arrive (peers.py)."""
 
+import contextlib
 import random
+import select
 import socket
 import threading
 import time
 
 import shared
-from peers import BROKEN, LIMIT, MIB, SILENT, SLOW, TOO_LARGE, Peer, cheap_frame, edit_frame, until, watched
+from peers import BROKEN, LIMIT, MIB, PROGRAM, SILENT, SLOW, TOO_LARGE, Peer, cheap_frame, edit_frame, until, watched
 from shared import framed, require, text_of
 
 # The bounds are kilobytes that the server may take more.
@@ -227,7 +229,8 @@ def deaf(room):
     notes = []
     with watched(room, notes, SMALL) as server:
         peer = Peer(server, room=4096).begin()
-        data = b"".join(edit_frame(peer.name, number, ["set", [0, 0], "deaf", f"{number:0100}"]) for number in range(1, EDITS + 1))
+        # Some thousand of these fill what the system keeps of the answers and pushes to this client.
+        data = b"".join(edit_frame(peer.name, number, ["set", [0, 0], "deaf", f"{number:0500}"]) for number in range(1, EDITS + 1))
         begun = time.monotonic()
         took_all = peer.push_bytes(data)
         until(lambda: server.ended(SLOW) == 1, "the connection of a client that reads nothing doesn't end")
@@ -271,6 +274,25 @@ VALUES = 8
 COPIED = 5 * 3 * VALUES * len(VALUE) // 1024 + SMALL
 
 
+@contextlib.contextmanager
+def sipping(peers, count, pause):
+    """Meanwhile these clients read so many bytes at a time, with this pause between."""
+    stop = threading.Event()
+
+    def sip(peer):
+        peer.socket.settimeout(1)
+        while not stop.wait(pause):
+            with contextlib.suppress(OSError):
+                peer.socket.recv(count)
+
+    for peer in peers:
+        threading.Thread(target=sip, args=(peer,), daemon=True).start()
+    try:
+        yield
+    finally:
+        stop.set()
+
+
 def trickle(room):
     notes = []
     with watched(room, notes, COPIED) as server:
@@ -283,33 +305,21 @@ def trickle(room):
         for peer in peers:
             peer.name = peer.join()
             peer.socket.sendall(b"".join(cheap_frame(text_of(["ask", peer.name, 0]).encode()) for _ in range(10)))
-        begun, stop = time.monotonic(), threading.Event()
-
-        def sip(peer):
-            peer.socket.settimeout(1)
-            while not stop.wait(1):
-                try:
-                    peer.socket.recv(1)
-                except OSError:
-                    pass
-
-        threads = [threading.Thread(target=sip, args=(peer,), daemon=True) for peer in peers]
-        for thread in threads:
-            thread.start()
-        other = Peer(server)
-        answer = other.ask("ask", other.join(), 0)
-        waited = time.monotonic() - begun
-        require(answer[0][0] == "copy" or len(answer) > VALUES, "another client than the slow readers is answered", answer[-1])
-        other.leave()
-        until(lambda: server.ended(SLOW) == 4, "the connection of a client that reads a byte a second doesn't end")
-        seconds = time.monotonic() - begun
-        stop.set()
+        begun = time.monotonic()
+        with sipping(peers, 1, 1):
+            other = Peer(server)
+            answer = other.ask("ask", other.join(), 0)
+            waited = time.monotonic() - begun
+            require(answer[0][0] == "copy" or len(answer) > VALUES, "another client than the slow readers is answered", answer[-1])
+            other.leave()
+            until(lambda: server.ended(SLOW) == 4, "the connection of a client that reads a byte a second doesn't end")
+            seconds = time.monotonic() - begun
         until(lambda: server.metric("clients") == 2, "a seat isn't free again")
         require(server.ended() == 6, "other connections have ended too")
     return f"4 clients that read a byte a second are disconnected after {seconds:.0f} s; another one has its copy after {waited:.1f} s; {notes[0]}"
 
 
-BUSY_IDLE, BUSY = 3, 8
+BUSY_IDLE, BUSY = 6, 14
 
 
 def busy(room):
@@ -399,4 +409,205 @@ def slow(room):
             f"(at most {1000 * max(beside):.0f}), {mean[1]:.0f} before (at most {1000 * max(alone):.0f}); {notes[0]}")
 
 
-GROUPS = (garbage, words, counts, large, silent, deaf, pings, trickle, busy, resets, slow)
+# The document of the groups below has 10 MB, and a copy of it as many.
+ROWS, ROW = 100, 100_000
+COPY = ROWS * ROW // 1024
+# What all connections together may have waiting, and each one besides.
+POOL, EACH = 64 * 1024, 512
+# Seconds within which a client has its copy that waits for nobody, and by which edits of others may arrive later, on a machine that may be busy.
+SOON, LATER = 5, 0.25
+
+
+def imported(room, rows, size):
+    """Makes a folder that holds a document of so many objects, each with a text of this size."""
+    lines = ['[[0,0],"document",null,[]]']
+    lines += [text_of([[1, number], "page", [[0, 0], f"{number:06d}O"], [["text", "x" * size]]]) for number in range(1, rows + 1)]
+    shared.call(PROGRAM, "import", room, text="\n".join(lines).encode())
+
+
+def own_copy(server):
+    """Has another client join and ask for a copy, which no client had before. Returns the client, and the seconds until it had its copy."""
+    begun, peer = time.monotonic(), Peer(server)
+    answer = peer.ask("ask", peer.join(), 0)
+    require(answer[-1] == ["idle"] and answer[0][0] == "copy" and len(answer[0][3]) == ROWS + 1, "a client that asks for a copy is answered", answer[-1])
+    return peer, time.monotonic() - begun
+
+
+def next_copy(server):
+    """Another client has a copy of its own soon, and leaves. Returns the seconds."""
+    peer, seconds = own_copy(server)
+    require(seconds < SOON, "another client has its copy only after", seconds, "s")
+    peer.leave()
+    return seconds
+
+
+# The text of eight clients, that of the ninth, and the state that it is written from.
+NINTH = 3 * COPY + SMALL
+
+
+def ninth(room):
+    notes = []
+    imported(room, ROWS, ROW)
+    with watched(room, notes, NINTH, most_later=LATER) as server:
+        peers = [Peer(server, room=4096) for _ in range(8)]
+        for peer in peers:
+            peer.name = peer.join()
+        begun = time.monotonic()
+        for peer in peers:
+            peer.say("ask", peer.name, 0)
+        for peer in peers:
+            peer.socket.recv(1)
+        with sipping(peers, 1, 1):
+            waited = next_copy(server)
+            require(server.ended(SLOW) == 0, "a client has its copy only once slow readers have been disconnected")
+            until(lambda: server.ended(SLOW) == 8, "the connection of a client that reads a byte a second doesn't end")
+            seconds = time.monotonic() - begun
+        until(lambda: server.metric("clients") == 2, "a seat isn't free again")
+        again = next_copy(server)
+    return (f"8 clients read a byte a second of their copies of {COPY / 1024:.0f} MB, and are disconnected after {seconds:.0f} s; a ninth one has its own copy after "
+            f"{waited:.1f} s, one more afterwards after {again:.1f} s; {notes[0]}")
+
+
+IDLERS = 12
+# The copy that is written, the one before, and the state that it is written from.
+RESTING = 3 * COPY + SMALL
+
+
+def resting(room):
+    """Nothing of a copy is kept once it is sent: neither its memory nor its place among what all connections may have waiting."""
+    notes, peers, waited = [], [], []
+    imported(room, ROWS, ROW)
+    with watched(room, notes, RESTING, most_later=LATER) as server:
+        for _ in range(IDLERS):
+            peer, seconds = own_copy(server)
+            require(seconds < SOON, "with", len(peers), "idle clients that have their copies another one has its copy only after", seconds, "s")
+            peers.append(peer)
+            waited.append(seconds)
+        require(server.ended() == 0 and server.metric("clients") == 2 + IDLERS, "a connection of an idle client has ended")
+        for peer in peers:
+            peer.leave()
+    return f"each of {IDLERS} clients that stay has a copy of its own after at most {max(waited):.1f} s; {notes[0]}"
+
+
+HOARDERS = 16
+# The texts that are counted, the last one, and the state that it is written from.
+HOARDED = POOL + HOARDERS * EACH + 2 * COPY + SMALL
+
+
+def is_told_full(peer):
+    """Checks whether a client that reads nothing was answered No 7."""
+    with contextlib.suppress(OSError):
+        return b'["no",7]' in peer.socket.recv(64, socket.MSG_PEEK | socket.MSG_DONTWAIT)
+    return False
+
+
+def hoarders(room):
+    notes, peers = [], []
+    imported(room, ROWS, ROW)
+    with watched(room, notes, HOARDED, most_later=LATER) as server:
+        begun = time.monotonic()
+        for _ in range(HOARDERS):
+            peer = Peer(server, room=4096)
+            peer.say("ask", peer.join(), 0)
+            # The next one joins after this one's copy was made, unless there is no room for it.
+            select.select([peer.socket], [], [], 1)
+            peers.append(peer)
+        until(lambda: server.ended(SLOW) + sum(map(is_told_full, peers)) == HOARDERS, "the connection of a client that reads nothing doesn't end")
+        seconds, full = time.monotonic() - begun, sum(map(is_told_full, peers))
+        require(0 < full <= HOARDERS - POOL // COPY, "of", HOARDERS, "clients that read nothing of their copies are answered No 7", full)
+        for peer in peers:
+            peer.reset()
+        until(lambda: server.metric("clients") == 2, "a seat isn't free again")
+        again = next_copy(server)
+    return (f"of {HOARDERS} clients that read nothing of their copies {full} are answered No 7, and the others are disconnected within {seconds:.0f} s; another one "
+            f"has its copy then after {again:.1f} s; {notes[0]}")
+
+
+BIG_ROWS, BIG_EDITS, WAITING = 24, 16, 4
+SLOW_SPAN = 8  # seconds within which a reader must take enough
+# What all may have waiting; the entries on both sides of the board and in the history; an answer, as text and as output.
+FILLED = POOL + (3 + 2) * 1000 * BIG_EDITS + SMALL
+
+
+def big_entries(server):
+    """Has a client make edits of 1 MB. Returns the version before them, and the bytes of an answer to a client at this version."""
+    author, text = Peer(server).begin(), "b" * 1_000_000
+    for number in range(1, BIG_EDITS + 1):
+        author.edit(number, "set", [0, 0], "big", text)
+    require(author.answers(BIG_EDITS) == [["idle"]] * BIG_EDITS, "an edit of 1 MB isn't judged")
+    end = time.monotonic() + LIMIT
+    while author.done < BIG_EDITS:
+        require(time.monotonic() < end, "of", BIG_EDITS, "edits the entries came up to", author.done)
+        author.read(1)
+    version = next(message[1] for message in author.told if message[2][0] == author.name) - 1
+    author.leave()
+    other = Peer(server)
+    answer = other.ask("ask", other.join(), version)
+    require(answer[0][0] == "entry" and answer[-1] == ["idle"], "a client is answered", answer[0][0], answer[-1])
+    other.leave()
+    return version, sum(len(text_of(message)) for message in answer)
+
+
+def ask_beside(server, version, found):
+    """A client asks from this version. Adds the end of its answer and the seconds to `found`."""
+    peer = Peer(server)
+    name, begun = peer.join(), time.monotonic()
+    end = peer.ask("ask", name, version)[-1]
+    found.append((end, time.monotonic() - begun))
+    peer.leave()
+
+
+def filled(room):
+    notes, found = [], []
+    imported(room, BIG_ROWS, 1_000_000)
+    with watched(room, notes, FILLED, most_later=LATER) as server:
+        version, size = big_entries(server)
+        holders = [Peer(server, room=4096) for _ in range(POOL * 1024 // size)]
+        for peer in holders:
+            peer.say("ask", peer.join(), version)
+            peer.socket.recv(1)
+        with sipping(holders, 4096, 0.25):
+            time.sleep(SLOW_SPAN + 1)
+            require(server.ended(SLOW) == 0, "a client that reads 16 kB a second is disconnected, and no other one waits")
+            more = [threading.Thread(target=ask_beside, args=(server, version, found)) for _ in range(WAITING + 1)]
+            for thread in more:
+                thread.start()
+            for thread in more:
+                thread.join(LIMIT)
+        noes, served = ([seconds for end, seconds in found if end == wanted] for wanted in (["no", 7], ["idle"]))
+        require(len(noes) == 1 and len(served) == WAITING, "of", WAITING + 1, "clients for whose answers there is no room, the answers end with", found)
+        require(noes[0] < SOON and max(served) < 3 * SLOW_SPAN, "clients for whose answers there is no room are answered after", noes, served, "s")
+        require(0 < server.ended(SLOW) <= len(holders), "of", len(holders), "slow readers were disconnected", server.ended(SLOW))
+        for peer in holders:
+            peer.reset()
+        until(lambda: server.metric("clients") == 2, "a seat isn't free again")
+    return (f"{len(holders)} clients that read 16 kB a second hold answers of {size / 1e6:.1f} MB; of {WAITING + 1} more one is answered No 7 after {noes[0]:.2f} s, and the "
+            f"others are served after {min(served):.1f} to {max(served):.1f} s; {notes[0]}")
+
+
+BURST = 40
+# What all may have waiting, as text and as output; the entries on both sides of the board and in the history.
+BURSTS = 2 * POOL + 3 * 1000 * BIG_EDITS + SMALL
+
+
+def burst(room):
+    """An answer takes its place among what all may have waiting before its text is written."""
+    notes = []
+    imported(room, BIG_ROWS, 1_000_000)
+    with watched(room, notes, BURSTS) as server:
+        version, size = big_entries(server)
+        peers = [Peer(server, room=4096) for _ in range(BURST)]
+        for peer in peers:
+            peer.name = peer.join()
+        for peer in peers:
+            peer.say("ask", peer.name, version)
+        until(lambda: server.ended(SLOW) + sum(map(is_told_full, peers)) == BURST, "of clients that ask at once not all are answered No 7, or disconnected")
+        full = sum(map(is_told_full, peers))
+        require(full > 0, "of", BURST, "clients that ask for", size, "bytes none is answered No 7")
+        for peer in peers:
+            peer.reset()
+        until(lambda: server.metric("clients") == 2, "a seat isn't free again")
+    return f"of {BURST} clients that ask at once for answers of {size / 1e6:.1f} MB {full} are answered No 7, and the others are disconnected; {notes[0]}"
+
+
+GROUPS = (garbage, words, counts, large, silent, deaf, pings, trickle, busy, resets, slow, ninth, resting, hoarders, filled, burst)

@@ -246,8 +246,9 @@ class Watch:
                     seen = max(seen, dict((name, value) for name, value in message[3][0][3])["count"])
             self.looker.told.clear()
 
-    def end(self, most_kilobytes):
-        """Waits until the second client has received all edits, and checks how much memory the server took more. Returns a sentence about both."""
+    def end(self, most_kilobytes, most_later):
+        """Waits until the second client has received all edits, and checks how much memory the server took more, and how many seconds later edits arrived,
+        by the median, if there is a bound. Returns a sentence about both."""
         self.stops_writing.set()
         for thread in self.threads:
             thread.join(LIMIT)
@@ -256,6 +257,9 @@ class Watch:
         require(not any(thread.is_alive() for thread in self.threads), "an edit doesn't arrive")
         took = self.server.peak() - self.memory
         require(took < most_kilobytes, "the server took", took, "kB more, and may take", most_kilobytes)
+        if most_later is not None:
+            later = statistics.median(self.late) - statistics.median(self.base)
+            require(later < most_later, "edits arrive", later, "s later, by the median, than before")
         return f"at most {took / 1024:.1f} MB more; edits arrive after {spread(self.late)} ms, before that {spread(self.base)}"
 
 
@@ -266,13 +270,14 @@ def spread(late):
 
 
 @contextlib.contextmanager
-def watched(room, notes, most_kilobytes, *options):
-    """A server with two clients that measure. It may take this much more memory. The sentence about both goes to `notes`."""
+def watched(room, notes, most_kilobytes, *options, most_later=None):
+    """A server with two clients that measure. It may take this much more memory, and edits may arrive so many seconds later, by the median. The sentence
+    about both goes to `notes`."""
     server = Server(room, *options)
     try:
         watch = Watch(server)
         yield server
-        notes.append(watch.end(most_kilobytes))
+        notes.append(watch.end(most_kilobytes, most_later))
     except Exception as fault:
         raise Wrong(f"{type(fault).__name__}: {fault}; the server's log ends with {server.text().splitlines()[-4:]}") from fault
     server.kill()

@@ -16,10 +16,15 @@ all groups are run.
 - busy: a client sends without a pause for longer than --idle, and isn't silent.
 - resets: connections are reset with edits under way; the edits that were judged are the first ones.
 - slow: 20 live clients read nothing while another one sends batches of 20 edits of 200 kB.
+- ninth: eight clients read a byte a second of their copies of 10 MB; a ninth one joins, and has its own copy.
+- resting: twelve clients, one after the other, join, have copies of 10 MB of their own, and stay.
+- hoarders: sixteen clients join, ask for copies of 10 MB, and read nothing.
+- filled: slow readers hold answers of 64 MiB; of five more that ask one is answered No 7, and the others once slow readers are disconnected.
+- burst: forty clients ask for answers of 16 MB at once, and read nothing.
 
 All but storm also bound the server's memory, and report the milliseconds after which edits of one other client arrive at another (median, 95th percentile),
-with the hostile clients and before. The storm needs Debian's python3-websockets. Without liblugcurrant.so or canvas.wasm its clients are stand-ins, as
-its line says.
+with the hostile clients and before; ninth, resting, hoarders and filled bound how much later they arrive. The storm needs Debian's python3-websockets. Without
+liblugcurrant.so or canvas.wasm its clients are stand-ins, as its line says.
 
 Prints a line for each group and each go, and exits with 1 if one failed."""
 
