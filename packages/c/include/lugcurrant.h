@@ -44,8 +44,11 @@ typedef struct lugcurrant_object_id {
 
 /* api.json: begin */
 /* Written by packages/generate out of api.json: change that. */
+/* The version of this header, as all packages have it. */
 #define LUGCURRANT_VERSION "0.1.0"
+/* The same as one number: the major one by 10,000, the minor one by 100, and the last. */
 #define LUGCURRANT_VERSION_NUMBER 100
+/* The version of the messages, as a Join has it (docs/wire.md). */
 #define LUGCURRANT_WIRE 2
 
 /* The kinds of objects. Pages stand in the root, frames in pages and frames, shapes and texts in both. */
@@ -271,10 +274,12 @@ uint32_t lugcurrant_create(lugcurrant_client *client, uint32_t kind, uint32_t pa
 uint32_t lugcurrant_create_at(lugcurrant_client *client, uint32_t kind, uint32_t parent_client, uint32_t parent_counter,
                               const uint8_t *position, size_t length, lugcurrant_object_id *made);
 
-/* The same behind all children of the parent, or before them: 41 million fit one behind the other, where lugcurrant_create fills up after
- * some 800. DONE, NO_KIND, the refusals of an edit, NO_CLIENT. */
+/* The same after all children of the parent: 41 million fit one after the other, and after some 800 lugcurrant_create has no room. DONE,
+ * NO_KIND, the refusals of an edit, NO_CLIENT. */
 uint32_t lugcurrant_create_last(lugcurrant_client *client, uint32_t kind, uint32_t parent_client, uint32_t parent_counter,
                                 lugcurrant_object_id *made);
+
+/* The same before all children of the parent. DONE, NO_KIND, the refusals of an edit, NO_CLIENT. */
 uint32_t lugcurrant_create_first(lugcurrant_client *client, uint32_t kind, uint32_t parent_client, uint32_t parent_counter,
                                  lugcurrant_object_id *made);
 
@@ -292,12 +297,16 @@ uint32_t lugcurrant_clear(lugcurrant_client *client, uint32_t object_client, uin
 uint32_t lugcurrant_move(lugcurrant_client *client, uint32_t object_client, uint32_t object_counter, uint32_t parent_client,
                          uint32_t parent_counter, uint32_t after_client, uint32_t after_counter);
 
-/* The same to the position of these bytes, or behind or before all other children of the parent. DONE, POSITION_* of the first, the
- * refusals of an edit, NO_CLIENT. */
+/* The same to the position of these bytes, which no other child of the parent may have. DONE, POSITION_*, the refusals of an edit,
+ * NO_CLIENT. */
 uint32_t lugcurrant_move_at(lugcurrant_client *client, uint32_t object_client, uint32_t object_counter, uint32_t parent_client,
                             uint32_t parent_counter, const uint8_t *position, size_t length);
+
+/* The same to the place after all other children of the parent. DONE, the refusals of an edit, NO_CLIENT. */
 uint32_t lugcurrant_move_last(lugcurrant_client *client, uint32_t object_client, uint32_t object_counter, uint32_t parent_client,
                               uint32_t parent_counter);
+
+/* The same to the place before all other children of the parent. DONE, the refusals of an edit, NO_CLIENT. */
 uint32_t lugcurrant_move_first(lugcurrant_client *client, uint32_t object_client, uint32_t object_counter, uint32_t parent_client,
                                uint32_t parent_counter);
 

@@ -47,7 +47,6 @@ NOT_FOR_ME = 53
 IDLE = 54
 NO = 60
 
-# Why a call did nothing: by its number a code, and a sentence.
 FAULTS: dict[int, tuple[str, str]] = {
     1: ("NotOpen", "the server has not given this client an id yet"),
     2: ("NotShown", "the object is not shown any more"),
@@ -80,6 +79,7 @@ FAULTS: dict[int, tuple[str, str]] = {
     45: ("NotAClient", "this is no saved client"),
     46: ("Inconsistent", "no client waits with these edits"),
 }
+"""By its number why a call did nothing: a code, and a sentence."""
 
 NO_REASONS: dict[int, tuple[str, str]] = {
     1: ("stranger", "the server does not know this client"),
@@ -92,6 +92,7 @@ NO_REASONS: dict[int, tuple[str, str]] = {
     8: ("too large", "the edit is too large for the server"),
     9: ("unreadable", "the server can not read what was sent"),
 }
+"""By its number the reason of a No: a name, and a sentence."""
 
 REFUSALS: dict[int, tuple[str, str]] = {
     1: ("IsRoot", "the document itself can not be moved or deleted"),
@@ -103,6 +104,7 @@ REFUSALS: dict[int, tuple[str, str]] = {
     7: ("Crowded", "there is no room left at this place"),
     8: ("TooDeep", "objects stand at most 100 deep"),
 }
+"""By its number why the server refused an edit: a name, and a sentence."""
 
 
 class What(Enum):

@@ -78,7 +78,10 @@ class _Anew:
 
 class Flow:
     """The state machine of a link. `outgoing` gives the messages to send, `due` the seconds after which it may have more, `hear` takes what
-    came; `events` has what came of it."""
+    came; `events` has what came of it, until the program takes it out.
+
+    `client` is the client that it sends and hears for, `state` where the link stands, and `words` why. Up to `window` edits, or `window_bytes` of them,
+    are under way at once, and `asks` asks, or `most_asks` while it catches up; `least_pause` and `most_pause` bound the seconds between two asks."""
 
     def __init__(self, client: Client, window: int = 64, window_bytes: int = 262144, asks: int = 4, most_asks: int = 32,
                  least_pause: float = 0.005, most_pause: float = 0.4, second: float = 1.0, beat: float | None = None) -> None:  # fmt: skip
@@ -92,8 +95,8 @@ class Flow:
         self.tried = client.last_edit  # the same of one that may have been judged without an answer: sent over a connection that was lost, or before
         self.state = State.CONNECTING
         self.words = ""
-        self.fifo: list[_Sent] = []
-        self.anew: _Anew | None = None
+        self.fifo: list[_Sent] = []  # what is under way, in order
+        self.anew: _Anew | None = None  # how far it is with beginning anew
         self.dropping = 0  # the reason of the No for which an edit must be replaced, or 0
         self.dropped = 0  # the number of that edit
         self.emptied = 0  # the number of the last one that was replaced

@@ -48,7 +48,7 @@ class Shelf(Protocol):
 
 
 class FileShelf:
-    """A shelf in a file, the same as in JavaScript; with a lock on the file `.lock` beside it."""
+    """A shelf in the file `path`, the same as in JavaScript; with a lock on the file `.lock` beside it."""
 
     def __init__(self, path: str | os.PathLike[str]) -> None:
         self.path = Path(path)
@@ -108,7 +108,7 @@ class FileShelf:
 
 
 class Kept:
-    """Keeps a client on a shelf."""
+    """Keeps a client on a shelf. `fault` is why nothing is kept any more, or why not all could be read; None while all is well."""
 
     def __init__(self, shelf: Shelf) -> None:
         self._shelf: Shelf | None = shelf

@@ -15,7 +15,7 @@ class LibraryMissing(ImportError):
 
 
 class ClientError(Exception):
-    """Why a call did nothing: `code` is the name, as in all languages, and the message says it in words. Nothing has changed."""
+    """Why a call did nothing: `code` is the name, as in all languages, `number` the number, as in C, and `words` a sentence. Nothing has changed."""
 
     def __init__(self, number: int) -> None:
         self.code, words = FAULTS.get(number, ("Unknown", f"the library answered {number}"))

@@ -37,7 +37,14 @@ def _websockets() -> Any:
 class Link:
     """Joins a client to a server. It runs in `async with`, or by `run`. The client may be edited at any time, online or not; edits are sent by
     themselves. `document` is the identity where it is known, or False to go without the guard; `follow` begins anew where the server has another
-    document; `kept` keeps the client before an edit is sent. The callbacks are called in the event loop."""
+    document; `kept` keeps the client before an edit is sent.
+
+    The link has the `client`, the server's `url` with a slash at its end, its `state` and why in `words`, and the `document` once it is known.
+
+    The callbacks are called in the event loop: `state` with the link if its state or words are others, `changed` with True after own edits and with
+    False after a message of the server, `refused` with the `number`, `edit`, `id`, `name` and `words` of an edit that the server refused, `anew` with
+    `made`, `lost`, `unsure` and `ids` after the client has become another one. A lost connection is made again after `retry` seconds, then after twice
+    as long, up to `most_retry`; one without a message for `patience` seconds, while an answer is awaited, is given up. The rest is passed to `Flow`."""
 
     def __init__(self, client: Client, url: str = "ws://127.0.0.1:7411/", *, document: str | bool | None = None, follow: bool = False, kept: Kept | None = None,
                  state: Callable[["Link"], None] | None = None, changed: Callable[[bool], None] | None = None,

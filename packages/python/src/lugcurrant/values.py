@@ -22,6 +22,7 @@ class ObjectId(NamedTuple):
 
 
 ROOT = ObjectId(0, 0)
+"""The id of the document itself, `0:0`."""
 
 
 @dataclass(frozen=True)
@@ -45,8 +46,8 @@ class Colour:
         return f"#{self.rgba:08x}"
 
 
-# What a property holds: a whole number, a truth value, a text, a colour, or a list of values.
 Value = Union[int, bool, str, Colour, list["Value"]]
+"""What a property holds: a whole number, a truth value, a text, a colour, or a list of values."""
 
 
 def value_text(value: Value) -> str:
