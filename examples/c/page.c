@@ -126,6 +126,9 @@ static void print_tree(struct page *page)
 int main(int count, char **words)
 {
     struct page page = {0};
+    char room[160];
+    const char *fault = lugcurrant_library_fault(room, sizeof room);
+    require(fault == NULL, fault);
     require(count == 2, "the port is missing");
     require(lugcurrant_new(&page.client) == LUGCURRANT_DONE, "out of memory");
     page.flow = lugcurrant_flow_new(&page.client, NULL);

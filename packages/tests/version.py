@@ -2,8 +2,10 @@
 """version.py: tries that one version is in all packages, and that a library or module of another version is refused. Needs a C compiler and node.
 
 - Each place of the version gets another one in a copy of the packages: `generate --check` names the file, and `generate` mends it.
-- Shared libraries of empty calls, with the version, with others and without one, are loaded from Python and from C.
-- WebAssembly modules without calls, with the same versions as sections, are loaded from JavaScript."""
+- Shared libraries of empty calls, with the version, with others and without one, are loaded from Python and from C, there also for a flow.
+- WebAssembly modules without calls, with the same versions as sections, are loaded from JavaScript.
+
+Loaded is one of the same major and minor version. Any other is refused by a sentence that has both versions."""
 
 import json
 import os
@@ -65,7 +67,7 @@ def differences():
 def library(version):
     """A shared library of empty calls with this version, made by packages/c/version.c and the header."""
     source, out, include = ROOM / "calls.c", ROOM / f"calls-{version}.so", ROOM / f"include-{version}"
-    include.mkdir()
+    include.mkdir(exist_ok=True)
     header = (HERE / "c/include/lugcurrant.h").read_text()
     if version:
         major, minor, patch = version.split(".")
@@ -84,17 +86,54 @@ def refusal(path):
         return str(fault)
 
 
+USES = """
+#include <lugcurrant_flow.h>
+int main(void)
+{
+    char room[160], little[12];
+    const char *fault = lugcurrant_library_fault(room, sizeof room);
+    lugcurrant_client client = {0};
+    lugcurrant_flow *flow = lugcurrant_flow_new(&client, NULL);
+    int agrees = (fault == NULL) == (flow != NULL) && (fault == NULL) == LUGCURRANT_LIBRARY_MATCHES();
+    lugcurrant_flow_free(flow);
+    if (fault != NULL)
+        printf("%s\\n%s", fault, lugcurrant_library_fault(little, sizeof little));
+    return !agrees ? 4 : fault != NULL ? 3 : 0;
+}
+"""
+
+
+def program():
+    """A program in C that says whether it takes the library that it loads, and whether a flow does."""
+    (ROOM / "uses.c").write_text(USES)
+    sources = [ROOM / "uses.c", *(HERE / "c/src").glob("*.c")]
+    subprocess.run(["cc", "-std=c11", "-Wall", "-Wextra", "-Wpedantic", "-Werror", f"-I{HERE}/c/include", "-o", ROOM / "uses", *sources, library(VERSION)], check=True)
+    return ROOM / "uses"
+
+
+def taken_by_c(program, path, version):
+    """Whether the program takes this library; the sentence if not, or the loader's."""
+    os.replace(path, ROOM / f"calls-{VERSION}.so")          # the name that it was linked with
+    done = run(program)
+    if version is None:
+        assert done.returncode == 127 and "lugcurrant_library_version" in done.stderr, done
+        return False, f"no version, and this program {VERSION}"
+    sentence, _, cut = done.stdout.partition("\n")
+    assert done.returncode in (0, 3) and sentence[:11] == cut, done
+    return done.returncode == 0, sentence
+
+
 def libraries():
-    (ROOM / "x.c").write_text('#include <lugcurrant.h>\nint main(void) { return LUGCURRANT_LIBRARY_MATCHES() ? 0 : 3; }\n')
+    uses = program()
     for version in [*SAME, *OTHERS, None]:
-        path, isSame = library(version), version in SAME
+        path, found = library(version), f"version {version}" if version else "no version"
         fault = refusal(path)
-        assert (fault is None) == (isSame or version is None), (version, fault)
-        assert fault is None or f"it has version {version}, and this package {VERSION}" in fault and path.name in fault, fault
-        if version:
-            subprocess.run(["cc", "-std=c11", "-Wall", "-Wextra", "-Wpedantic", "-Werror", f"-I{HERE}/c/include", "-o", ROOM / "x", ROOM / "x.c", path, f"-Wl,-rpath,{ROOM}"], check=True)
-            assert run(ROOM / "x").returncode == (0 if isSame else 3), version
-    return 2 * len(SAME + OTHERS) + 1
+        assert (fault is None) == (version in SAME), (version, fault)
+        assert fault is None or f"it has {found}, and this package version {VERSION}; " in fault and path.name in fault, fault
+        is_taken, sentence = taken_by_c(uses, path, version)
+        assert is_taken == (version in SAME), (version, sentence)
+        assert is_taken or f"{found}, and this program {VERSION}" in sentence, sentence
+    return 2 * len(SAME + OTHERS) + 2
 
 
 def modules():
@@ -108,8 +147,9 @@ def modules():
     said = run("node", ROOM / "loads.mjs", *paths).stdout.splitlines()
     assert len(said) == len(paths), said
     for version, words in zip([*SAME, *OTHERS, None], said):
-        assert (f"it has version {version}, and this package {VERSION}" in words) == (version in OTHERS), (version, words)
-        assert version in OTHERS or "is not a function" in words, words  # the module has no calls
+        found = f"version {version}" if version else "no version"
+        assert (f"cannot use canvas.wasm: it has {found}, and this package version {VERSION}; " in words) == (version not in SAME), (version, words)
+        assert version not in SAME or "is not a function" in words, words  # the module has no calls
     return len(paths)
 
 

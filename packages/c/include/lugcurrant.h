@@ -25,6 +25,7 @@
 
 #include <stddef.h>
 #include <stdint.h>
+#include <stdio.h>
 
 #ifdef __cplusplus
 extern "C" {
@@ -229,6 +230,18 @@ uint32_t lugcurrant_library_version(void);
 
 /* Checks whether the library that is loaded and this header are of one version: their major and minor numbers are the same. */
 #define LUGCURRANT_LIBRARY_MATCHES() (lugcurrant_library_version() / 100 == LUGCURRANT_VERSION_NUMBER / 100)
+
+/* Returns null if they are of one version, else a sentence that says why the library can't be used: it is written into `room`, and cut if it has more
+ * than `size` bytes with its zero. 160 are enough. Call it first: another version may have other calls and numbers. */
+static inline const char *lugcurrant_library_fault(char *room, size_t size)
+{
+    unsigned found = (unsigned)lugcurrant_library_version();
+    if (LUGCURRANT_LIBRARY_MATCHES())
+        return NULL;
+    snprintf(room, size, "cannot use liblugcurrant: it has version %u.%u.%u, and this program %s; take the header and the library from one build",
+             found / 10000, found / 100 % 100, found % 100, LUGCURRANT_VERSION);
+    return room;
+}
 
 /* Why an edit is refused: the first that holds, in the order NOT_OPEN, IS_ROOT, NOT_SHOWN, PARENT_NOT_SHOWN, BAD_PARENT, OWN_DESCENDANT,
  * TOO_DEEP, CROWDED, IDS_SPENT, FULL; at a position that is named TAKEN stands in the place of CROWDED, and at an end CROWDED is looked for

@@ -202,7 +202,7 @@ typedef struct lugcurrant_flow_event {
 } lugcurrant_flow_event;
 
 /* Makes a flow for the client, without a connection, in the state LUGCURRANT_STATE_CONNECTING. `options` may be null. The program frees it
- * by lugcurrant_flow_free. Returns null if out of memory. */
+ * by lugcurrant_flow_free. Returns null if out of memory, or if lugcurrant_library_fault has a sentence: the loaded library is of another version. */
 lugcurrant_flow *lugcurrant_flow_new(lugcurrant_client *client, const lugcurrant_flow_options *options);
 
 /* Ends the flow. The client stays, with all that waits. `flow` may be null. */

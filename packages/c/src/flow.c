@@ -167,6 +167,8 @@ static void set_options(lugcurrant_flow *flow, const lugcurrant_flow_options *gi
 
 lugcurrant_flow *lugcurrant_flow_new(lugcurrant_client *client, const lugcurrant_flow_options *options)
 {
+    if (!LUGCURRANT_LIBRARY_MATCHES())
+        return NULL;
     lugcurrant_flow *flow = malloc(sizeof *flow);
     if (flow == NULL)
         return NULL;

@@ -92,13 +92,11 @@ export async function compile(source) {
   return WebAssembly.compileStreaming(given);
 }
 
-// Checks that the module has this package's major and minor version, which packages/wasm/build writes into a section of it. A module that was built
-// before it had a version is taken.
+// Checks that the module has this package's major and minor version, which packages/wasm/build writes into a section of it.
 function checkVersion(module) {
-  const [section] = WebAssembly.Module.customSections(module, 'lugcurrant.version');
-  if (!section) return;
-  const found = fromUtf8.decode(section), minor = (version) => version.split('.').slice(0, 2).join('.');
-  if (minor(found) !== minor(VERSION)) throw new Error(`cannot use canvas.wasm: it has version ${found}, and this package ${VERSION}; take both from one build (packages/wasm/build)`);
+  const [section] = WebAssembly.Module.customSections(module, 'lugcurrant.version'), found = section ? `version ${fromUtf8.decode(section)}` : 'no version';
+  const minor = (version) => version.split('.').slice(0, 2).join('.');
+  if (minor(found) !== minor(`version ${VERSION}`)) throw new Error(`cannot use canvas.wasm: it has ${found}, and this package version ${VERSION}; take both from one build (packages/wasm/build)`);
 }
 
 export class Client {

@@ -11,7 +11,7 @@ BUILD = "packages/c/build --unproved makes it, and packages/python/build a wheel
 
 
 class LibraryMissing(ImportError):
-    """The shared library isn't there, or can't be loaded."""
+    """The shared library isn't there, can't be loaded, or has another version than this package."""
 
 
 class ClientError(Exception):
@@ -44,15 +44,14 @@ class Library:
 
     @staticmethod
     def _check_version(path: str, loaded: Any) -> None:
-        """Checks that the library has this package's major and minor version. A library that was built before it had a version is taken."""
-        call = getattr(loaded, "lugcurrant_library_version", None)
-        if call is None:
-            return
-        call.restype = ctypes.c_uint32
-        number = call()
-        found = f"{number // 10000}.{number // 100 % 100}.{number % 100}"
-        if found.split(".")[:2] != VERSION.split(".")[:2]:
-            raise LibraryMissing(f"cannot use the library {path}: it has version {found}, and this package {VERSION}; {BUILD}")
+        """Checks that the library has this package's major and minor version."""
+        call, found = getattr(loaded, "lugcurrant_library_version", None), "no version"
+        if call is not None:
+            call.restype = ctypes.c_uint32
+            number = call()
+            found = f"version {number // 10000}.{number // 100 % 100}.{number % 100}"
+        if found.split(".")[:2] != f"version {VERSION}".split(".")[:2]:
+            raise LibraryMissing(f"cannot use the library {path}: it has {found}, and this package version {VERSION}; {BUILD}")
 
     def __call__(self, name: str, handle: Handle, *arguments: object) -> int:
         """What the call of this name answers."""
