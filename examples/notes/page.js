@@ -19,11 +19,10 @@ function noteOf(id) {
   const ink = make('button', '◐', 'border: 0; background: none'), gone = make('button', '×', 'border: 0; background: none; float: right');
   const properties = () => client.object(id)?.properties ?? {};
   const spot = () => { const { at: place } = properties(); return Array.isArray(place) ? place.map(Number) : [20, 60]; };
-  ink.title = 'Another colour';
-  gone.title = 'Delete';
+  const next = () => INKS[(INKS.findIndex(({ rgba }) => rgba === properties().fill?.rgba) + 1) % INKS.length];
   text.oninput = () => edit(() => client.set(id, 'text', text.value));
-  ink.onclick = () => edit(() => client.set(id, 'fill', INKS[(INKS.findIndex(({ rgba }) => rgba === properties().fill?.rgba) + 1) % INKS.length]));
-  gone.onclick = () => edit(() => client.delete(id));
+  Object.assign(ink, { title: 'Another colour', onclick: () => edit(() => client.set(id, 'fill', next())) });
+  Object.assign(gone, { title: 'Delete', onclick: () => edit(() => client.delete(id)) });
   element.addEventListener('pointerdown', (event) => { if (event.target === element) drag(id, event, spot()); });
   element.append(ink, gone, text);
   const draw = (object) => {
@@ -39,11 +38,9 @@ function noteOf(id) {
 // Moves a note with the pointer, one edit a frame at most, and puts it in front of the others.
 function drag(id, { clientX, clientY }, [left, top]) {
   let next = null;
-  const send = () => { const place = next; next = null; if (place) edit(() => client.set(id, 'at', place)); };
-  const move = (event) => {
-    if (!next) requestAnimationFrame(send);
-    next = [Math.round(left + event.clientX - clientX), Math.round(top + event.clientY - clientY)];
-  };
+  const send = () => { const spot = next; next = null; if (spot) edit(() => client.set(id, 'at', spot)); };
+  const place = (event) => [event.clientX - clientX + left, event.clientY - clientY + top].map(Math.round);
+  const move = (event) => { if (!next) requestAnimationFrame(send); next = place(event); };
   const stop = () => { document.removeEventListener('pointermove', move); document.removeEventListener('pointerup', stop); send(); };
   document.addEventListener('pointermove', move);
   document.addEventListener('pointerup', stop);
@@ -76,8 +73,7 @@ at('add').onclick = () => edit(() => {
   client.set(note, 'fill', INKS[notes.size % INKS.length]);
 });
 at('offline').onchange = ({ target }) => { link.offline = target.checked; };
-link.on('state', tellState);
-link.on('unsent', tellState);
+for (const name of ['state', 'unsent']) link.on(name, tellState);
 link.on('refused', ({ words }) => { line.textContent = `Taken back: ${words}`; });
 warnBeforeClosing(() => link.unsent);
 signals.children(ROOT).subscribe(listenToPage);

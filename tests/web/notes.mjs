@@ -2,7 +2,7 @@
 // The page of examples/notes in jsdom, and another person's client, both linked to a made-up server:  node --test notes.mjs
 // It needs Debian's node-jsdom, and is skipped without it. The clients are over canvas.wasm, or over a stand-in if there is none.
 import assert from 'node:assert';
-import { cpSync, existsSync, mkdtempSync, rmSync, writeFileSync } from 'node:fs';
+import { cpSync, mkdtempSync, readFileSync, rmSync, writeFileSync } from 'node:fs';
 import { Module, createRequire } from 'node:module';
 import { tmpdir } from 'node:os';
 import { join } from 'node:path';
@@ -39,6 +39,10 @@ const isSame = () => made.link.unsent === 0 && other.unsent === 0 && made.client
 
 await import(pathToFileURL(join(room, 'page.js')));
 await Promise.all([made.link.ready, other.ready]);
+
+test('the module has 80 lines', () => {
+  assert.equal(readFileSync(join(source, 'page.js'), 'utf8').trimEnd().split('\n').length, 80);
+});
 
 test('a note is made, written, coloured and deleted, and the other one sees it', async () => {
   fire(at('add'), 'click');
