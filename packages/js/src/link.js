@@ -4,6 +4,8 @@ import { FINAL_STATES, STATES } from './api.js';
 import { Flow } from './flow.js';
 
 const PATIENCE = 120000;                                        // milliseconds without a message while an answer is awaited
+// The milliseconds within which a WebSocket must open.
+const OPENING = 10000;
 const now = () => performance.now();
 
 // The URL with a slash at its path's end, so that what is below it is the server's: a proxy may have it below a path.
@@ -164,13 +166,17 @@ export class Link extends EventTarget {
   async #get(path) {
     const at = new URL(path, this.url);
     at.protocol = at.protocol === 'wss:' || at.protocol === 'https:' ? 'https:' : 'http:';
-    const options = { cache: 'no-store', signal: AbortSignal.timeout(Math.max(3000, this.#pauses.retry)) };
+    // Node ends while only an AbortSignal.timeout is left to wait for, as where its fetch doesn't notice that the connection is lost.
+    const late = new AbortController(), timer = setTimeout(() => late.abort(), Math.max(3000, this.#pauses.retry));
+    const options = { cache: 'no-store', signal: late.signal };
     try {
       const answer = await fetch(at, options);
       return { text: answer.ok ? (await answer.text()).trim() : null };
     } catch {
       if (!globalThis.location || at.origin === globalThis.location.origin) return { isAway: true };
       try { await fetch(at, { ...options, mode: 'no-cors' }); return { isHidden: true }; } catch { return { isAway: true }; }
+    } finally {
+      clearTimeout(timer);
     }
   }
 
@@ -200,9 +206,12 @@ export class Link extends EventTarget {
       const socket = new this.#Socket(at.href.replace(/^http/, 'ws'));
       this.#socket = socket;
       socket.binaryType = 'arraybuffer';
-      socket.onopen = () => resolve(this.#isOffline || this.#ended ? null : socket);
-      socket.onclose = () => resolve(null);
-      socket.onerror = () => resolve(null);
+      // A peer may accept the connection and never answer.
+      const timer = setTimeout(() => { socket.close(); open(null); }, OPENING);
+      const open = (it) => { clearTimeout(timer); resolve(it); };
+      socket.onopen = () => open(this.#isOffline || this.#ended ? null : socket);
+      socket.onclose = () => open(null);
+      socket.onerror = () => open(null);
     });
   }
 
