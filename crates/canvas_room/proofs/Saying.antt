@@ -1,5 +1,5 @@
 -- What the desk says of the requests of a batch.
-use Rattle.std.proofs.Common.{◌≡◌, ℕ, ◌+◌, List, [], ◌∷◌, ◌++◌, Bool, true, Result, Ok, Err, refl, ap, sym, subst, ◌∙◌, arith, inl, inr, append_assoc}
+use Rattle.std.proofs.Common.{◌≡◌, ℕ, ◌+◌, ◌<◌, List, [], ◌∷◌, ◌++◌, Bool, true, Result, Ok, Err, length, refl, ap, sym, subst, ◌∙◌, arith, inl, inr, append_assoc, length-append}
 use Rattle.std.specs.Prelude.{◌⊎◌, IfErr, map}
 use mathlib.Core.List.{IsPrefix}
 use Rattle.canvas_model.specs.Log.{Entry}
@@ -8,7 +8,8 @@ use Rattle.canvas_server.specs.Asked.{Asked}
 use Rattle.canvas_server.specs.Served.{Served}
 use Rattle.canvas_board.specs.Marks.{IsLegalHistory, Logged, Mark, Opening, board, start, step}
 use Rattle.canvas_board.specs.Receipts.{ReceiptValue}
-use Rattle.canvas_board.proofs.Boards.{legal_begin, version_before}
+use Rattle.canvas_board.proofs.Boards.{board_add, legal_begin, version_before}
+use Rattle.canvas_board.proofs.Fronts.{shorter_begins}
 use base.Growing.{prefix_refl, prefix_trans}
 use Rattle.canvas_desk.specs.declared.faults.SubmitError.{SubmitError}
 use Rattle.canvas_desk.specs.declared.faults.SubmitError.TheVariants.{Refused, NotKept, Owed}
@@ -154,6 +155,28 @@ unanswered_memory failed e (inr f) never = absurd (never f.0)
 -- an answer to the same request, for a seat that had seen the same
 pub answer_as : (o : Opening) (q q' : Asked) (a : Result ReceiptValue SubmitError) (seen seen' front : List Mark) → q ≡ q' → seen ≡ seen' → IsAnswerTo o seen q a front → IsAnswerTo o seen' q' a front
 answer_as o q q' a seen seen' front asked same h = subst (λ (l : List Mark). IsAnswerTo o l q' a front) same (subst (λ (x : Asked). IsAnswerTo o seen x a front) asked h)
+
+-- the receipt of an entry, for a seat that has seen some of the history that the entry ends, but not the entry
+pub told_later : (o : Opening) (q : Asked) (r : ReceiptValue) (seen later : List Mark) → IsTold o seen q r → IsPrefix later r.history → length later < length r.history → IsTold o later q r
+told_later o q r seen later h pre less =
+    let before = h.ends.0 in
+    let is = h.ends.1 in
+    let size : length r.history ≡ length before + 1 = ap length is ∙ length-append before (Logged r.entry ∷ []) in
+    let begins = shorter_begins later before r.history pre (Logged r.entry ∷ [], sym is) (omega (arith, size, less)) in
+    let rises = version_before (start o) later before begins in
+    let next : r.version ≡ (board o before).version + 1 = h.ends.2 ∙ (ap (λ (l : List Mark). (board o l).version) is ∙ ap (λ (b : Served). b.version) (board_add (start o) before (Logged r.entry))) in
+    record {
+      answers = h.answers;
+      ends = h.ends;
+      sees = (pre, h.sees.1);
+      above = omega (arith, rises, next);
+    }
+
+pub answer_later : (o : Opening) (q q' : Asked) (a : Result ReceiptValue SubmitError) (r : ReceiptValue) (seen later front front' : List Mark) → q ≡ q' → a ≡ Ok r → IsAnswerTo o seen q a front → IsPrefix later r.history × (length later < length r.history) → front' ≡ later
+    → IsAnswerTo o later q' (Ok r) front'
+answer_later o q q' a r seen later front front' asked is h more same =
+    let told : IsAnswerTo o seen q' (Ok r) front = subst (λ (x : Asked). IsAnswerTo o seen x (Ok r) front) asked (subst (λ (x : Result ReceiptValue SubmitError). IsAnswerTo o seen q x front) is h) in
+    (told_later o q' r seen later told.0 more.0 more.1, same)
 
 refused_as : (o : Opening) (q : Asked) (e : SubmitError) (seen due front : List Mark) → front ≡ due → (is_memory e ≡ true) ⊎ IsRefusedAt o seen due q e → (is_memory e ≡ true → ⊥) → IsRefusedAt o seen front q e
 refused_as o q e seen due front is (inl h) never = absurd (never h)

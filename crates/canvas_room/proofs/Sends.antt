@@ -52,6 +52,7 @@ use Rattle.canvas_desk.specs.contracts.desk.Desk as Desk
 use Rattle.canvas_journal.specs.declared.keeper.Keeper as keeper
 use Rattle.canvas_desk.specs.contracts.desk.Desk.TheInside as in_desk
 use Rattle.canvas_room.specs.contracts.asking.SeatAnswer as SeatAnswer
+use Rattle.canvas_room.specs.contracts.mailbox.Run as Run
 use Rattle.canvas_room.specs.contracts.mailbox.Ticket as Ticket
 use Rattle.canvas_room.specs.contracts.mailbox.Mailbox as Mailbox
 use Rattle.canvas_room.specs.contracts.mailbox.Reply as Reply
@@ -238,10 +239,15 @@ Ticket-send N g s = declared_send (Ticket.the_type N g) (Request-send, (search (
 pub Reply-send : (N : RattleType) (g : Ghosts N.Denot) → IsSend N → IsSend (Reply.the_row N g)
 Reply-send N g s = view_send (in_reply.the_row N g) _ _ _ _ (declared_send (in_reply.the_type N g) (Ticket-send N g s, (Told-send N g s, tt)))
 
+pub Run-send : (N : RattleType) (g : Ghosts N.Denot) → IsSend N → IsSend (Run.the_row N g)
+Run-send N g s =
+    let q = Request-send in let r = Reply-send N g s in
+    declared_send (Run.the_type N g) (search (q, sendable, crosses) depth 40 fits 4000, (search (front.the_send, sendable), (search (r, sendable, crosses) depth 40 fits 4000, tt)))
+
 pub Content-send : (N : RattleType) (g : Ghosts N.Denot) → IsSend N → IsSend (Content.the_row N g)
 Content-send N g s =
     let r = Reply-send N g s in
-    variants_send (Content.enum N g) (tt, ((Ticket-send N g s, tt), (tt, ((search (r, sendable), tt), tt))))
+    variants_send (Content.enum N g) (tt, ((Run-send N g s, tt), (tt, ((search (r, sendable, crosses) depth 40 fits 4000, tt), tt))))
 
 pub Slot-send : (N : RattleType) (g : Ghosts N.Denot) → IsSend N → IsSend (Slot.the_row N g)
 Slot-send N g s = let c = Content-send N g s in declared_send (Slot.the_type N g) (search (c, sendable, crosses) depth 40 fits 4000, (search (sendable, crosses) depth 40 fits 4000, tt))
@@ -263,7 +269,8 @@ pub Seat-send : (N D : RattleType) (g : Ghosts N.Denot) → IsSend N → IsSync 
 Seat-send N D g s y sd yd =
     let r = Reader-send N g s y in
     let p = SeatSlot-field-send N g s in
-    view_send (in_seat.the_row N D g) _ _ _ _ (recorded_send (in_seat.the_field N D g).row _ _ (in_seat.the_type N D g).to_one (struct_send (shape (in_seat.the_type N D g)) (Arc-send D sd yd, (p, (r, tt)))))
+    let q = Reply-send N g s in
+    view_send (in_seat.the_row N D g) _ _ _ _ (recorded_send (in_seat.the_field N D g).row _ _ (in_seat.the_type N D g).to_one (struct_send (shape (in_seat.the_type N D g)) (Arc-send D sd yd, (p, (r, (search (q, sendable, crosses) depth 40 fits 4000, tt))))))
 
 module _ (K N R : RattleType) (k : keeper.Ghosts K.Denot) (g : Ghosts N.Denot) where
   -- the lock of a room, as a caller's types have it

@@ -152,7 +152,7 @@ fn seats_of<N: RoomName, D: Drop>(
     let mut seats = Vec::with_capacity(alloc, readers.len())?;
     for reader in readers {
         let slot = SeatSlot::new(alloc, Arc::try_clone(mailbox)?, seats.len());
-        let seat = Seat::new(Arc::try_clone(shared)?, slot, reader);
+        let seat = Seat::new(alloc, Arc::try_clone(shared)?, slot, reader);
         seats.push(seat)?;
     }
     Ok(seats)

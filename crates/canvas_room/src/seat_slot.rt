@@ -5,13 +5,14 @@ ghost use Rattle.canvas_room.specs.Batches.{IsUnanswered};
 ghost use Rattle.canvas_room.specs.Seats.{IsAnswerTo};
 
 use crate::asking::SeatAnswer;
-use crate::batch::commit;
-use crate::mailbox::{Content, Mailbox, Ticket};
+use crate::batch::{MOST_IN_RUN, commit};
+use crate::mailbox::{Content, Mailbox, Reply, Run};
 use canvas_board::{Front, RoomName};
 use canvas_desk::{Desk, SubmitError};
 use canvas_journal::Keeper;
 use canvas_server::Request;
 use std::alloc::Global;
+use std::collections::VecDeque;
 use std::sync::{Arc, Wait};
 
 /// The slot of a seat in the mailbox of its room.
@@ -29,6 +30,17 @@ impl<N: RoomName> Drop for SeatSlot<N> {
             seat: _,
         } = self;
     }
+}
+
+// Returns the answer to a request, if the first of these replies belongs to it.
+fn first_told<N: RoomName>(
+    mut replies: VecDeque<Reply<N>>,
+    request: &Request,
+    seen: &Front<N>,
+) -> Option<SeatAnswer<N>>
+    ensures { IfSome result (λ told. IsAnswerTo N.opening seen.now (seen_request request.now) told.answer told.learns) }
+{
+    replies.pop_front()?.told_of(request, seen)
 }
 
 impl<N: RoomName> SeatSlot<N> {
@@ -49,11 +61,38 @@ impl<N: RoomName> SeatSlot<N> {
     /// Leaves a copy of a request in the slot, with what the seat has seen; if memory runs out for that, the request comes alone.
     /// It may wait for the slot's lock.
     pub fn post<W: Wait>(&self, rt: &W, request: &Request, seen: &Front<N>) {
-        let content = match Ticket::new(self.alloc, request, seen) {
-            Ok(ticket) => Content::Waiting(ticket),
+        let content = match Run::of_one(self.alloc, request, seen) {
+            Ok(run) => Content::Waiting(run),
             Err(_) => Content::Alone,
         };
         self.mailbox.put(rt, self.seat, content);
+    }
+
+    /// Returns the first 64 of these requests as a run, with what the seat has seen. `None` if there are none, or memory runs out.
+    pub fn run_of(&self, mut requests: Vec<Request>, seen: &Front<N>) -> Option<Run<N>> {
+        if requests.is_empty() {
+            return None;
+        }
+        requests.truncate(MOST_IN_RUN);
+        Run::new(self.alloc, requests, seen).ok()
+    }
+
+    /// Leaves a run in the slot. It may wait for the slot's lock.
+    pub fn post_run<W: Wait>(&self, rt: &W, run: Run<N>) {
+        self.mailbox.put(rt, self.seat, Content::Waiting(run));
+    }
+
+    /// Blocks while another seat leads and the slot has no replies. Takes the replies; if there are none, this seat leads from now on.
+    pub fn follow_run<W: Wait>(&self, rt: &W) -> Option<VecDeque<Reply<N>>> {
+        self.mailbox.follow(rt, self.seat)
+    }
+
+    /// Takes the replies in the slot, if there are some; requests that wait there are taken back. It may wait for the slot's lock.
+    pub fn clear_run<W: Wait>(&self, rt: &W) -> VecDeque<Reply<N>> {
+        match self.mailbox.take(rt, self.seat) {
+            Content::Answered(replies) => replies,
+            Content::Empty | Content::Waiting(_) | Content::Alone => VecDeque::new(self.alloc),
+        }
     }
 
     /// Waits so long as another seat leads and the slot has no reply. Takes then what was told of a request, if it stands in the slot; else
@@ -66,7 +105,7 @@ impl<N: RoomName> SeatSlot<N> {
     ) -> Option<SeatAnswer<N>>
         ensures { IfSome result (λ told. IsAnswerTo N.opening seen.now (seen_request request.now) told.answer told.learns) }
     {
-        let told = self.mailbox.follow(rt, self.seat)?.told_of(request, seen);
+        let told = first_told(self.mailbox.follow(rt, self.seat)?, request, seen);
         if told.is_none() {
             self.mailbox.lead();
         }
@@ -75,7 +114,7 @@ impl<N: RoomName> SeatSlot<N> {
 
     /// This seat leads no more. Calls one whose request waits, so that it leads, and those whose request was answered, or comes alone.
     pub fn step_down<W: Wait>(&self, rt: &W) {
-        self.mailbox.step_down(rt);
+        self.mailbox.step_down(rt, self.seat);
     }
 
     /// Says that this seat is about a checkpoint from now on. False where one is already.
@@ -97,14 +136,21 @@ impl<N: RoomName> SeatSlot<N> {
     ) -> Option<SeatAnswer<N>>
         ensures { IfSome result (λ told. IsAnswerTo N.opening seen.now (seen_request request.now) told.answer told.learns) }
     {
-        let content = self.mailbox.take(rt, self.seat);
-        match content {
-            Content::Answered(reply) => reply.told_of(request, seen),
-            Content::Empty | Content::Waiting(_) | Content::Alone => None,
-        }
+        first_told(self.clear_run(rt), request, seen)
     }
 
-    /// Commits all requests that wait in the mailbox as one batch, if other seats have some there. A copy of this seat's request is in it, unless
+    /// Commits the requests that wait in the mailbox as one batch, this seat's first.
+    pub fn commit_waiting<K: Keeper, R: Wait + Drop, W: Wait>(
+        &self,
+        rt: &W,
+        desk: &mut Desk<K, N, R>,
+    ) -> Result<(), SubmitError>
+        ensures { IfErr result (IsUnanswered desk.new.failed) }
+    {
+        commit(self.alloc, rt, desk, &self.mailbox, self.seat)
+    }
+
+    /// Commits the requests that wait in the mailbox as one batch, if other seats have some there. A copy of this seat's request is in it, unless
     /// memory runs out for the copy.
     pub fn commit<K: Keeper, R: Wait + Drop, W: Wait>(
         &self,
@@ -121,6 +167,6 @@ impl<N: RoomName> SeatSlot<N> {
         if self.mailbox.is_empty(rt, self.seat) {
             self.post(rt, request, seen);
         }
-        commit(self.alloc, rt, desk, &self.mailbox)
+        self.commit_waiting(rt, desk)
     }
 }

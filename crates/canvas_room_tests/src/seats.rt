@@ -6,7 +6,7 @@ use canvas_journal::Keeper;
 use canvas_judge::Outcome;
 use canvas_room::Seat;
 use canvas_server::Request;
-use std::alloc::Global;
+use std::alloc::{AllocError, Global};
 use std::sync::Wait;
 use std::test::Fail;
 use test_rooms::{SeatOf, new_page, object};
@@ -147,6 +147,32 @@ pub fn joins_and_reads<K: Keeper + Drop, N: RoomName, Q: Wait + Drop, W: Wait>(
     } else {
         None
     }
+}
+
+// Returns this number of Joins. Errors: out of memory.
+fn joins(alloc: Global, count: u32) -> Result<Vec<Request>, AllocError> {
+    let mut joins = Vec::with_capacity(alloc, count as usize)?;
+    for _ in 0..count {
+        joins.push(Request::Join)?;
+    }
+    Ok(joins)
+}
+
+/// Has this number of Joins judged ahead, submits each and learns of its receipt. Returns the first id, if the others follow it one by one.
+pub fn joins_ahead<K: Keeper + Drop, N: RoomName, Q: Wait + Drop, W: Wait>(
+    rt: &W,
+    alloc: Global,
+    seat: &mut SeatOf<K, N, Q>,
+    count: u32,
+) -> Option<u32> {
+    seat.judge_ahead(rt, joins(alloc, count).ok()?);
+    let first = join_and_learn(rt, seat)?.id;
+    for later in 1..count {
+        if join_and_learn(rt, seat)?.id != first.checked_add(later)? {
+            return None;
+        }
+    }
+    Some(first)
 }
 
 /// The id of the one client of a room, where a seat reads that it has joined in each way.

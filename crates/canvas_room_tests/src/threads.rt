@@ -2,7 +2,7 @@
 ghost use Rattle.std.specs.Prelude.{◌≡◌};
 
 use crate::records::Recorded;
-use crate::seats::{join_by, joins_and_reads, reads_first};
+use crate::seats::{join_by, joins_ahead, joins_and_reads, reads_first};
 use canvas_board::RoomName;
 use canvas_journal::Keeper;
 use canvas_room::{BlankRoom, Lock, Room, Seat};
@@ -24,6 +24,8 @@ const LATE_TURNS: u32 = 10_000;
 enum Deed {
     // It joins, and reads its own entry.
     Join,
+    // It has this number of Joins judged ahead, and submits them.
+    JoinAhead(u32),
     // It reads the one Join of its room, in each way.
     Read,
 }
@@ -108,8 +110,18 @@ fn holds<K: Keeper + Drop, N: RoomName, Q: Wait + Drop, W: Wait>(
 
 // A seat that does something on a thread. What is sent to threads is generic in it, since the type of a seat is large.
 trait Site: Drop {
-    // Does so, once the lock is held: the id that it gets or reads.
+    // Does so, once the lock is held: the id that it gets or reads, or which of the runs of ids it gets.
     fn does<W: Wait>(&mut self, rt: &W, alloc: Global, deed: Deed, flags: &Flags) -> Option<u32>;
+}
+
+// Returns which run of ids begins with this id, counted from 1, if each has this length.
+fn run_of(first: u32, count: u32) -> Option<u32> {
+    let before = first.checked_sub(1)?;
+    if before.checked_rem(count)? == 0 {
+        before.checked_div(count)?.checked_add(1)
+    } else {
+        None
+    }
 }
 
 impl<K: Keeper + Drop, N: RoomName, Q: Wait + Drop> Site for Seat<N, Lock<K, N, Q>> {
@@ -119,6 +131,10 @@ impl<K: Keeper + Drop, N: RoomName, Q: Wait + Drop> Site for Seat<N, Lock<K, N, 
             Deed::Join => {
                 flags.come.fetch_add(1, Ordering::SeqCst);
                 joins_and_reads(rt, alloc, self)
+            }
+            Deed::JoinAhead(count) => {
+                flags.come.fetch_add(1, Ordering::SeqCst);
+                run_of(joins_ahead(rt, alloc, self, count)?, count)
             }
             Deed::Read => {
                 let id = reads_first(alloc, self);
@@ -205,7 +221,7 @@ fn begins<K: Keeper + Drop, N: RoomName, Q: Wait + Drop, W: Wait>(
     deed: Deed,
 ) -> bool {
     match (deed, seats.first_mut()) {
-        (Deed::Join, _) => true,
+        (Deed::Join | Deed::JoinAhead(_), _) => true,
         (Deed::Read, Some(seat)) => join_by(rt, seat) == Ok(Some(1)),
         (Deed::Read, None) => false,
     }
@@ -308,6 +324,34 @@ const MEETINGS: &[(&str, Meeting, Met)] = &[
             are_first: true,
             held_at: Some(0),
             version: 8,
+            is_shared: true,
+        },
+    ),
+    (
+        "eight that judge ahead share syncs",
+        Meeting {
+            seats: 8,
+            deed: Deed::JoinAhead(2),
+            is_held: true,
+        },
+        Met {
+            are_first: true,
+            held_at: Some(0),
+            version: 16,
+            is_shared: true,
+        },
+    ),
+    (
+        "more than a batch",
+        Meeting {
+            seats: 20,
+            deed: Deed::JoinAhead(64),
+            is_held: true,
+        },
+        Met {
+            are_first: true,
+            held_at: Some(0),
+            version: 1280,
             is_shared: true,
         },
     ),

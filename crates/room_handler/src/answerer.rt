@@ -21,6 +21,7 @@ use canvas_journal::Keeper;
 use canvas_judge::{Message, NoReason};
 use canvas_nodes::{Answerer, texts_of};
 use canvas_room::{Lock, Seat};
+use canvas_server::Request;
 use net_outbox::{Text, own_texts};
 use std::alloc::{AllocError, Global};
 use std::marker::Model;
@@ -186,6 +187,37 @@ where
             }
         };
         self.copied(client, version)
+    }
+
+    /// Gets edits judged and kept together, at most 64, before each gets its answer: those before the first message that is no edit or is over the
+    /// limit; if memory runs out, fewer. Each then gets the answer that was judged here, if they come in their order and nothing else is
+    /// done at the seat.
+    pub fn judge_ahead(&mut self, messages: Vec<Message>)
+        ensures { self.new ≡ self.old }
+    {
+        let mut requests = Vec::new(self.alloc);
+        for message in messages {
+            let Some(request) = self.edit_of(message) else {
+                break;
+            };
+            if requests.push(request).is_err() {
+                break;
+            }
+        }
+        if requests.len() > 1 {
+            self.seat.judge_ahead(&self.rt, requests);
+        }
+    }
+
+    // Returns the request of an edit; `None` if the message is no edit or is over the limit, or memory runs out.
+    fn edit_of(&self, message: Message) -> Option<Request> {
+        if !matches!(&message, Message::Edit { .. }) {
+            return None;
+        }
+        match self.terms.is_over_limit(self.alloc, &message) {
+            Ok(false) => Request::asked_by(message),
+            Ok(true) | Err(_) => None,
+        }
     }
 
     // Returns the texts of the answer to a message, which share nothing with other texts. Errors: out of memory.
