@@ -58,7 +58,7 @@ await run(async ({ open, pictures }) => {
   passed('each has a name');
   const { nodes } = await window.call('Accessibility.getFullAXTree');
   const roles = nodes.filter(({ ignored, name }) => !ignored && name?.value).map(({ role, name }) => `${role.value} ${name.value}`);
-  for (const it of ['toolbar Tools', 'toolbar Colour', 'toolbar Align', 'button Blue', 'listbox Objects', 'option Ellipse', 'application Board', 'textbox Name', 'textbox Width', 'combobox Inside']) {
+  for (const it of ['toolbar Tools', 'toolbar Colour', 'toolbar Align and distribute', 'button Blue', 'listbox Objects', 'option Ellipse', 'application Board', 'textbox Name', 'textbox Width', 'combobox Inside']) {
     assert(roles.includes(it), `${it} is not among ${roles.join(', ')}`);
   }
   passed('a screen reader hears of tools, colours, lists and fields');

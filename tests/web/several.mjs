@@ -1,8 +1,9 @@
 #!/usr/bin/env node
-// Several objects of the whiteboard at once, in Chromium: chosen with Shift and by a band, moved, copied and pasted, aligned, put in order, deleted:
+// Several objects of the whiteboard at once, in Chromium: chosen with Shift and by a band, moved, copied and pasted, aligned, spaced, put in order, deleted:
 //     node --experimental-websocket several.mjs LUGCURRANT [PICTURES]
 import assert from 'node:assert';
 import { join } from 'node:path';
+import { until } from './devtools.mjs';
 import { becomes, colour, passed, run } from './whiteboard.mjs';
 
 const same = (a, b) => JSON.stringify(a) === JSON.stringify(b), sameSet = (a, b) => same([...a].sort(), [...b].sort());
@@ -78,6 +79,28 @@ await run(async ({ open, pictures }) => {
   await window.clickAt(await board.middleOf(made[0]));
   await window.click('#align [data-side=left]');
   await becomes('one on the page is not, and that is said', async () => (await board.said()).startsWith('Choose two or more objects'), () => board.said());
+
+  // Spaced evenly: from 40 to 320 across, in the order first, third, second; from 60 to 320 down.
+  const stood = await places(), spaced = (axis) => window.click(`#align [data-axis="${axis}"]`);
+  const put = async (spots) => {
+    await board.send(...spots.map((spot, k) => ['set', made[k], 'at', spot]));
+    assert(await until(async () => same(await places(), spots)));
+  };
+  await spaced(0);
+  await becomes('of one object it is said that more are needed', async () => (await board.said()) === 'Choose three or more objects to space them evenly.', () => board.said());
+  await put([[40, 60], [200, 120], [150, 240]]);
+  await window.drag(await board.on(20, 30), await board.on(300, 340));
+  await spaced(0);
+  await becomes('three are spaced evenly across', async () => same(await places(), [[40, 60], [200, 120], [140, 240]]), places);
+  await spaced(1);
+  await becomes('and down', async () => same(await places(), [[40, 60], [200, 140], [140, 240]]), places);
+  await spaced(1);
+  await becomes('what is spaced evenly already is said to be', async () => (await board.said()) === 'They are spaced evenly already.', () => board.said());
+  await put([[40, 60], [60, 140], [110, 240]]);
+  await spaced(0);
+  await becomes('what is wider than its place overlaps by the same', async () => same(await places(), [[40, 60], [70, 140], [140, 240]]), places);
+  if (pictures) await window.picture(join(pictures, 'spaced.png'));
+  await put(stood);
 
   // The order.
   const children = async () => (await board.object(page)).children;

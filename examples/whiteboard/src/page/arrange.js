@@ -1,4 +1,4 @@
-// What is done to the chosen objects: moved, aligned, put in front or at the back, put into another one, deleted.
+// What is done to the chosen objects: moved, aligned, spaced, put in front or at the back, put into another one, deleted.
 import { boxAround, boxOf, childrenOf, isIn, objects, originOf } from './doc.js';
 import { chosenIds, outermost } from './selection.js';
 import { make, setLater } from './talk.js';
@@ -28,12 +28,32 @@ const SHIFTS = {
 export function align(side) {
   const ids = outermost(), holder = ids.length === 1 ? objects.get(objects.get(ids[0]).parent) : null;
   if (!ids.length || (holder && holder.kind !== 'frame')) return say('Choose two or more objects to align them, or one that is in a frame.');
-  const to = holder ? boxOf(holder.id) : boxAround(ids.map(boxOf)), edits = [];
-  for (const id of ids) {
-    const [dx, dy] = SHIFTS[side](boxOf(id), to).map(Math.round), [x, y] = spotOf(objects.get(id));
+  const to = holder ? boxOf(holder.id) : boxAround(ids.map(boxOf));
+  return shift(ids.map((id) => [id, SHIFTS[side](boxOf(id), to)]), holder ? 'It is aligned already.' : 'They are aligned already.');
+}
+
+// Moves each of these objects so far: [id, [dx, dy]]. If none of them moves, that is said.
+function shift(moves, otherwise) {
+  const edits = [];
+  for (const [id, by] of moves) {
+    const [dx, dy] = by.map(Math.round), [x, y] = spotOf(objects.get(id));
     if (dx || dy) edits.push(['set', id, 'at', [x + dx, y + dy]]);
   }
-  return edits.length ? make(edits) : say('They are aligned already.');
+  return edits.length ? make(edits) : say(otherwise);
+}
+
+// Spaces objects so the gaps between them are the same, within the box around them: side by side (0), or one below the other (1). They stay in the order
+// of their middles. If they don't fit, they overlap by the same.
+export function distribute(axis) {
+  const spans = outermost().map((id) => { const box = boxOf(id); return { id, box, from: box[axis], length: box[axis + 2] }; });
+  if (spans.length < 3) return say('Choose three or more objects to space them evenly.');
+  const around = boxAround(spans.map(({ box }) => box)), used = spans.reduce((sum, { length }) => sum + length, 0), gap = (around[axis + 2] - used) / (spans.length - 1), moves = [];
+  let next = around[axis];
+  for (const { id, from, length } of spans.sort((a, b) => (a.from + a.length / 2) - (b.from + b.length / 2))) {
+    moves.push([id, axis ? [0, next - from] : [next - from, 0]]);
+    next += length + gap;
+  }
+  return shift(moves, 'They are spaced evenly already.');
 }
 
 // One step to the front (1) or to the back (-1) among the objects of the same holder.

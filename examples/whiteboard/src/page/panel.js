@@ -1,5 +1,5 @@
 // The panel of what is chosen: its fields, which check what is typed, and its buttons.
-import { align, deleteChosen, putInto, reorder } from './arrange.js';
+import { align, deleteChosen, distribute, putInto, reorder } from './arrange.js';
 import { FARTHEST, readText, readWhole } from './checks.js';
 import { at } from './elements.js';
 import { DEEPEST, childrenOf, objects } from './doc.js';
@@ -110,5 +110,8 @@ at('into').onchange = () => { if (at('into').value) putInto(at('into').value); a
 at('front').onclick = () => reorder(1);
 at('back').onclick = () => reorder(-1);
 at('delete').onclick = () => deleteChosen();
-for (const button of at('align').children) button.onclick = () => align(button.dataset.side);
+for (const button of at('align').children) {
+  const { side, axis } = button.dataset;
+  button.onclick = () => side ? align(side) : distribute(Number(axis));
+}
 moveFocusByArrows(at('align'));
