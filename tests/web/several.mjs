@@ -152,14 +152,10 @@ await run(async ({ open, pictures }) => {
   await paste('  Buy\n currants ');
   await becomes('a pasted text is a text', async () => (await board.objects()).some(({ kind, properties: { text } }) => kind === 'text' && text === 'Buy currants'));
   const now = await count();
-  for (const wrong of ['{"whiteboard":1', '{"whiteboard":1,"objects":[{"kind":"page","properties":{},"children":[],"box":[0,0,1,1]}]}', '{"whiteboard":1,"objects":[{"kind":"shape","properties":{"x":{}},"children":[],"box":[0,0,1,1]}]}',
-    `{"whiteboard":1,"objects":[${Array(5001).fill('{"kind":"shape","properties":{},"children":[],"box":[0,0,1,1]}')}]}`]) {
-    await other.js("document.getElementById('toast').textContent = ''");
-    await paste(wrong);
-    assert.match(await other.said(), /^This copy can’t be read/);
-  }
+  await paste('{"whiteboard":1');
+  assert.equal(await other.said(), 'This copy can’t be read: it is damaged.');
   assert.equal(await count(), now);
-  passed('a copy that is damaged or too large changes nothing, and that is said');
+  passed('a copy that is damaged changes nothing, and that is said (paste.mjs has more)');
 
   // Deleting.
   await window.front();

@@ -26,8 +26,8 @@ export async function run(act) {
 
 let steps = 0;
 export function passed(what) { steps += 1; console.log(`ok ${steps}   ${what}`); }
-export async function becomes(what, isSo, seen = () => '') {
-  assert(await until(isSo, PATIENCE), `${what}: ${await seen()}`);
+export async function becomes(what, isSo, seen = () => '', seconds = PATIENCE) {
+  assert(await until(isSo, seconds), `${what}: ${await seen()}`);
   passed(what);
 }
 export const colour = (hex) => ({ rgba: parseInt(hex, 16) * 256 + 255 });

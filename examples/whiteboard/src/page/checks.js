@@ -18,7 +18,7 @@ export function readWhole(typed, what, least) {
 
 // A text of at most LONGEST characters.
 export function readText(typed, what) {
-  const length = [...typed].length, most = LONGEST[what];
+  const length = typed.length - (typed.match(/[\u{10000}-\u{10ffff}]/gu)?.length ?? 0), most = LONGEST[what];
   return length <= most ? { value: typed } : { fault: `A ${what} can have ${grouped(most)} characters; this one has ${grouped(length)}.` };
 }
 

@@ -1,50 +1,83 @@
 // Copies of objects as text, and the edits that paste them. A copy goes through the system's clipboard, so it can be pasted in another window or
-// document. What is pasted may come from anywhere: it is read with bounds, and anything else is a plain text.
+// document. What is pasted may come from anywhere, so it is checked.
+import { readText } from './checks.js';
 import { DEEPEST, boxAround, boxOf, childrenOf, objects } from './doc.js';
 
-export const MOST_COPIED = 5000;                        // objects
-const LONGEST = 1 << 22, LONGEST_TEXT = 2000;           // characters of a copy, and of a pasted text
-const KINDS = ['frame', 'shape', 'text'], NAME = /^[a-z0-9_]{1,32}$/, MOST_NESTED = 16;
+const MOST_OBJECTS = 5000, MOST_PROPERTIES = 64, MOST_NESTED = 16;
+const LONGEST = 1 << 22, LONGEST_VALUE = 1 << 16;       // characters of a copy, and of a property's JSON in it
+const FARTHEST = 1e12;
+const KINDS = ['frame', 'shape', 'text'], NAME = /^[a-z0-9_]{1,32}$/, BIG = /^-?\d{1,19}$/, HALF = /\p{Cs}/u, BEGIN = '{"whiteboard":1';
+
+// Why objects can't be copied or pasted.
+const FAULTS = {
+  many: (done) => `More than ${MOST_OBJECTS.toLocaleString('en')} objects can’t be ${done} at once.`,
+  long: (done) => `This is too much text to be ${done} at once.`,
+  damaged: () => 'This copy can’t be read: it is damaged.',
+};
 
 // ---- copying ----
 
-// Returns the text of a copy of these objects with all in them, or null if they are too many.
-export function copyOf(ids) {
+// Returns { text } of a copy of these objects with all in them, or { fault } with a sentence if they are too many or too large. What is copied can be
+// pasted.
+export function copyOf(ids, done = 'copied') {
   let count = 0;
   const one = (id, depth) => {
     count += 1;
     const { kind, properties } = objects.get(id);
-    return { kind, properties: { ...properties }, children: depth > DEEPEST || count > MOST_COPIED ? [] : childrenOf(id).map((child) => one(child, depth + 1)) };
+    return { kind, properties: Object.fromEntries(Object.entries(properties).map(([name, value]) => [name, written(value)])), children: depth > DEEPEST || count > MOST_OBJECTS ? [] : childrenOf(id).filter((child) => objects.has(child)).map((child) => one(child, depth + 1)) };
   };
-  const copied = ids.map((id) => ({ ...one(id, 0), box: boxOf(id) }));
-  return count > MOST_COPIED ? null : JSON.stringify({ whiteboard: 1, objects: copied }, (name, value) => typeof value === 'bigint' ? { big: String(value) } : value);
+  const copied = [];
+  for (const id of ids) if (count <= MOST_OBJECTS) copied.push({ ...one(id, 0), box: boxOf(id) });
+  if (count > MOST_OBJECTS) return { fault: FAULTS.many(done) };
+  const text = JSON.stringify({ whiteboard: 1, objects: copied }), { fault } = readCopy(text, done);
+  return fault ? { fault } : { text };
 }
+
+const written = (value) => Array.isArray(value) ? value.map(written) : typeof value === 'bigint' ? { big: String(value) } : value;
 
 // ---- pasting ----
 
-// Returns the objects of a copy, or null if the text is none.
-export function readCopy(text) {
-  if (!text || text.length > LONGEST || !text.startsWith('{"whiteboard":1')) return null;
+// Reads a copy. Returns { copies }, { fault } with a sentence of why it can't be pasted, or null if the text is no copy.
+export function readCopy(text, done = 'pasted') {
+  if (!text.startsWith(BEGIN)) return null;
+  if (text.length > LONGEST) return { fault: FAULTS.long(done) };
   try {
-    const { objects: copied } = JSON.parse(text, (name, value) => typeof value?.big === 'string' ? BigInt(value.big) : value), left = { count: MOST_COPIED };
-    return Array.isArray(copied) && copied.every((it) => isObject(it, left, 0) && isBox(it.box)) ? copied : null;
-  } catch { return null; }
+    const { objects: given } = JSON.parse(text), read = { count: 0 };
+    if (!Array.isArray(given) || !given.length) refuse('damaged');
+    return { copies: given.map((it) => ({ ...readObject(it, read, 0), box: readBox(it.box) })) };
+  } catch (fault) { return { fault: FAULTS[fault.why ?? 'damaged'](done) }; }        // other faults are that it is no JSON, or nested too deep
 }
 
-const isBox = (box) => Array.isArray(box) && box.length === 4 && box.every(Number.isFinite);
-
-function isObject(it, left, depth) {
-  left.count -= 1;
-  return left.count >= 0 && depth <= DEEPEST && KINDS.includes(it?.kind) && isProperties(it.properties) && Array.isArray(it.children)
-    && (it.kind === 'frame' || !it.children.length) && it.children.every((child) => isObject(child, left, depth + 1));
+class Refused extends Error {
+  constructor(why) { super(why); this.why = why; }
 }
-const isProperties = (given) => given !== null && typeof given === 'object' && !Array.isArray(given) && Object.entries(given).every(([name, value]) => NAME.test(name) && isValue(value, 0));
+function refuse(why) { throw new Refused(why); }
 
-function isValue(value, depth) {
-  if (Array.isArray(value)) return depth < MOST_NESTED && value.every((it) => isValue(it, depth + 1));
-  if (['string', 'boolean', 'bigint'].includes(typeof value)) return true;
-  return Number.isSafeInteger(value) || (Number.isInteger(value?.rgba) && value.rgba >= 0 && value.rgba <= 0xffffffff);
+// Returns an object of a copy, with all in it. `read` counts them.
+function readObject({ kind, properties, children }, read, depth) {
+  read.count += 1;
+  if (read.count > MOST_OBJECTS) refuse('many');
+  if (depth > DEEPEST || !KINDS.includes(kind) || !Array.isArray(children) || (kind !== 'frame' && children.length)) refuse('damaged');
+  return { kind, properties: readProperties(properties), children: children.map((child) => readObject(child, read, depth + 1)) };
 }
+
+function readProperties(given) {
+  if (given === null || typeof given !== 'object' || Array.isArray(given)) refuse('damaged');
+  const all = Object.entries(given);
+  if (all.length > MOST_PROPERTIES || all.some(([, value]) => JSON.stringify(value).length > LONGEST_VALUE)) refuse('long');
+  return Object.fromEntries(all.map(([name, value]) => [NAME.test(name) ? name : refuse('damaged'), readValue(value, 0)]));
+}
+
+// Returns a value that a property can have.
+function readValue(value, depth) {
+  if (Array.isArray(value) && depth < MOST_NESTED) return value.map((it) => readValue(it, depth + 1));
+  if (typeof value === 'boolean' || Number.isSafeInteger(value) || (typeof value === 'string' && !HALF.test(value))) return value;
+  if (Number.isInteger(value?.rgba) && value.rgba >= 0 && value.rgba <= 0xffffffff) return { rgba: value.rgba };
+  const big = BIG.test(value?.big) ? BigInt(value.big) : null;
+  return big !== null && BigInt.asIntN(64, big) === big ? big : refuse('damaged');
+}
+
+const readBox = (box) => Array.isArray(box) && box.length === 4 && box.every((it) => typeof it === 'number' && Math.abs(it) <= FARTHEST) ? box : refuse('damaged');
 
 // Returns the edits that create these copies in front in a holder, and which of the created objects are the outermost ones. `origin` is the board's
 // point of the holder, and they are put so far from where they were copied.
@@ -65,10 +98,13 @@ export function pasting(copies, holder, origin, [dx, dy]) {
   return { edits, tops };
 }
 
-// A pasted text as a copy of a text object.
-export function copyOfText(text) {
-  const words = text.trim().replace(/\s+/g, ' ').slice(0, LONGEST_TEXT);
-  return words ? [{ kind: 'text', properties: { text: words, size: [Math.max(40, Math.min(600, 9 * words.length)), 22] }, children: [], box: [0, 0, 0, 22] }] : null;
+// Reads a text from elsewhere as a copy of a text object. Returns { copies }, or { fault } with a sentence.
+export function readWords(text) {
+  if (text.length > LONGEST) return { fault: FAULTS.long('pasted') };
+  const words = text.trim().replace(/\s+/g, ' ').replace(/\p{Cs}/gu, '\ufffd'), { fault } = readText(words, 'text');
+  if (!words) return { fault: 'There is nothing to paste: copy an object or a text first.' };
+  const size = [Math.max(40, Math.min(600, 9 * words.length)), 22];
+  return fault ? { fault } : { copies: [{ kind: 'text', properties: { text: words, size }, children: [], box: [0, 0, ...size] }] };
 }
 
 export const boxOfCopies = (copies) => boxAround(copies.map(({ box }) => box));

@@ -1,7 +1,7 @@
 // Copy, cut, paste and duplicate, by keys and by buttons.
 import { at } from './elements.js';
 import { deleteChosen } from './arrange.js';
-import { MOST_COPIED, boxOfCopies, copyOf, copyOfText, pasting, readCopy } from './clipboard.js';
+import { boxOfCopies, copyOf, pasting, readCopy, readWords } from './clipboard.js';
 import { objects, originOf } from './doc.js';
 import { openPage } from './pages.js';
 import { choose, outermost } from './selection.js';
@@ -12,13 +12,12 @@ import { say } from './toast.js';
 const TYPE = 'application/x-whiteboard+json', KEPT = 'whiteboard copy', STEP = 20;
 let copied = null, times = 0;                           // the last copy, and how often it was pasted
 
-const countOf = (ids) => ids.length === 1 ? '1 object' : `${ids.length} objects`;
+const countOf = (ids) => ids.length === 1 ? '1 object' : `${ids.length.toLocaleString('en')} objects`;
 
 // Copies what is chosen: to the system's clipboard if there is an event for it, and to other windows of this page. Returns whether it was copied.
 function copy(event = null) {
-  const ids = outermost(), text = ids.length ? copyOf(ids) : null;
-  if (!ids.length) { say('Choose what to copy first.'); return false; }
-  if (!text) { say(`More than ${MOST_COPIED.toLocaleString()} objects can’t be copied at once.`); return false; }
+  const ids = outermost(), { text, fault } = ids.length ? copyOf(ids) : { fault: 'Choose what to copy first.' };
+  if (fault) { say(fault); return false; }
   event?.clipboardData.setData(TYPE, text);
   event?.clipboardData.setData('text/plain', text);
   event?.preventDefault();
@@ -40,20 +39,18 @@ async function paste(copies, { holder = openPage(), isBeside = true } = {}) {
 }
 
 function pasteText(text) {
-  const copies = readCopy(text);
-  if (copies && text !== copied) { copied = text; times = 0; }
-  if (copies) return paste(copies);
-  if (text.startsWith('{"whiteboard":1')) return say('This copy can’t be read: it is damaged, or has too many objects.');
-  const written = copyOfText(text);
-  return written ? paste(written, { isBeside: false }) : say('There is nothing to paste: copy an object or a text first.');
+  const copy = readCopy(text), { copies, fault } = copy ?? readWords(text);
+  if (fault) return say(fault);
+  if (copy && text !== copied) { copied = text; times = 0; }
+  return paste(copies, { isBeside: copy !== null });
 }
 
 export function duplicate() {
-  const ids = outermost(), text = ids.length ? copyOf(ids) : null, holders = new Set(ids.map((id) => objects.get(id).parent));
-  if (!ids.length) return say('Choose what to duplicate first.');
-  if (!text) return say(`More than ${MOST_COPIED.toLocaleString()} objects can’t be duplicated at once.`);
+  const ids = outermost(), { text, fault } = ids.length ? copyOf(ids, 'duplicated') : { fault: 'Choose what to duplicate first.' };
+  if (fault) return say(fault);
+  const holders = new Set(ids.map((id) => objects.get(id).parent));
   times = 0;
-  return paste(readCopy(text), holders.size === 1 ? { holder: [...holders][0] } : {});
+  return paste(readCopy(text).copies, holders.size === 1 ? { holder: [...holders][0] } : {});
 }
 
 function pasteKept() {

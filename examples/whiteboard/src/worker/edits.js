@@ -7,8 +7,8 @@ const isCreation = (name) => name.startsWith('create');
 // In place of an id `$` is the last object that was created, `$0` the first, `$1` the second.
 const refer = (id, made) => id === '$' ? made.at(-1) : /^\$\d+$/.test(id ?? '') ? made[Number(id.slice(1))] : id;
 
-// A value as the page sends it: a colour is no instance of its class any more.
-const valueOf = (value, Colour) => value?.rgba === undefined ? value : new Colour(value.rgba);
+// A value as the page sends it: a colour, alone or in a list, is no instance of its class any more.
+const valueOf = (value, Colour) => Array.isArray(value) ? value.map((it) => valueOf(it, Colour)) : value?.rgba === undefined ? value : new Colour(value.rgba);
 
 // Makes edits in order. The first that is refused ends them, and so does one with a value that is none. Returns { ids, refused }: of what was created,
 // and the edit that ended them, with the reason.
