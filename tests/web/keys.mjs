@@ -41,7 +41,7 @@ await run(async ({ open, pictures }) => {
   const [, , rect, ellipse, text, frame] = (await board.objects()).map(({ id }) => id);
 
   // Tab goes through all of the page, and shows where it is.
-  const where = () => board.js("(({ id, dataset: { tool, side, ink, id: row } }) => id || tool || side || ink || row || '')(document.activeElement)");
+  const where = () => board.js("(({ id, dataset: { tool, side, ink, id: row } }) => id === 'stage' ? [id, ...lugcurrant.chosen()].join(' ') : id || tool || side || ink || row || '')(document.activeElement)");
   await board.js("document.querySelector('[data-tool=select]').focus()");
   await press('Tab', { shift: true });
   await press('Tab');
@@ -50,7 +50,8 @@ await run(async ({ open, pictures }) => {
     assert(await board.js(`(${isFocusSeen})()`), `the focus is not seen on ${at}`);
     reached.push(at);
   }
-  const wanted = ['select', 'zoom', 'theme', 'help', 'offline', 'stage', 'newpage', frame, 'name', 'x', 'y', 'w', 'h', 'fill', 'into', 'left', 'back', 'front', 'copy', 'duplicate', 'paste', 'delete'];
+  const onBoard = [frame, text, ellipse, rect].map((id) => `stage ${id}`);
+  const wanted = ['select', 'zoom', 'theme', 'help', 'offline', ...onBoard, 'newpage', rect, 'name', 'x', 'y', 'w', 'h', 'fill', 'into', 'left', 'back', 'front', 'copy', 'duplicate', 'paste', 'delete'];
   const order = reached.filter((it) => wanted.includes(it));
   assert.deepEqual(order, wanted, reached.join());
   passed(`Tab reaches ${reached.length} places in order, and each shows the focus`);
@@ -62,6 +63,52 @@ await run(async ({ open, pictures }) => {
     assert(roles.includes(it), `${it} is not among ${roles.join(', ')}`);
   }
   passed('a screen reader hears of tools, colours, lists and fields');
+
+  // On the board Tab goes from object to object, and Escape is a way out.
+  await board.focus('newpage');
+  await press('Tab', { shift: true });
+  assert.equal(await where(), `stage ${rect}`);
+  await press('Tab', { shift: true });
+  assert.equal(await where(), `stage ${ellipse}`);
+  assert.equal(await board.js("getComputedStyle(document.querySelector('#marks .chosen')).strokeWidth"), '3px');
+  if (pictures) await window.picture(join(pictures, 'focus.png'));
+  await press('Escape');
+  assert.equal(await where(), 'stage');
+  await press('Tab');
+  assert.equal(await where(), 'newpage');
+  passed('Shift and Tab go back on the board; after Escape, Tab leaves it');
+  await press('Tab', { shift: true });
+  await press('Tab');
+  assert.deepEqual([await where(), await board.js("document.getElementById('spoken').textContent")], [`stage ${frame}`, 'Frame, 1 of 4']);
+  await press('Tab', { shift: true });
+  assert.equal(await where(), 'offline');
+  passed('with nothing chosen it begins with the first, and says which that is; before that it leaves');
+  await board.focus('stage');
+  await press('Escape');
+  await board.focus('zoom');
+  await board.focus('stage');
+  await press('Tab', { shift: true });
+  assert.equal(await where(), `stage ${rect}`);
+  passed('backward with the last');
+  const far = await board.make('text', (await board.object(rect)).parent, [4000, 3000, 130, 22], { text: 'Far' });
+  await becomes('one more is far away', () => board.js(`Boolean(document.querySelector('#objects [data-id="${far}"]'))`));
+  await press('Escape');
+  await board.focus('zoom');
+  await board.focus('stage');
+  await press('Tab');
+  const [farX, farY] = await board.middleOf(far), stage = await board.js("(({ left, right, top, bottom }) => [left, right, top, bottom])(document.getElementById('stage').getBoundingClientRect())");
+  assert(farX > stage[0] && farX < stage[1] && farY > stage[2] && farY < stage[3], `${await where()} at ${farX}, ${farY}`);
+  passed('what it reaches is brought into sight');
+  await press('Enter');
+  assert.equal(await board.focused(), 'text');
+  await window.call('Input.insertText', { text: 'Near' });
+  await press('Enter');
+  await becomes('Enter goes to the text of a text, and takes it', async () => (await properties(far)).text === 'Near');
+  await press('Escape');
+  assert.equal(await where(), `stage ${far}`);
+  await press('Delete');
+  await becomes('Delete deletes it', async () => (await board.object(far)) === null);
+  await press('1');
 
   // A toolbar is one stop, and its arrow keys go on.
   await board.js("document.querySelector('[data-tool=select]').focus()");
@@ -104,8 +151,9 @@ await run(async ({ open, pictures }) => {
   await press('Escape');
   assert.deepEqual(await board.chosen(), []);
   const seen = () => board.js("[lugcurrant.sight.x, lugcurrant.sight.y, lugcurrant.sight.scale]");
+  const [left, top, scale] = await seen();
   await press('ArrowRight');
-  assert.deepEqual(await seen(), [-40, 0, 1]);
+  assert.deepEqual(await seen(), [left - 40, top, scale]);
   passed('Escape chooses nothing; then the arrows move the board');
   await press('+');
   assert((await seen())[2] > 1.2);

@@ -4,7 +4,6 @@ import { deleteChosen, nudge, reorder } from './arrange.js';
 import { duplicate } from './copying.js';
 import { below, boxAround, boxOf, childrenOf, objects } from './doc.js';
 import { cancel } from './gestures.js';
-import { writeName } from './list.js';
 import { openPage } from './pages.js';
 import { choose, chosenIds, outermost } from './selection.js';
 import { closeSheet } from './sheet.js';
@@ -12,6 +11,7 @@ import { setSeveral } from './several.js';
 import { fit, panBy, zoomBy, zoomTo } from './sight.js';
 import { setSpace } from './touches.js';
 import { createInMiddle, pickTool, pickedTool } from './tools.js';
+import { write } from './writing.js';
 
 const FAR = 10, PAN = 40;                               // units of a move with Shift, and pixels of a move of the board
 
@@ -36,7 +36,7 @@ export function showAll() {
 
 function enter() {
   if (pickedTool() !== 'select') createInMiddle();
-  else if (chosenIds().length === 1) writeName();
+  else if (chosenIds().length === 1) write(chosenIds()[0]);
 }
 
 const KEYS = {

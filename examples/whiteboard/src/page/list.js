@@ -74,12 +74,22 @@ function pick(event, id) {
 list.onclick = (event) => { if (idOfRow(event)) pick(event, idOfRow(event)); };
 at('pages').onclick = (event) => { if (idOfRow(event)) showPage(idOfRow(event)); };
 
-export function writeName() {
-  at('name').focus();
-  at('name').select();
+const listeners = [];
+
+// Calls `act` with the object whose words are to be written.
+export const whenWritten = (act) => listeners.push(act);
+function writeRow(id) { for (const act of listeners) act(id); }
+
+// Returns the object that is listed after another one (1), or before it (-1): { id, place, count }, or null past the end. Beside one that isn't listed
+// is the first, or the last.
+export function listedBeside(id, by) {
+  for (let k = places.has(id) ? places.get(id) + by : by > 0 ? 0 : listed.length - 1; k >= 0 && k < listed.length; k += by) {
+    if (listed[k][0] !== null) return { id: listed[k][0], place: k + 1, count: listed.length };
+  }
+  return null;
 }
 
-// Arrows go from row to row and choose; with Shift what they reach is chosen too. The space bar adds a row or takes it away. Enter goes to the name.
+// Arrows go from row to row and choose; with Shift what they reach is chosen too. The space bar adds a row or takes it away. Enter writes its words.
 function keyInList(event) {
   const isPages = event.currentTarget === at('pages'), ids = isPages ? childrenOf(ROOT) : listed.map(([id]) => id).filter((id) => id !== null);
   const li = event.target.closest('li'), from = ids.indexOf(li?.dataset.id);
@@ -104,12 +114,12 @@ function keyOnRow({ key }, id, isPages) {
   if (isPages) showPage(id);
   else if (key === ' ') toggle(id);
   else if (!chosenIds().includes(id)) choose([id]);
-  if (key === 'Enter') writeName();
+  if (key === 'Enter') writeRow(id);
 }
 
 for (const one of [list, at('pages')]) {
   one.addEventListener('keydown', keyInList);
-  one.ondblclick = (event) => { if (idOfRow(event)) writeName(); };
+  one.ondblclick = (event) => { if (idOfRow(event)) writeRow(idOfRow(event)); };
 }
 scroller.addEventListener('scroll', showRows, { passive: true });
 addEventListener('resize', () => { height = 0; showRows(); });

@@ -4,12 +4,13 @@ import './theme.js';
 import './install.js';
 import './keys.js';
 import './layers.js';
+import './walking.js';
 import { at } from './elements.js';
 import { objects, takeReport, whenChanged } from './doc.js';
 import { draw, drawPage, erase, markStale } from './drawing.js';
 import { forgetGone } from './gestures.js';
 import { noteChanges } from './lifting.js';
-import { listPage, scrollToRow, showRows, writeName } from './list.js';
+import { listPage, scrollToRow, showRows, whenWritten } from './list.js';
 import { drawMarks } from './marks.js';
 import { atMostEvery } from './pace.js';
 import { keepPage, openPage, whenOpened } from './pages.js';
@@ -17,13 +18,13 @@ import { fillPanel } from './panel.js';
 import { dressIfThere, dropRow, idOfRow } from './rows.js';
 import { chosenIds, isChosen, lastChosen, pruneChosen, whenChosen } from './selection.js';
 import { isSeveral } from './several.js';
-import { openSheet } from './sheet.js';
 import { sight, whenSeen } from './sight.js';
 import { keepState, keeps, showBroken, showState, stateNow } from './status.js';
 import { ask, send, whenBroken, whenTold } from './talk.js';
 import { say } from './toast.js';
 import { labelOf } from './values.js';
 import { CHANGED, anewWords, refusal } from './words.js';
+import { write } from './writing.js';
 
 const PACE = 100;                                       // milliseconds between two looks of the panel and the foot of the page in a drag
 const fillPanelSoon = atMostEvery(PACE, () => fillPanel(false)), showStateSoon = atMostEvery(PACE, showState);
@@ -63,12 +64,10 @@ whenTold('refused', (told) => say(refusal({ ...told, name: objects.has(told.id) 
 whenTold('broken', showBroken);
 whenBroken(showBroken);
 
-// A double click on an object goes to its name, or to the text of a text.
+whenWritten(write);
 at('stage').ondblclick = (event) => {
   const object = objects.get(event.target.closest?.('[data-id]')?.dataset.id);
-  if (!object || object.kind === 'page' || isSeveral()) return;
-  openSheet('details');
-  if (object.kind === 'text') at('text').select(); else writeName();
+  if (object && object.kind !== 'page' && !isSeveral()) write(object.id);
 };
 at('list').addEventListener('click', (event) => { if (idOfRow(event)) drawMarks(); });
 
