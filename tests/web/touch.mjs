@@ -124,6 +124,24 @@ await run(async ({ open, pictures }) => {
   assert.equal(await parts(), 0);
   passed('and down until it is closed');
 
+  // The browser takes no tap while what it believes to be a fling lasts.
+  for (let k = 0; k < 4; k += 1) {
+    await tap('#showlists');
+    const from = await window.middle('#grip');
+    await window.swipe([from], [[from[0], 760]]);
+    await becomes('a fast swipe closes the sheet', async () => await parts() === 0);
+    await tap('#showdetails');
+    assert(await parts() > 250, `${await parts()}`);
+    passed('and the next tap is taken');
+    await tap('#showdetails');
+  }
+  const spot = await phone.middleOf(note), stood = await phone.at(note);
+  await window.swipe([spot], [[spot[0], spot[1] - 120]], 4);
+  await becomes('an object is dragged fast', async () => !same(await phone.at(note), stood));
+  await tap('[data-tool=ellipse]');
+  await tap('[data-tool=select]');
+  passed('and a tool is tapped then');
+
   // A tablet: upright with the sheet, lying with the panels.
   const tablet = await open(820, 1180, { touch: true });
   assert.equal(await tablet.js("document.getElementById('stage').clientWidth"), 820);

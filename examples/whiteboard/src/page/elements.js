@@ -13,3 +13,7 @@ export function svg(name, attributes = {}) {
 export function setAttributes(element, attributes) {
   for (const [key, value] of Object.entries(attributes)) if (element.getAttribute(key) !== String(value)) element.setAttribute(key, value);
 }
+
+// Has the browser make nothing of a finger that is dragged on an element. It begins a fling even if it may not scroll there, and while that lasts the
+// next tap is no click.
+export function keepFingers(element) { element.addEventListener('touchmove', (event) => event.preventDefault(), { passive: false }); }

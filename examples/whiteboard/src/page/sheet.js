@@ -1,5 +1,5 @@
 // On a narrow screen the lists and the panel are in a sheet below the board. A bar on it opens either of them, and drags the sheet higher or lower.
-import { at } from './elements.js';
+import { at, keepFingers } from './elements.js';
 import { boxOf, objects } from './doc.js';
 import { showRows, scrollToRow } from './list.js';
 import { lastChosen } from './selection.js';
@@ -62,4 +62,5 @@ at('grip').onpointerup = () => {
   if (shareNow() < CLOSED) show(null);
 };
 at('grip').onpointercancel = () => { drag = null; };
+keepFingers(at('grip'));
 isNarrow.addEventListener('change', () => { show(null); });

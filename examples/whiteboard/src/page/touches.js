@@ -1,6 +1,6 @@
 // Pointers of the board. One is a gesture (gestures.js). Two fingers move the board and enlarge it, as do the wheel, the middle button, and the space bar
 // with the pointer.
-import { at } from './elements.js';
+import { at, keepFingers } from './elements.js';
 import { begin, cancel, end, move } from './gestures.js';
 import { fromStage, onStage, panBy, putAt, sight, zoomTo } from './sight.js';
 
@@ -58,6 +58,7 @@ function lift(event, isKept) {
 }
 stage.addEventListener('pointerup', (event) => lift(event, true));
 stage.addEventListener('pointercancel', (event) => lift(event, false));
+keepFingers(stage);
 
 // The wheel moves the board; with Ctrl, as a pinch on a touchpad is reported, it enlarges it to where the pointer is.
 stage.addEventListener('wheel', (event) => {
