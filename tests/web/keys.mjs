@@ -51,7 +51,7 @@ await run(async ({ open, pictures }) => {
     reached.push(at);
   }
   const onBoard = [frame, text, ellipse, rect].map((id) => `stage ${id}`);
-  const wanted = ['select', 'zoom', 'theme', 'help', 'offline', ...onBoard, 'newpage', rect, 'name', 'x', 'y', 'w', 'h', 'fill', 'into', 'left', 'back', 'front', 'copy', 'duplicate', 'paste', 'delete'];
+  const wanted = ['select', 'zoom', 'theme', 'help', 'offline', ...onBoard, 'newpage', rect, 'name', 'x', 'y', 'w', 'h', 'colour', 'fill', 'into', 'left', 'back', 'front', 'copy', 'duplicate', 'paste', 'delete'];
   const order = reached.filter((it) => wanted.includes(it));
   assert.deepEqual(order, wanted, reached.join());
   passed(`Tab reaches ${reached.length} places in order, and each shows the focus`);

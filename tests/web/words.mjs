@@ -23,6 +23,8 @@ await run(async ({ open, server, pictures }) => {
     ['x', '', 'X is empty: type a whole number.'], ['x', '12a', '“12a” is not a number: type a whole number, such as 120.'], ['x', '1e5', '“1e5” is not a number: type a whole number, such as 120.'],
     ['y', '12.5', 'Y must be a whole number: 12 or 13.'], ['y', '-99999999999999999999', 'Y must be −1,000,000,000 or more.'], ['w', '0', 'The width must be 1 or more.'],
     ['h', '-4', 'The height must be 1 or more.'], ['h', '1000000001', 'The height must be 1,000,000,000 or less.'], ['name', 'n'.repeat(201), 'A name can have 200 characters; this one has 201.'],
+    ['colour', '', 'The colour is empty: type one such as #336699.'], ['colour', 'bluish', '“bluish” is not a colour: type one such as #336699 or Green.'],
+    ['colour', '#12345', '“#12345” is not a colour: type one such as #336699 or Green.'], ['colour', 'url(javascript:alert(1))', '“url(javascript:alert…” is not a colour: type one such as #336699 or Green.'],
   ]) {
     await board.write(id, typed);
     assert.deepEqual([await fault(id), await board.js(`document.getElementById('${id}').getAttribute('aria-invalid')`)], [sentence, 'true']);
@@ -41,6 +43,18 @@ await run(async ({ open, server, pictures }) => {
   await window.clickAt(await board.on(60, 60));
   assert.equal(await fault('y'), null);
   passed('so does another choice');
+  await window.clickAt(await board.middleOf(note));
+  for (const [typed, value, hex] of [['#336699', 0x336699ff, '#336699'], ['ABC', 0xaabbccff, '#aabbcc'], ['light Grey', 0xd9d3cbff, '#d9d3cb']]) {
+    await board.write('colour', typed);
+    await becomes(`a colour is typed as ${typed}`, async () => (await properties()).fill.rgba === value && (await board.value('colour')) === hex && (await board.value('fill')) === hex, async () => JSON.stringify(await properties()));
+  }
+  await board.focus('stage');
+  await window.key('a', { ctrl: true });
+  assert.deepEqual([await board.value('colour'), await board.js("document.getElementById('what').textContent")], ['', '2 objects']);
+  await board.write('colour', 'nothing');
+  assert.match(await fault('colour'), /is not a colour/);
+  await board.write('colour', 'Yellow');
+  await becomes('of several objects the colour of each', async () => (await board.objects()).every(({ kind, properties: { fill } }) => !['frame', 'shape'].includes(kind) || fill?.rgba === 0xe9c46aff));
   await window.clickAt(await board.middleOf(note));
   await board.write('y', '−30');
   await becomes('a minus as it is printed is one', async () => same((await properties()).at, [400, -30]));

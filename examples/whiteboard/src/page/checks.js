@@ -1,4 +1,6 @@
 // Checks what is typed into the panel's fields. Each returns { value }, or { fault } with a sentence that says what is wrong.
+import { INKS } from './values.js';
+
 export const FARTHEST = 1000000000;                     // how far a field may put an object, and how large make it
 export const LONGEST = { name: 200, text: 2000 };
 
@@ -14,6 +16,15 @@ export function readWhole(typed, what, least) {
   if (value > FARTHEST) return { fault: `${what} must be ${grouped(FARTHEST)} or less.` };
   if (!Number.isInteger(value)) return { fault: `${what} must be a whole number: ${Math.floor(value)} or ${Math.ceil(value)}.` };
   return { value };
+}
+
+// A colour: three or six hex digits, or the name of a swatch. The value is written #rrggbb.
+export function readColour(typed) {
+  const text = typed.trim(), named = Object.entries(INKS).find(([name]) => name.toLowerCase() === text.toLowerCase()), digits = /^#?([0-9a-f]{3}|[0-9a-f]{6})$/i.exec(text)?.[1].toLowerCase();
+  if (!text) return { fault: 'The colour is empty: type one such as #336699.' };
+  if (named) return { value: named[1] };
+  if (!digits) return { fault: `“${short(text)}” is not a colour: type one such as #336699 or Green.` };
+  return { value: `#${digits.length === 3 ? [...digits].map((it) => it + it).join('') : digits}` };
 }
 
 // A text of at most LONGEST characters.

@@ -1,15 +1,15 @@
 // The panel of what is chosen: its fields, which check what is typed, and its buttons.
 import { align, deleteChosen, distribute, putInto, reorder } from './arrange.js';
-import { FARTHEST, readText, readWhole } from './checks.js';
+import { FARTHEST, readColour, readText, readWhole } from './checks.js';
 import { at } from './elements.js';
 import { DEEPEST, childrenOf, objects } from './doc.js';
 import { moveFocusByArrows } from './focus.js';
 import { openPage } from './pages.js';
-import { chosenObjects, onlyChosen } from './selection.js';
-import { send, setLater } from './talk.js';
+import { chosenObjects, onlyChosen, whenChosen } from './selection.js';
+import { make, setLater } from './talk.js';
 import { STONE, colourOf, hexOf, kindOf, labelOf, sizeOf, spotOf, textOf } from './values.js';
 
-// The fields of one object: what each reads, or { fault }, and the edit that it makes.
+// The fields: what each reads, or { fault }, what it shows of an object, and the edit that it makes. All but the colour are of one object.
 const place = (name, k, what, least, pairOf) => ({
   read: (typed) => readWhole(typed, what, least),
   show: (object) => pairOf(object)[k],
@@ -24,6 +24,7 @@ const FIELDS = {
   name: words('name'), text: words('text'),
   x: place('at', 0, 'X', -FARTHEST, spotOf), y: place('at', 1, 'Y', -FARTHEST, spotOf),
   w: place('size', 0, 'The width', 1, sizeOf), h: place('size', 1, 'The height', 1, sizeOf),
+  colour: { read: readColour, show: (object) => hexOf(object.properties.fill, ''), edit: (object, value) => ['set', object.id, 'fill', colourOf(value)], isOfAll: true },
 };
 let shown = null;                                       // the object whose fields are filled
 
@@ -31,18 +32,24 @@ let shown = null;                                       // the object whose fiel
 
 export function fillPanel(hasOthers = true) {
   const id = onlyChosen(), object = objects.get(id) ?? null, several = object ? [object] : chosenObjects().map((it) => objects.get(it)), isPage = object?.kind === 'page';
-  if (shown !== id) for (const name of Object.keys(FIELDS)) showFault(name, null);
   shown = id;
   at('panel').dataset.of = object ? (isPage ? 'page' : object.kind) : several.length ? 'several' : 'none';
   at('what').textContent = object ? kindOf(object) : several.length ? `${several.length.toLocaleString()} objects` : 'Nothing chosen';
   at('what').title = object?.id ?? '';
   if (object) for (const [name, field] of Object.entries(FIELDS)) fillField(at(name), String(field.show(object)));
+  if (several.length && !object) fillField(at('colour'), colourOfAll(several));
   if (several.length && document.activeElement !== at('fill')) at('fill').value = hexOf(several[0].properties.fill, STONE);
   if (several.length && !isPage && hasOthers) fillHolders(several);
 }
 
 function fillField(field, text) {
   if (document.activeElement !== field && !field.hasAttribute('aria-invalid') && field.value !== text) field.value = text;
+}
+
+// Returns what the field of the colour shows of several objects: nothing if they differ.
+function colourOfAll(several) {
+  const first = FIELDS.colour.show(several[0]);
+  return several.every((it) => FIELDS.colour.show(it) === first) ? first : '';
 }
 
 // Lists the page and its frames, but not what would be put into itself.
@@ -65,27 +72,34 @@ function fillHolders(several) {
 // Shows below a field what is wrong with it, or nothing.
 function showFault(name, fault) {
   const line = at(`${name}-fault`), field = at(name);
+  if (line.textContent === (fault ?? '')) return;
   if (!fault) field.removeAttribute('aria-invalid'); else field.setAttribute('aria-invalid', 'true');
   line.textContent = fault ?? '';
   line.hidden = !fault;
 }
 
 function take(name) {
-  const object = objects.get(shown), { value, fault } = FIELDS[name].read(at(name).value);
+  const { read, show, edit } = FIELDS[name], { value, fault } = read(at(name).value);
   showFault(name, fault ?? null);
-  if (!object || fault || String(FIELDS[name].show(object)) === String(value)) return;
-  send(FIELDS[name].edit(object, value));
+  if (fault) return;
+  at(name).value = value;
+  make(objectsOf(name).filter((it) => String(show(it)) !== String(value)).map((it) => edit(it, value)));
 }
+
+// Returns the objects of which a field is.
+const objectsOf = (name) => (FIELDS[name].isOfAll ? chosenObjects() : [shown]).filter((id) => objects.has(id)).map((id) => objects.get(id));
 
 // Shows again what the object has.
 function restore(name) {
+  const of = objectsOf(name);
   showFault(name, null);
-  if (objects.has(shown)) at(name).value = FIELDS[name].show(objects.get(shown));
+  if (of.length) at(name).value = name === 'colour' ? colourOfAll(of) : FIELDS[name].show(of[0]);
 }
+whenChosen(() => { for (const name of Object.keys(FIELDS)) showFault(name, null); });
 
 function step(event, name) {
   const by = { ArrowUp: 1, ArrowDown: -1 }[event.key], { value } = FIELDS[name].read(at(name).value);
-  if (!by || value === undefined || name === 'name' || name === 'text') return;
+  if (!by || typeof value !== 'number') return;
   event.preventDefault();
   at(name).value = value + by * (event.shiftKey ? 10 : 1);
   take(name);
