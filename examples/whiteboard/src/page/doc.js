@@ -84,7 +84,7 @@ export function boxAround(boxes) {
 // Returns the ids of an object and of all below it, each before its children.
 export function below(id) {
   const found = [id];
-  for (let k = 0; k < found.length; k += 1) found.push(...childrenOf(found[k]));
+  for (let k = 0; k < found.length; k += 1) for (const child of childrenOf(found[k])) found.push(child);
   return found;
 }
 

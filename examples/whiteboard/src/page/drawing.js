@@ -2,7 +2,7 @@
 // that the browser puts together anew in each frame in which something moves, and a board may have thousands of shapes.
 import { at, setAttributes, svg } from './elements.js';
 import { DEEPEST, ROOT, childrenOf, objects, originOf } from './doc.js';
-import { PAPER, STONE, formOf, hexOf, inkOn, labelOf, sizeOf, spotOf, textOf } from './values.js';
+import { PAPER, STONE, formOf, hexOf, inkOn, labelOf, nameOf, sizeOf, spotOf, wordsOf } from './values.js';
 
 const drawn = new Map();                                // { group, body, label, inner } by ids
 const stale = new Set();                                // objects whose children's groups are to be put in order
@@ -48,12 +48,12 @@ export function place(object) {
 }
 
 function paint(object, { body, label, inner }) {
-  const { fill, name, text } = object.properties, isFrame = object.kind === 'frame', hex = hexOf(fill, isFrame ? PAPER : STONE);
+  const { fill } = object.properties, isFrame = object.kind === 'frame', hex = hexOf(fill, isFrame ? PAPER : STONE);
   if (object.kind !== 'text') setAttributes(body, { fill: hex });
   if (isFrame) setAttributes(inner, { color: inkOn(hex) });             // of a text in it that has no colour
   if (object.kind === 'shape') setAttributes(label, { fill: inkOn(hex) });
   if (object.kind === 'text') setAttributes(label, { fill: hexOf(fill, 'currentColor') });
-  const words = object.kind === 'text' ? textOf(text) || labelOf(object) : textOf(name);
+  const words = object.kind === 'text' ? wordsOf(object) || labelOf(object) : nameOf(object);
   if (label.textContent !== words) label.textContent = words;
 }
 

@@ -8,7 +8,7 @@ import { choose, chooseAlso, chosenIds, lastChosen, toggle } from './selection.j
 import { isSeveral } from './several.js';
 import { bring } from './sight.js';
 
-const SPARE = 10;                                       // rows above and below what can be seen
+const SPARE = 10, MOST_PAGES = 500;                     // rows above and below what can be seen; rows of pages
 const list = at('list'), scroller = list.parentElement;
 let listed = [], places = new Map(), height = 0;        // [id, depth] of each row, null for what lies too deep; the row of each id; pixels
 
@@ -27,8 +27,13 @@ export function listPage() {
   }
   places = new Map(listed.map(([id], k) => [id, k]));
   showRows();
-  fillList(at('pages'), childrenOf(ROOT).filter((id) => objects.has(id)).map((id) => dress(objects.get(id), 0)));
+  fillList(at('pages'), pageRows());
   at('hint').hidden = listed.length > 0;
+}
+
+function pageRows() {
+  const pages = childrenOf(ROOT).filter((id) => objects.has(id)), listed = pages.filter((id, k) => k < MOST_PAGES || id === openPage());
+  return [...listed.map((id) => dress(objects.get(id), 0)), ...listed.length < pages.length ? [rowOfMore(0, `..and ${pages.length - listed.length} more`)] : []];
 }
 
 export function showRows() {

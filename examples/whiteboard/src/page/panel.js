@@ -26,6 +26,7 @@ const FIELDS = {
   w: place('size', 0, 'The width', 1, sizeOf), h: place('size', 1, 'The height', 1, sizeOf),
   colour: { read: readColour, show: (object) => hexOf(object.properties.fill, ''), edit: (object, value) => ['set', object.id, 'fill', colourOf(value)], isOfAll: true },
 };
+const MOST_HOLDERS = 500;                               // frames that are offered to put something into
 let shown = null;                                       // the object whose fields are filled
 
 // ---- filling ----
@@ -52,18 +53,19 @@ function colourOfAll(several) {
   return several.every((it) => FIELDS.colour.show(it) === first) ? first : '';
 }
 
-// Lists the page and its frames, but not what would be put into itself.
+// Lists the page and its frames, but not what would be put into itself. Of very many it lists the first ones.
 function fillHolders(several) {
   if (document.activeElement === at('into')) return;
   const own = new Set(several.map(({ id }) => id)), parents = new Set(several.map(({ parent }) => parent)), options = [];
   const add = (id, depth) => {
     const holder = objects.get(id);
-    if (!holder || (id !== openPage() && holder.kind !== 'frame') || own.has(id)) return;
+    if (!holder || (id !== openPage() && holder.kind !== 'frame') || own.has(id) || options.length > MOST_HOLDERS) return;
     options.push(new Option(`${'\u2003'.repeat(depth)}${labelOf(holder)}`, id, false, parents.size === 1 && parents.has(id)));
     if (depth <= DEEPEST) for (const child of childrenOf(id)) add(child, depth + 1);
   };
   add(openPage(), 0);
   if (parents.size > 1) options.unshift(new Option('Different places', '', true, true));
+  else if (!options.some(({ selected }) => selected)) options.unshift(new Option(labelOf(objects.get([...parents][0])), [...parents][0], true, true));
   at('into').replaceChildren(...options);
 }
 

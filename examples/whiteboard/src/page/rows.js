@@ -47,10 +47,10 @@ export function dropRow(id) {
   rows.delete(id);
 }
 
-export function rowOfMore(depth) {
+export function rowOfMore(depth, words = '..and what lies below') {
   const li = document.createElement('li');
   li.style.paddingLeft = indent(depth);
-  li.textContent = '..and what lies below';
+  li.textContent = words;
   return li;
 }
 
