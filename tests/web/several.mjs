@@ -157,6 +157,31 @@ await run(async ({ open, pictures }) => {
   assert.equal(await count(), now);
   passed('a copy that is damaged changes nothing, and that is said (paste.mjs has more)');
 
+  // Many are set once no key follows, or before what a person does next.
+  await window.front();
+  const crowd = await board.page('Crowd'), MANY = 60;
+  await becomes('another page is there', () => board.js(`Boolean(document.querySelector('#pages [data-id="${crowd}"]'))`));
+  await window.click(`#pages [data-id="${crowd}"]`);
+  await board.js(`lugcurrant.send(...Array.from({ length: ${MANY} }, (_, k) => [['createLast', 'shape', '${crowd}'], ['set', '$', 'at', [20 + 30 * (k % 10), 20 + 30 * Math.floor(k / 10)]], ['set', '$', 'size', [20, 20]]]).flat())`);
+  await becomes(`with ${MANY} objects`, async () => (await board.object(crowd)).children.length === MANY && (await board.state()).waiting === 0);
+  await board.focus('stage');
+  await window.key('a', { ctrl: true });
+  const spots = async () => (await board.objects()).filter(({ parent }) => parent === crowd).map(({ properties: { at } }) => at), first = await spots();
+  const edits = async () => { const { acknowledged, waiting } = await board.state(); return Number(acknowledged) + Number(waiting); }, had = await edits();
+  const arrows = (count) => `for (let k = 0; k < ${count}; k += 1) document.getElementById('stage').dispatchEvent(new KeyboardEvent('keydown', { key: 'ArrowRight', bubbles: true }))`;
+  await board.js(`${arrows(10)}; 1`);
+  await becomes('ten presses of an arrow key move them by ten', async () => same(await spots(), first.map(([a, b]) => [a + 10, b])), async () => JSON.stringify(await spots()));
+  assert.equal(await edits() - had, MANY);
+  passed('with an edit for each');
+  const box = await board.js(`(() => { ${arrows(5)}; const data = new DataTransfer(); document.getElementById('stage').dispatchEvent(new ClipboardEvent('copy', { clipboardData: data, bubbles: true })); return JSON.parse(data.getData('text/plain')).objects[0].box; })()`);
+  assert.deepEqual(box, [first[0][0] + 15, first[0][1], 20, 20]);
+  await becomes('what is done next finds them where they are seen', async () => same(await spots(), first.map(([a, b]) => [a + 15, b])) && await board.js("document.querySelectorAll('#objects .shape').length >= 60 && !document.getElementById('carried').hasChildNodes()"));
+  await board.js(`${arrows(1)}; 1`);
+  await window.key('Delete');
+  await becomes('they are deleted, also while they are moved', async () => (await board.object(crowd)).children.length === 0);
+  await board.send(['delete', crowd]);
+  await becomes('and their page', async () => (await board.object(crowd)) === null && (await board.state()).waiting === 0);
+
   // Deleting.
   await window.front();
   await window.key('a', { ctrl: true });

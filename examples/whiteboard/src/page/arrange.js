@@ -1,18 +1,11 @@
 // What is done to the chosen objects: moved, aligned, spaced, put in front or at the back, put into another one, deleted.
 import { boxAround, boxOf, childrenOf, isIn, objects, originOf } from './doc.js';
 import { chosenIds, outermost } from './selection.js';
-import { make, setLater } from './talk.js';
+import { make } from './talk.js';
 import { say } from './toast.js';
 import { labelOf, spotOf } from './values.js';
 
 export const deleteChosen = () => make((outermost().length ? outermost() : chosenIds()).map((id) => ['delete', id]));
-
-export function nudge(dx, dy) {
-  for (const id of outermost()) {
-    const [x, y] = spotOf(objects.get(id));
-    setLater(id, 'at', [x + dx, y + dy]);
-  }
-}
 
 // How far an object goes, by the box to which all are aligned.
 const SHIFTS = {

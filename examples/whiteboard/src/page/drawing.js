@@ -93,13 +93,16 @@ export function drawPage(page) {
 
 // ---- the layer above: what is in it moves without the board being painted again ----
 
-export function lift(id, layer = 'lifted') {
-  const { group } = drawn.get(id) ?? {};
-  if (!group?.parentNode || lifted.has(id)) return;
-  group.setAttribute('color', getComputedStyle(group).color);
-  lifted.add(id);
-  at(layer).append(group);
-  place(objects.get(id));
+// Lifts these objects. All colours are read before anything is changed: else the browser computes the styles anew for each.
+export function lift(ids, layer = 'lifted') {
+  const raised = ids.filter((id) => drawn.get(id)?.group.parentNode && !lifted.has(id)), colours = raised.map((id) => getComputedStyle(drawn.get(id).group).color);
+  for (const [k, id] of raised.entries()) {
+    const { group } = drawn.get(id);
+    group.setAttribute('color', colours[k]);
+    lifted.add(id);
+    at(layer).append(group);
+    place(objects.get(id));
+  }
 }
 
 export function putBack(ids) {

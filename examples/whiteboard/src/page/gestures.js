@@ -4,7 +4,7 @@ import { at } from './elements.js';
 import { editsInto } from './arrange.js';
 import { idsInBand } from './band.js';
 import { holderAt, isIn, objects, originOf } from './doc.js';
-import { carry, carryBy, hold, release, setDown } from './lifting.js';
+import { MANY, carry, carryBy, hold, release, setDown } from './lifting.js';
 import { aids, drawMarks } from './marks.js';
 import { openPage } from './pages.js';
 import { choose, chosenIds, isChosen, outermost, toggle } from './selection.js';
@@ -15,7 +15,6 @@ import { create, pickedTool } from './tools.js';
 import { sizeOf, spotOf } from './values.js';
 
 const STARTS_AT = 3, SMALLEST = 6, LEAST_SIDE = 8;      // pixels from which on a press is a drag; sides of a drawn box and of a resized one
-const MANY = 50;                                        // from so many objects on a drag is sent when it ends
 let gesture = null;
 
 const boxBetween = ([a, b], [c, d]) => [Math.min(a, c), Math.min(b, d), Math.abs(a - c), Math.abs(b - d)];

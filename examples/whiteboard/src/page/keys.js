@@ -1,9 +1,10 @@
 // Keys of the whole page. A list, a toolbar and a field take theirs first.
 import { at } from './elements.js';
-import { deleteChosen, nudge, reorder } from './arrange.js';
+import { deleteChosen, reorder } from './arrange.js';
 import { duplicate } from './copying.js';
 import { below, boxAround, boxOf, childrenOf, objects } from './doc.js';
 import { cancel } from './gestures.js';
+import { nudge } from './nudging.js';
 import { openPage } from './pages.js';
 import { choose, chosenIds, outermost } from './selection.js';
 import { closeSheet } from './sheet.js';
