@@ -1,5 +1,5 @@
 //! Tests of `canvas_nodes`: the rounds of an exchange over a list of answers, frames of each kind over sockets in memory, turns over a stream
-//! that would wait, and links over sockets. And of `room_handler`: that a connection is sent what a seat answers, in a long talk, and
+//! that would wait, and links over sockets. Of `net_inbox`: which messages have come together. And of `room_handler`: that a connection is sent what a seat answers, in a long talk, and
 //! exchanges over a link to a seat.
 #![tactic(auto)]
 
@@ -9,6 +9,8 @@ mod connections;
 mod exchanges;
 #[cfg(test)]
 mod frames;
+#[cfg(test)]
+mod inboxes;
 #[cfg(test)]
 mod links;
 #[cfg(test)]
