@@ -1,5 +1,5 @@
 -- What a connection's seat tells.
-use Rattle.std.proofs.Common.{◌≡◌, ℕ, List, [], ◌∷◌, Option, None, Some, Result, Ok, Err, IfErr, refl, ap, sym, subst, ◌∙◌, map}
+use Rattle.std.proofs.Common.{◌≡◌, ℕ, ◌<◌, List, [], ◌∷◌, Option, None, Some, Result, Ok, Err, IfErr, refl, ap, sym, subst, ◌∙◌, map, take, arith}
 use mathlib.Core.Logic.{inl, inr}
 use Rattle.canvas_model.specs.Messages.{Message}
 use Rattle.canvas_board.specs.Marks.{Mark, Opening, board}
@@ -30,7 +30,7 @@ fails_after o old new (Err e) sees stays = (sees, stays, tells_nothing o old.pla
 pub told_nothing : (o : Opening) (old new : LiveValue) (texts : List (List ℕ)) (versions : List ℕ) → SeatSeesOn o old.seat new.seat → new.place ≡ old.place → texts ≡ [] → versions ≡ []
     → TellsInTexts (LiveTells o) old texts versions new
 told_nothing o old new texts versions sees stays empty none =
-    ([], (sees, stays, tells_nothing o old.place new.seat.seen), subst (λ (ts : List (List ℕ)). AreMessageTexts ts []) (sym empty) tt, none)
+    ([], 1, omega arith, (sees, stays, tells_nothing o old.place new.seat.seen), subst (λ (ts : List (List ℕ)). AreMessageTexts ts []) (sym empty) tt, none)
 
 -- the text of the board's copy tells that
 pub told_copy : (o : Opening) (old new : LiveValue) (place : Place) (text : List ℕ) (version : ℕ) (texts : List (List ℕ)) (versions : List ℕ) → SeatSeesOn o old.seat new.seat
@@ -40,14 +40,16 @@ told_copy o old new place text version texts versions sees stays at copy is are 
     let b = board o new.seat.seen in
     let told = copies b place.client ∷ [] in (
       told,
+      1,
+      omega arith,
       (sees, stays, subst (λ (p : Option Place). TellsFrom o p new.seat.seen told) (sym at) (inr (copy.0.0, copy.0.1))),
       subst (λ (ts : List (List ℕ)). AreMessageTexts ts told) (sym is) (copy.0.2, tt),
       are ∙ ap (λ (v : ℕ). v ∷ []) copy.1,
     )
 
--- the texts of a push, or of nothing, tell that
-pub told_each : (o : Opening) (old new : LiveValue) (place : Place) (told : List Message) (texts : List (List ℕ)) (versions : List ℕ) → SeatSeesOn o old.seat new.seat
-    → new.place ≡ old.place → old.place ≡ Some place → TellsUnasked o new.seat.seen place.client place.version told → AreMessageTexts texts told → versions ≡ map version_told told
+-- the texts of the first messages of a push, or of nothing, tell that
+pub told_each : (o : Opening) (old new : LiveValue) (place : Place) (told : List Message) (n : ℕ) (texts : List (List ℕ)) (versions : List ℕ) → 0 < n → SeatSeesOn o old.seat new.seat
+    → new.place ≡ old.place → old.place ≡ Some place → TellsUnasked o new.seat.seen place.client place.version told → AreMessageTexts texts (take n told) → versions ≡ map version_told (take n told)
     → TellsInTexts (LiveTells o) old texts versions new
-told_each o old new place told texts versions sees stays at tells are each =
-    (told, (sees, stays, subst (λ (p : Option Place). TellsFrom o p new.seat.seen told) (sym at) tells), are, each)
+told_each o old new place told n texts versions some sees stays at tells are each =
+    (told, n, some, (sees, stays, subst (λ (p : Option Place). TellsFrom o p new.seat.seen told) (sym at) tells), are, each)

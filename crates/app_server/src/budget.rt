@@ -1,4 +1,5 @@
 // How many bytes may wait to leave for all connections together.
+ghost use Rattle.std.specs.Prelude.{◌<◌};
 
 use canvas_judge::Message;
 use net_outbox::{MUCH_WAITS, Text};
@@ -151,6 +152,20 @@ fn bytes_of(message: &Told, copy: u64) -> usize {
         Told::Other(Message::Copy(_)) => copy as usize,
         Told::Other(_) => 0,
     }
+}
+
+/// Returns how many of these messages a push writes: as many as begin within the first 256 KiB of their texts, and one at least.
+pub(crate) fn pushed(told: &[Told]) -> usize
+    ensures { 0 < result }
+{
+    let mut bytes: usize = 0;
+    for (count, message) in told.iter().enumerate() {
+        if bytes >= MUCH_WAITS {
+            return count.max(1);
+        }
+        bytes = bytes.saturating_add(bytes_of(message, 0));
+    }
+    told.len().max(1)
 }
 
 /// Returns how many bytes a push of these texts takes of the budget: the own bytes of those that go out until 256 KiB wait, if they are more

@@ -10,6 +10,7 @@ ghost use Rattle.room_handler.specs.Told.{seen_told};
 ghost use Rattle.canvas_sockets.specs.Turned.{RepliesInTexts};
 ghost use Rattle.app_server.specs.Live.{BeginsAt, GivesLiveInTexts, RefusesPlace, RepliesToWord, TellsUnasked};
 
+use crate::budget::pushed;
 use crate::polling::Caller;
 use crate::seat_terms::SeatTerms;
 use app_listener::Shared;
@@ -234,7 +235,9 @@ where
                 is_held: false,
             });
         }
-        let told = self.told_after(alloc, place)?;
+        let mut told = self.told_after(alloc, place)?;
+        let count = pushed(&told);
+        told.truncate(count);
         let texts = told_texts(alloc, &told)?;
         let texts = own_texts(alloc, texts)?;
         if !self.terms.takes(&texts) {

@@ -289,7 +289,7 @@ impl<N: RoomName, W: Wait + Clock> Terms<N> for SeatTerms<'_, N, W> {
         client: u32,
         version: u64,
     ) -> Result<Option<(Text, u64)>, AllocError> {
-        if !self.is_below(version) {
+        if !is_below_floor(alloc, seat, version) {
             return Ok(None);
         }
         self.flags.has_copy.set(true);
@@ -316,4 +316,11 @@ impl<N: RoomName, W: Wait + Clock> Terms<N> for SeatTerms<'_, N, W> {
             self.refuse(reason);
         }
     }
+}
+
+// Checks whether this version is below the floor, by what is published.
+fn is_below_floor<N: RoomName, D: Drop>(alloc: Global, seat: &mut Seat<N, D>, version: u64) -> bool
+    ensures { SeesOn N.opening seat.old seat.new }
+{
+    matches!(seat.tail(alloc, version, 0), Ok(None))
 }

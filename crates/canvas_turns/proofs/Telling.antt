@@ -2,7 +2,7 @@
 use Rattle.std.proofs.Common.{◌≡◌, ℕ, zero, suc, ◌+◌, ◌-◌, ◌<◌, ◌≤◌, List, [], ◌∷◌, get_or, length, map, take, Option, Some, refl, ap, sym, subst, ◌∙◌, arith}
 use Rattle.std.specs.Prelude.{option_map, slice_get}
 use Rattle.std.proofs.lemmas.List.{take-map, length-map}
-use Rattle.std.proofs.lemmas.Option.{same_Some, slice_get-map, slice_get_read}
+use Rattle.std.proofs.lemmas.Option.{none-some, same_Some, slice_get-map, slice_get_read}
 use Rattle.canvas_model.specs.Messages.{Message}
 use Rattle.canvas_nodes.specs.Answers.{AreMessageTexts}
 use Rattle.tungstenite.specs.Socket.{Socket}
@@ -27,6 +27,20 @@ as_many [] (m ∷ ms) are = absurd are
 as_many (t ∷ ts) [] are = absurd are
 as_many (t ∷ ts) (m ∷ ms) are = ap suc (as_many ts ms are.1)
 
+-- a front of a front
+front_of_front : {X : Type 0} (n k : ℕ) (xs : List X) → n ≤ length (take k xs) → take n (take k xs) ≡ take n xs
+front_of_front zero k xs few = refl
+front_of_front (suc n) zero xs few = absurd (omega (arith, few))
+front_of_front (suc n) (suc k) [] few = refl
+front_of_front {X = X} (suc n) (suc k) (x ∷ xs) few = ap (λ (l : List X). x ∷ l) (front_of_front n k xs (omega (arith, few)))
+
+-- what stands in a front stands there
+get_front : {X : Type 0} (k place : ℕ) (xs : List X) (x : X) → slice_get (take k xs) place ≡ Some x → slice_get xs place ≡ Some x
+get_front zero place xs x is = absurd (none-some x is)
+get_front (suc k) place [] x is = is
+get_front (suc k) zero (y ∷ xs) x is = is
+get_front (suc k) (suc place) (y ∷ xs) x is = get_front k place xs x is
+
 -- the message at a place
 told_at : (told : List Message) (place : ℕ) → place < length told → (last : Message) × (slice_get told place ≡ Some last)
 told_at [] place within = absurd (omega arith)
@@ -37,18 +51,19 @@ module _ {A : Type 0} (Tells : A → List Message → A → Type 0) where
   -- the version of a text that was written has a place
   pub has_version : {V : Type 0} (text_of : V → List ℕ) (vs lent : List V) (versions : List ℕ) (n : ℕ) (old new : A) → TellsInTexts Tells old (map text_of vs) versions new → lent ≡ vs → n ≤ length lent → 0 < n
       → n - 1 < length versions
-  has_version text_of vs lent versions n old new (told, tells, are, same) borrowed most some =
-      let count : length told ≡ length vs = sym (as_many (map text_of vs) told are) ∙ length-map vs text_of in
-      let as_versions : length versions ≡ length told = ap length same ∙ length-map told version_told in
+  has_version text_of vs lent versions n old new (told, k, least, tells, are, same) borrowed most some =
+      let count : length (take k told) ≡ length vs = sym (as_many (map text_of vs) (take k told) are) ∙ length-map vs text_of in
+      let as_versions : length versions ≡ length (take k told) = ap length same ∙ length-map (take k told) version_told in
       let whole : length lent ≡ length vs = ap length borrowed in
       omega (arith, count, as_versions, whole, most, some)
 
   -- some of what there is to tell didn't join the output
   pub stops_told : {S V : Type 0} (contents : S → Option (List ℕ)) (text_of : V → List ℕ) (vs lent : List V) (versions : List ℕ) (e : Error) (old rested new : A) (before after : Socket S) → TellsInTexts Tells rested (map text_of vs) versions new
       → rested ≡ old → lent ≡ vs → StopsWriting contents before (map text_of lent) e after
-      → (told : List Message) × (texts : List (List ℕ)) × Tells old told new × AreMessageTexts texts told × StopsWriting contents before texts e after
-  stops_told {V = V} contents text_of vs lent versions e old rested new before after (told, tells, are, same) still borrowed stops = (
+      → (told : List Message) × (k : ℕ) × (texts : List (List ℕ)) × Tells old told new × AreMessageTexts texts (take k told) × StopsWriting contents before texts e after
+  stops_told {V = V} contents text_of vs lent versions e old rested new before after (told, k, least, tells, are, same) still borrowed stops = (
     told,
+    k,
     map text_of vs,
     subst (λ (a : A). Tells a told new) still tells,
     are,
@@ -61,23 +76,25 @@ module _ {A : Type 0} (Tells : A → List Message → A → Type 0) where
       → TellsInTexts Tells rested (map text_of vs) versions looked → rested ≡ old → lent ≡ vs → 0 < n → n ≤ length lent → version ≡ get_or versions (n - 1) version
       → WritesEach (contents_of contents) before.writer (map text_of (take n lent)) after.writer → after.reader ≡ before.reader → GoesTo looked version new
       → TellsSome Tells GoesTo contents old before new after
-  tells_some {V = V} GoesTo contents text_of vs lent versions n version old rested before looked new after (told, tells, are, is) still borrowed some most at wrote same moved =
+  tells_some {V = V} GoesTo contents text_of vs lent versions n version old rested before looked new after (told, k, least, tells, are, is) still borrowed some most at wrote same moved =
+      let first = take k told in
       let whole : length lent ≡ length vs = ap length borrowed in
-      let count : length told ≡ length vs = sym (as_many (map text_of vs) told are) ∙ length-map vs text_of in
-      let as_versions : length versions ≡ length told = ap length is ∙ length-map told version_told in
-      let last = told_at told (n - 1) (omega (arith, count, whole, most, some)) in
+      let count : length first ≡ length vs = sym (as_many (map text_of vs) first are) ∙ length-map vs text_of in
+      let as_versions : length versions ≡ length first = ap length is ∙ length-map first version_told in
+      let last = told_at first (n - 1) (omega (arith, count, whole, most, some)) in
       let place : n ≡ n - 1 + 1 = omega (arith, some) in
       let leads : Some (version_told last.0) ≡ Some version
-      = sym (slice_get-map version_told told (n - 1) ∙ ap (option_map version_told) last.1) ∙ ap (λ (l : List ℕ). slice_get l (n - 1)) (sym is) ∙ slice_get_read versions (length versions) (n - 1) version refl (omega (arith, count, as_versions, whole, most, some)) at in
+      = sym (slice_get-map version_told first (n - 1) ∙ ap (option_map version_told) last.1) ∙ ap (λ (l : List ℕ). slice_get l (n - 1)) (sym is) ∙ slice_get_read versions (length versions) (n - 1) version refl (omega (arith, count, as_versions, whole, most, some)) at in
       let front : AreMessageTexts (map text_of (take n vs)) (take n told)
-      = subst (λ (ts : List (List ℕ)). AreMessageTexts ts (take n told)) (take-map text_of n vs) (texts_front n (map text_of vs) told are) in
+      = subst (λ (ms : List Message). AreMessageTexts (map text_of (take n vs)) ms) (front_of_front n k told (omega (arith, count, whole, most)))
+      (subst (λ (ts : List (List ℕ)). AreMessageTexts ts (take n first)) (take-map text_of n vs) (texts_front n (map text_of vs) first are)) in
       record {
         told = told;
         looked = looked;
         finds = subst (λ (a : A). Tells a told looked) still tells;
         place = n - 1;
         last = last.0;
-        is_last = last.1;
+        is_last = get_front k (n - 1) told last.0 last.1;
         texts = map text_of (take n vs);
         are = subst (λ (k : ℕ). AreMessageTexts (map text_of (take n vs)) (take k told)) place front;
         wrote = subst (λ (l : List V). WritesEach (contents_of contents) before.writer (map text_of (take n l)) after.writer) borrowed wrote;

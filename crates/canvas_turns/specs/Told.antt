@@ -1,5 +1,5 @@
 -- What a connection tells unasked.
-use Rattle.std.specs.Prelude.{◌≡◌, ◌⊎◌, ℕ, ◌+◌, Bool, true, false, List, [], Option, Some, map, slice_get, take}
+use Rattle.std.specs.Prelude.{◌≡◌, ◌⊎◌, ℕ, ◌+◌, ◌<◌, Bool, true, false, List, [], Option, Some, map, slice_get, take}
 use Rattle.tungstenite.specs.Content.{ping}
 use Rattle.tungstenite.specs.Failure.{IsIo}
 use Rattle.tungstenite.specs.Socket.{Flushed}
@@ -19,9 +19,10 @@ version_told (messages.Entry version entry) = version
 version_told (messages.Copy version done doc) = version
 version_told _ = 0
 
--- the texts of what there is to tell, and the version that each leads to
+-- the texts of the first messages of what there is to tell, one at least if there is one, and the version that each leads to
 abbrev pub TellsInTexts : {A : Type 0} → (A → List Message → A → Type 0) → A → List (List ℕ) → List ℕ → A → Type 0
-TellsInTexts Tells old texts versions new = (told : List Message) × Tells old told new × AreMessageTexts texts told × (versions ≡ map version_told told)
+TellsInTexts Tells old texts versions new =
+    (told : List Message) × (n : ℕ) × (0 < n) × Tells old told new × AreMessageTexts texts (take n told) × (versions ≡ map version_told (take n told))
 
 module _ {O : Type 0} (contents : O → Option (List ℕ)) where
   -- the peer took some of what was written, and the rest waits in the outbox
@@ -59,7 +60,7 @@ module _ {A I O : Type 0} (Tells : A → List Message → A → Type 0) (GoesTo 
   -- some of what there is to tell didn't join the output
   abbrev pub StopsWritingTold : Error → A → OpenLine I O → A → OpenLine I O → Type 0
   StopsWritingTold e old before new after =
-      (told : List Message) × (texts : List (List ℕ)) × Tells old told new × AreMessageTexts texts told × StopsWriting (contents_of contents) before.writer texts e after.writer
+      (told : List Message) × (n : ℕ) × (texts : List (List ℕ)) × Tells old told new × AreMessageTexts texts (take n told) × StopsWriting (contents_of contents) before.writer texts e after.writer
 
   -- what is told didn't join the output, or didn't leave: memory was refused for it, or the socket failed
   abbrev pub StopsTelling : Error → A → OpenLine I O → A → OpenLine I O → Type 0

@@ -33,7 +33,7 @@ pub trait Handler: Replier {
     /// The version up to which its client was told all; `None` if that isn't told unasked.
     fn place(&self) -> Option<u64>;
 
-    /// What there is to tell unasked, maybe nothing. Errors: out of memory.
+    /// The first of what there is to tell unasked, or nothing if there is none. Errors: out of memory.
     fn push(&mut self, alloc: Global) -> Result<Push, AllocError>
         ensures tells { IfOk result (λ push. TellsInTexts tells self.old (map text_bytes push.texts.items) push.versions.items self.new) }
         ensures fails { IfErr result (λ _. tells self.old [] self.new) };

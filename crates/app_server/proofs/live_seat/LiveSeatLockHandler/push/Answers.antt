@@ -1,5 +1,8 @@
-use Rattle.std.proofs.Common.{◌≡◌, ℕ, List, ap, sym, refl, subst, ◌∙◌, map, Vec, Global}
+use Rattle.std.proofs.Common.{◌≡◌, ℕ, List, ap, sym, refl, subst, ◌∙◌, map, take, Vec, Global}
+use Rattle.std.proofs.lemmas.List.{take-map}
+use mathlib.Core.Logic.{inl}
 use Rattle.net_outbox.specs.Texts.{text_bytes}
+use Rattle.canvas_model.specs.Messages.{Message}
 use Rattle.canvas_nodes.specs.Answers.{AreMessageTexts}
 use Rattle.canvas_turns.specs.Told.{version_told}
 use Rattle.room_handler.specs.Told.{seen_told}
@@ -7,6 +10,19 @@ use Rattle.room_handler.specs.declared.told.Told.{Told}
 use Rattle.app_server.specs.Live.{LiveValue}
 use Rattle.app_server.proofs.Live.{fails_after, seat_further, told_copy, told_each, told_nothing}
 use Rattle.app_server.proofs.live_seat.LiveSeatLockHandler.push.Goals as goal
+
+-- there is no place, or no room
+pub returns-in_default-clause-tells : goal.returns-in_default-clause-tells
+returns-in_default-clause-tells g c =
+    let old : LiveValue = record { seat = c.self.inside.answerer; place = c.self.inside.place } in
+    let nothing = c.nothing.ensures in
+    rw (← c.self.view_is) (told_nothing g.N.RoomName.opening old old _ _ (inl refl, refl) refl (ap (map text_bytes) nothing.texts) nothing.versions)
+
+pub returns-then-not-may_tell-clause-tells : goal.returns-then-not-may_tell-clause-tells
+returns-then-not-may_tell-clause-tells g c =
+    let old : LiveValue = record { seat = c.self.inside.answerer; place = c.self.inside.place } in
+    let nothing = c.nothing-then-not-may_tell.ensures in
+    rw (← c.self.view_is) (told_nothing g.N.RoomName.opening old old _ _ (inl refl, refl) refl (ap (map text_bytes) nothing.texts) nothing.versions)
 
 -- a copy is told
 pub returns-in-Some-2-clause-tells : goal.returns-in-Some-2-clause-tells
@@ -53,7 +69,7 @@ returns-then-not-takes-clause-tells g c =
     let nothing = c.nothing-then-not-takes.ensures in
     rw (← c.self.view_is) (told_nothing o old new _ _ sees c.told_after.ensures.place (ap (map text_bytes) nothing.texts) nothing.versions)
 
--- the news are told
+-- the first of the news are told
 pub returns-clause-tells : goal.returns-clause-tells
 returns-clause-tells g c =
     let o = g.N.RoomName.opening in
@@ -61,7 +77,10 @@ returns-clause-tells g c =
     let new = c.told_after.new.self in
     let sees = seat_further o old.seat c.push_copy.new.self new.seat c.push_copy.ensures.sees c.told_after.ensures.sees in
     let told = map seen_told c.in_ok-told.told.items in
-    let are = subst (λ (l : List Told). AreMessageTexts (map (λ (t : Vec ℕ Global). t.items) c.in_ok-texts.texts.items) (map seen_told l)) c.deref.ensures.value c.in_ok-texts.ensures in
-    let sent = subst (λ (ts : List (List ℕ)). AreMessageTexts ts told) (sym c.in_ok-texts-2.ensures) are in
-    let each = c.in_ok-versions_of.ensures ∙ ap (λ (l : List Told). map version_told (map seen_told l)) c.deref-3.ensures.value in
-    rw (← c.self.view_is) (told_each o old new c.in-Some.place told _ _ sees c.told_after.ensures.place c.in-Some.is c.in_ok-told.ensures.tells sent each)
+    let n = c.pushed-count.result in
+    let first : map seen_told c.truncate.new.self.items ≡ take n told = ap (map seen_told) c.truncate.ensures.items ∙ sym (take-map seen_told n c.in_ok-told.told.items) in
+    let are = subst (λ (l : List Told). AreMessageTexts (map (λ (t : Vec ℕ Global). t.items) c.in_ok-texts.texts.items) (map seen_told l)) c.deref-2.ensures.value c.in_ok-texts.ensures in
+    let sent = subst (λ (ts : List (List ℕ)). AreMessageTexts ts (map seen_told c.truncate.new.self.items)) (sym c.in_ok-texts-2.ensures) are in
+    let cut = subst (λ (ms : List Message). AreMessageTexts (map text_bytes c.in_ok-texts-2.texts.items) ms) first sent in
+    let each = c.in_ok-versions_of.ensures ∙ ap (λ (l : List Told). map version_told (map seen_told l)) c.deref-4.ensures.value ∙ ap (map version_told) first in
+    rw (← c.self.view_is) (told_each o old new c.in-Some.place told n _ _ c.pushed-count.ensures sees c.told_after.ensures.place c.in-Some.is c.in_ok-told.ensures.tells cut each)
