@@ -11,6 +11,7 @@ use canvas_room::Lock;
 use canvas_turns::{Handler, LineEnd, serve_turns};
 use crossbeam_channel::Receiver;
 use http::{HeaderName, HeaderValue, Request, Response};
+use net_inbox::{Inbox, Recorded};
 use room_handler::Terms;
 use std::alloc::Global;
 use std::io::{self, Eprint};
@@ -28,6 +29,7 @@ pub(crate) fn serve_each<K, N, L, R, T>(
     post: &mut Post,
     bell: &Bell<Caller>,
     budget: &Budget,
+    inbox: &Inbox,
     connections: &Receiver<TcpStream, Global>,
 )
 where
@@ -43,7 +45,7 @@ where
         };
         let number = shared.figures.begin();
         tell(rt, shared, number, "begins");
-        let end = serve(rt, shared, seat, post, bell, budget, &stream);
+        let end = serve(rt, shared, seat, post, bell, budget, inbox, &stream);
         seat.leave();
         shared.figures.end();
         tell(rt, shared, number, end.words());
@@ -92,6 +94,7 @@ fn serve<H: Handler, R: Clock + AllocGlobal>(
     post: &mut Post,
     bell: &Bell<Caller>,
     budget: &Budget,
+    inbox: &Inbox,
     stream: &TcpStream,
 ) -> End {
     if limit(stream, shared.limits).is_err() {
@@ -113,7 +116,7 @@ fn serve<H: Handler, R: Clock + AllocGlobal>(
         return End::SocketFailed;
     }
     let end = match Watch::new(rt, post, bell, budget, shared.limits.idle_seconds) {
-        Ok(mut watch) => serve_accepted(rt.alloc(), handler, &mut watch, stream, config),
+        Ok(mut watch) => serve_accepted(rt.alloc(), handler, &mut watch, inbox, stream, config),
         Err(_) => End::SocketFailed,
     };
     post.end(stream);
@@ -125,10 +128,12 @@ fn serve_accepted<H: Handler, R: Clock>(
     alloc: Global,
     handler: &mut H,
     watch: &mut Watch<'_, R>,
+    inbox: &Inbox,
     stream: &TcpStream,
     config: WebSocketConfig,
 ) -> End {
-    let end = serve_turns(alloc, handler, stream, stream, config, watch);
+    let input = Recorded::new(stream, inbox);
+    let end = serve_turns(alloc, handler, input, stream, config, watch);
     watch.leave();
     End::Served(end)
 }

@@ -8,7 +8,7 @@ ghost use Rattle.canvas_turns.specs.Told.{version_told};
 ghost use Rattle.room_handler.specs.Seats.{SeatSeesOn};
 ghost use Rattle.room_handler.specs.Told.{seen_told};
 ghost use Rattle.canvas_sockets.specs.Turned.{RepliesInTexts};
-ghost use Rattle.app_server.specs.Live.{BeginsAt, GivesLiveInTexts, RefusesPlace, RepliesToWord, TellsUnasked};
+ghost use Rattle.app_server.specs.Live.{BeginsAt, GivesLiveInTexts, LiveReplies, RefusesPlace, RepliesToWord, TellsUnasked};
 
 use crate::budget::pushed;
 use crate::polling::Caller;
@@ -23,6 +23,7 @@ use canvas_nodes::{asked, texts_of};
 use canvas_room::Lock;
 use canvas_sockets::Replier;
 use canvas_turns::{Handler, Push};
+use net_inbox::Inbox;
 use net_outbox::{Text, own_texts};
 use room_handler::{SeatAnswerer, Terms, Told, told_texts};
 use std::alloc::{AllocError, Global};
@@ -38,6 +39,7 @@ pub(crate) struct LiveSeat<'a, N: RoomName, D: Drop, W: Drop, T: Terms<N> + Drop
     place: Option<Place>,
     shared: &'a Shared,
     bell: &'a Bell<Caller>,
+    inbox: &'a Inbox,
 }
 
 impl<N: RoomName, D: Drop, W: Drop, T: Terms<N> + Drop> Drop for LiveSeat<'_, N, D, W, T> {
@@ -48,6 +50,7 @@ impl<N: RoomName, D: Drop, W: Drop, T: Terms<N> + Drop> Drop for LiveSeat<'_, N,
             place: _,
             shared: _,
             bell: _,
+            inbox: _,
         } = self;
     }
 }
@@ -71,12 +74,13 @@ impl<'a, N: RoomName, D: Drop, W: Wait + Clock + Drop, T: Terms<N> + Drop> LiveS
     W,
     T,
 > {
-    /// Returns a connection's seat, whose client isn't live. The terms are those of the answerer.
+    /// Returns a connection's seat, whose client isn't live. The terms are those of the answerer, and the inbox records its connections.
     pub(crate) fn new(
         answerer: SeatAnswerer<N, D, W, T>,
         terms: SeatTerms<'a, N, W>,
         shared: &'a Shared,
         bell: &'a Bell<Caller>,
+        inbox: &'a Inbox,
     ) -> LiveSeat<'a, N, D, W, T>
         ensures { result ≡ record { seat = answerer; place = None } }
     {
@@ -86,6 +90,7 @@ impl<'a, N: RoomName, D: Drop, W: Wait + Clock + Drop, T: Terms<N> + Drop> LiveS
             place: None,
             shared,
             bell,
+            inbox,
         }
     }
 
@@ -163,6 +168,19 @@ where
     W: Wait + Clock + Drop,
     T: Terms<N> + Drop,
 {
+    // Gets the edits judged together that have come with this message, if it is one of them and they weren't yet.
+    fn judge_ahead(&mut self, alloc: Global, bytes: &[u8])
+        ensures { self.new ≡ self.old }
+    {
+        let texts = self.inbox.take_run(bytes, EDIT);
+        if texts.len() < 2 {
+            return;
+        }
+        if let Ok(edits) = edits_of(alloc, &texts) {
+            self.answerer.judge_ahead(edits);
+        }
+    }
+
     // The reply to a message that a client sends. Rings for what it published, if it did.
     fn reply_to_asked(&mut self, alloc: Global, message: Message) -> Result<Vec<Text>, NoReason>
         ensures gives { IfOk result (λ ts. GivesLiveInTexts N.opening self.old (seen_message message) (map text_bytes ts.items) self.new) }
@@ -175,6 +193,19 @@ where
             Err(_) => Err(NoReason::Memory),
         }
     }
+
+    // The reply to the bytes of a message.
+    fn reply_to(&mut self, alloc: Global, bytes: &[u8]) -> Result<Vec<Text>, NoReason>
+        ensures { MatchResult result
+            (λ ts. RepliesInTexts (LiveReplies N.opening) self.old bytes.now (map text_bytes ts.items) self.new)
+            (λ reason. LiveReplies N.opening self.old bytes.now (refusal_alone reason) self.new) }
+    {
+        match asked(alloc, bytes) {
+            Ok(message) => self.reply_to_asked(alloc, message),
+            Err(NoReason::NotRead) => self.reply_to_word(alloc, bytes),
+            Err(reason) => Err(reason),
+        }
+    }
 }
 
 impl<'a, K, N, R, W, T> Replier for LiveSeat<'a, N, Lock<K, N, R>, W, T>
@@ -185,16 +216,11 @@ where
     W: Wait + Clock + Drop,
     T: Terms<N> + Drop,
 {
-    ghost use Rattle.app_server.specs.Live.{LiveReplies};
-
     ghost replies = { LiveReplies N.opening };
 
     fn reply(&mut self, alloc: Global, bytes: &[u8]) -> Result<Vec<Text>, NoReason> {
-        match asked(alloc, bytes) {
-            Ok(message) => self.reply_to_asked(alloc, message),
-            Err(NoReason::NotRead) => self.reply_to_word(alloc, bytes),
-            Err(reason) => Err(reason),
-        }
+        self.judge_ahead(alloc, bytes);
+        self.reply_to(alloc, bytes)
     }
 
     fn sent(&mut self) {
@@ -262,6 +288,44 @@ where
 
     fn rest(&mut self) {
         self.terms.rest();
+    }
+}
+
+// What the text of an edit begins with, as clients write it.
+const EDIT: &[u8] = b"[\"edit\",";
+
+// Returns the edits of which these are the texts, up to the first that isn't one, or isn't the next of the same client: if one that was judged before is
+// refused, none behind it may have been taken. Errors: out of memory.
+fn edits_of(alloc: Global, texts: &[Vec<u8>]) -> Result<Vec<Message>, AllocError> {
+    let mut edits = Vec::with_capacity(alloc, texts.len())?;
+    let mut last = None;
+    for text in texts {
+        let Ok(message) = asked(alloc, text.as_slice()) else {
+            break;
+        };
+        let number = number_of(&message);
+        if number.is_none() || !is_behind(last, number) {
+            break;
+        }
+        edits.push(message)?;
+        last = number;
+    }
+    Ok(edits)
+}
+
+// Returns the client and the number of an edit.
+fn number_of(message: &Message) -> Option<(u32, u64)> {
+    match message {
+        Message::Edit { client, seq, .. } => Some((*client, *seq)),
+        _ => None,
+    }
+}
+
+// Checks whether an edit of this client and number is the next one behind the last, if there is one.
+fn is_behind(last: Option<(u32, u64)>, next: Option<(u32, u64)>) -> bool {
+    match (last, next) {
+        (Some((client, number)), Some(next)) => next == (client, number.saturating_add(1)),
+        (None, _) | (_, None) => true,
     }
 }
 

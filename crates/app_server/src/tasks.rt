@@ -13,6 +13,7 @@ use canvas_board::RoomName;
 use canvas_journal::Keeper;
 use canvas_room::{Lock, Seat};
 use crossbeam_channel::{Receiver, Sender};
+use net_inbox::Inbox;
 use room_handler::SeatAnswerer;
 use std::alloc::Global;
 use std::io::Eprint;
@@ -76,7 +77,8 @@ where
         let terms = SeatTerms::new(&rt, &shared, shown, &budget, &flags);
         let answerer = SeatAnswerer::new(rt.alloc(), own, seat, terms);
         let terms = SeatTerms::new(&rt, &shared, copies, &budget, &flags);
-        let mut seat = LiveSeat::new(answerer, terms, &shared, &bell);
+        let inbox = Inbox::new(rt.alloc());
+        let mut seat = LiveSeat::new(answerer, terms, &shared, &bell, &inbox);
         serve_each(
             &rt,
             &shared,
@@ -84,6 +86,7 @@ where
             &mut post,
             &bell,
             &budget,
+            &inbox,
             &connections,
         );
     }
