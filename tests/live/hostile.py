@@ -126,6 +126,81 @@ def counts(room):
     return "pushes and live clients are counted, also those that go"
 
 
+WRITES, TOGETHER, SENDERS = 20, 64, 8
+
+
+def masked_edit(name, number, value):
+    """The frame of an edit, masked by a random key."""
+    return framed(text_of(["edit", name, number, ["set", [0, 0], "a", value]]).encode())
+
+
+def mixed(name, number):
+    """What a client may send between edits, as frames, and how each is answered."""
+    return [
+        (framed(text_of(["edit", name, number + 1, ["set", [0, 0], "a", 1]]).replace(",", " , ").encode()), ["idle"]),  # not spelt as others
+        (edit_frame(name, number + 1, ["set", [0, 0], "a", 2]), ["idle"]),  # a repeat
+        (edit_frame(name, number + 3, ["set", [0, 0], "a", 3]), ["no", 3]),  # a gap
+        (edit_frame(name, number + 2, ["set", [0, 0], "a", "b" * 20_000]), ["idle"]),  # a long one
+        (framed(b"["), ["no", 9]),
+        (edit_frame(name + 1000, number + 3, ["set", [0, 0], "a", 4]), ["no", 1]),  # a stranger's
+        (edit_frame(name, number + 3, ["set", [0, 0], "a", 5]), ["idle"]),
+    ]
+
+
+def send_together(peer, frames):
+    """Sends frames in one write. Returns the answers, and how many syncs the server made meanwhile."""
+    peer.socket.sendall(b"".join(frames))
+    return peer.answers(len(frames))
+
+
+def together(room):
+    """Edits that come at once share a sync; what comes between them is answered in its order."""
+    notes, faults = [], []
+    with watched(room, notes, SMALL) as server:
+        peer, number, grown = Peer(server).begin(), 0, []
+        for _ in range(WRITES):
+            edits, syncs = server.metric("edits_total"), server.metric("syncs_total")
+            ends = send_together(peer, [masked_edit(peer.name, number + 1 + i, i) for i in range(TOGETHER)])
+            number += TOGETHER
+            require(ends == [["idle"]] * TOGETHER, "edits that come at once are answered", ends)
+            others = server.metric("edits_total") - edits - TOGETHER  # those of the client that is watched
+            grown.append(server.metric("syncs_total") - syncs - others)
+        for i in range(TOGETHER // 4):
+            between = mixed(peer.name, number)
+            cut = i % (len(between) + 1)  # what comes in one write and the next
+            ends = send_together(peer, [frame for frame, _ in between[:cut]]) + send_together(peer, [frame for frame, _ in between[cut:]])
+            wanted = [end for _, end in between]
+            require(ends == wanted, "edits and other messages are answered", ends, "in place of", wanted)
+            number += 3
+
+        def send(peer):
+            last = 0
+            for _ in range(WRITES):
+                ends = send_together(peer, [edit_frame(peer.name, last + 1 + i, ["set", [0, 0], "b", i]) for i in range(TOGETHER)])
+                last += TOGETHER
+                if ends != [["idle"]] * TOGETHER:
+                    faults.append(ends)
+
+        peers = [Peer(server).begin() for _ in range(SENDERS)]
+        edits, syncs = server.metric("edits_total"), server.metric("syncs_total")
+        threads = [threading.Thread(target=send, args=(peer,)) for peer in peers]
+        for thread in threads:
+            thread.start()
+        for thread in threads:
+            thread.join()
+        require(not faults, "edits that eight clients send at once are answered", faults[:1])
+        for each in (peer, *peers):
+            until(lambda each=each: each.read(0.1) or each.done == (number if each is peer else WRITES * TOGETHER), "not all entries come")
+        many = SENDERS * WRITES * TOGETHER
+        others = server.metric("edits_total") - edits - many
+        shared_syncs = server.metric("syncs_total") - syncs - others
+    grown.sort()
+    require(grown[len(grown) // 2] <= 4, TOGETHER, "edits of one write take", grown, "syncs")
+    require(shared_syncs <= many / 16, many, "edits of eight clients take", shared_syncs, "syncs")
+    return (f"{TOGETHER} edits of one write take {grown[len(grown) // 2]} syncs (median), {many} edits of {SENDERS} clients take {shared_syncs}; "
+            f"{TOGETHER // 4} mixed writes answered in their order; {notes[0]}")
+
+
 LARGEST = 2 * MIB  # of a message, if an edit may have 1 MiB
 # For each of eight clients a message of 2 MiB as bytes and as a JSON tree: that of [0,0,..] has a value of 32 bytes for two bytes of text, in a list with
 # room for twice as many.
@@ -610,4 +685,4 @@ def burst(room):
     return f"of {BURST} clients that ask at once for answers of {size / 1e6:.1f} MB {full} are answered No 7, and the others are disconnected; {notes[0]}"
 
 
-GROUPS = (garbage, words, counts, large, silent, deaf, pings, trickle, busy, resets, slow, ninth, resting, hoarders, filled, burst)
+GROUPS = (garbage, words, counts, together, large, silent, deaf, pings, trickle, busy, resets, slow, ninth, resting, hoarders, filled, burst)

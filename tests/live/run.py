@@ -8,6 +8,7 @@ all groups are run.
 - garbage: messages that the server can't read are answered by No 9, frames that break the protocol end a connection, after the answers before them.
 - words: spellings of `live`, unknown ids, versions above the server's; thousands of `live` in one write.
 - counts: the metrics count live clients and pushes.
+- together: edits that come at once share a sync, also those of several clients; other messages between them are answered in their order.
 - large: messages of 2 MiB, and of a byte more, from eight clients at once.
 - silent: connections that are silent within a frame end after --idle; those that are closed within a frame end at once.
 - deaf: a client sends 100,000 edits and reads nothing.
