@@ -1,53 +1,69 @@
 // What is answered to a request that isn't a client's.
 ghost use Rattle.std.specs.Prelude.{◌≡◌, ◌++◌, ◌∷◌, [], IfOk, string_bytes};
+ghost use Rattle.net_http.specs.Answers.{answer_text, sentence_text};
 ghost use Rattle.net_http.specs.Sites.{seen_site};
-ghost use Rattle.app_listener.specs.Answers.{IsAnswerToEndpoint, turned_away};
+ghost use Rattle.app_listener.specs.Answers.{IsAnswerToEndpoint, reply_bytes, turned_away};
 
 use crate::options::Shared;
+use bytes::Bytes;
 use net_http::{
-    ContentType, Endpoint, HttpRequest, PageFile, Site, Status, write_answer, write_sentence,
+    ContentType, Endpoint, HttpRequest, PageFile, Site, Status, write_answer, write_head,
+    write_sentence,
 };
 use std::alloc::{AllocError, Global};
-use std::fs::{self, File};
-use std::io::{self, Read};
-use std::rt::Files;
 
-// The most bytes that a file of the page may have.
-const MOST_FILE_BYTES: u64 = 16 << 20;
+/// The bytes of an answer: its own, and then those that it shares with the page.
+#[derive(Drop)]
+pub(crate) struct Reply {
+    pub(crate) own: Vec<u8>,
+    pub(crate) shared: Bytes,
+}
 
-/// The bytes of the answer: what was asked for, or a sentence that says why not.
+impl Reply {
+    // Shares nothing.
+    #[tactic(auto, using(crate::proofs::Replies::owned))]
+    fn of(own: Vec<u8>) -> Reply
+        ensures { reply_bytes result ≡ own.items }
+    {
+        Reply {
+            own,
+            shared: Bytes::new(),
+        }
+    }
+
+    // Shares these bytes, which follow its own. Errors: out of memory.
+    fn sharing(own: Vec<u8>, shared: &Bytes) -> Result<Reply, AllocError>
+        ensures { IfOk result (λ reply. reply_bytes reply ≡ own.items ++ shared.now) }
+    {
+        Ok(Reply {
+            own,
+            shared: shared.clone()?,
+        })
+    }
+}
+
+/// The bytes of the answer: what was asked for, or a sentence that says why not. Those of a file are shared.
 ///
-/// A file of the page that can't be read is answered as one that isn't there. Errors: out of memory.
-pub(crate) fn answer_to<R>(
-    files: &R,
+/// A file that the page doesn't have is answered by a sentence. Errors: out of memory.
+pub(crate) fn answer_to(
+    alloc: Global,
     shared: &Shared,
     request: &HttpRequest,
-) -> Result<Vec<u8>, AllocError>
-where
-    R: Files<File = File> + AllocGlobal,
-    ensures { IfOk result (λ answer. IsAnswerToEndpoint (seen_site shared.now.site) request.now.asked request.now.wants_body answer.items) }
+) -> Result<Reply, AllocError>
+    ensures { IfOk result (λ answer. IsAnswerToEndpoint (seen_site shared.now.site) shared.now.page request.now.asked request.now.wants_body (reply_bytes answer)) }
 {
-    let alloc = files.alloc();
     let site = &shared.site;
     let wants_body = request.wants_body;
     match request.asked {
         Endpoint::Health => {
             let line = shared.figures.numbers().health(alloc)?;
-            write_answer(
-                alloc,
-                site,
-                Status::Ok,
-                ContentType::Text,
-                line.as_bytes(),
-                wants_body,
-            )
+            own_answer(alloc, site, ContentType::Text, line.as_bytes(), wants_body)
         }
         Endpoint::Metrics => {
             let text = shared.figures.numbers().metrics(alloc)?;
-            write_answer(
+            own_answer(
                 alloc,
                 site,
-                Status::Ok,
                 ContentType::Metrics,
                 text.as_bytes(),
                 wants_body,
@@ -55,19 +71,39 @@ where
         }
         Endpoint::Document => {
             let line = identity_line(alloc, site)?;
-            write_answer(
-                alloc,
-                site,
-                Status::Ok,
-                ContentType::Text,
-                line.as_bytes(),
-                wants_body,
-            )
+            own_answer(alloc, site, ContentType::Text, line.as_bytes(), wants_body)
         }
-        Endpoint::File(file) => answer_file(files, shared, file, wants_body),
-        Endpoint::Refused(refusal) => write_sentence(alloc, site, refusal.status(), wants_body),
+        Endpoint::File(file) => answer_file(alloc, shared, file, wants_body),
+        Endpoint::Refused(refusal) => own_sentence(alloc, site, refusal.status(), wants_body),
         Endpoint::Connection => turn_away(alloc, shared),
     }
+}
+
+// An answer that shares nothing.
+fn own_answer(
+    alloc: Global,
+    site: &Site,
+    kind: ContentType,
+    body: &[u8],
+    wants_body: bool,
+) -> Result<Reply, AllocError>
+    ensures { IfOk result (λ answer. reply_bytes answer ≡ answer_text (seen_site site.now) Status.Ok kind body.now wants_body) }
+{
+    let answer = write_answer(alloc, site, Status::Ok, kind, body, wants_body)?;
+    Ok(Reply::of(answer))
+}
+
+// The status in a sentence.
+fn own_sentence(
+    alloc: Global,
+    site: &Site,
+    status: Status,
+    wants_body: bool,
+) -> Result<Reply, AllocError>
+    ensures { IfOk result (λ answer. reply_bytes answer ≡ sentence_text (seen_site site.now) status wants_body) }
+{
+    let answer = write_sentence(alloc, site, status, wants_body)?;
+    Ok(Reply::of(answer))
 }
 
 // The document's identity in a line of its own.
@@ -79,62 +115,42 @@ fn identity_line(alloc: Global, site: &Site) -> Result<String, AllocError>
 }
 
 /// The answer to a client for which no seat is free. Errors: out of memory.
-pub(crate) fn turn_away(alloc: Global, shared: &Shared) -> Result<Vec<u8>, AllocError>
-    ensures { IfOk result (λ answer. answer.items ≡ turned_away (seen_site shared.now.site)) }
+pub(crate) fn turn_away(alloc: Global, shared: &Shared) -> Result<Reply, AllocError>
+    ensures { IfOk result (λ answer. reply_bytes answer ≡ turned_away (seen_site shared.now.site)) }
 {
-    write_sentence(alloc, &shared.site, Status::Unavailable, true)
+    own_sentence(alloc, &shared.site, Status::Unavailable, true)
 }
 
 // A file of the page, or that there is none.
-fn answer_file<R>(
-    files: &R,
+fn answer_file(
+    alloc: Global,
     shared: &Shared,
     file: PageFile,
     wants_body: bool,
-) -> Result<Vec<u8>, AllocError>
-where
-    R: Files<File = File> + AllocGlobal,
-    ensures { IfOk result (λ answer. IsAnswerToEndpoint (seen_site shared.now.site) (Endpoint.File file) wants_body answer.items) }
+) -> Result<Reply, AllocError>
+    ensures { IfOk result (λ answer. IsAnswerToEndpoint (seen_site shared.now.site) shared.now.page (Endpoint.File file) wants_body (reply_bytes answer)) }
 {
-    let alloc = files.alloc();
     let site = &shared.site;
-    match page_file(files, shared, file) {
-        Ok(bytes) => write_answer(
-            alloc,
-            site,
-            Status::Ok,
-            file.content_type(),
-            bytes.as_slice(),
-            wants_body,
-        ),
-        Err(_) => write_sentence(alloc, site, Status::NotFound, wants_body),
+    match shared.page.get(file) {
+        Some(bytes) => shared_answer(alloc, site, file.content_type(), bytes, wants_body),
+        None => own_sentence(alloc, site, Status::NotFound, wants_body),
     }
 }
 
-// What a file of the page holds.
-fn page_file<R>(files: &R, shared: &Shared, file: PageFile) -> io::Result<Vec<u8>>
-where
-    R: Files<File = File> + AllocGlobal,
+// An answer that shares its body.
+fn shared_answer(
+    alloc: Global,
+    site: &Site,
+    kind: ContentType,
+    body: &Bytes,
+    wants_body: bool,
+) -> Result<Reply, AllocError>
+    ensures { IfOk result (λ answer. reply_bytes answer ≡ answer_text (seen_site site.now) Status.Ok kind body.now wants_body) }
 {
-    match &shared.page {
-        Some(folder) => read_page(files, folder, file),
-        None => Err(io::Error::from(io::ErrorKind::NotFound)),
+    let head = write_head(alloc, site, Status::Ok, kind, body.len())?;
+    if wants_body {
+        Reply::sharing(head, body)
+    } else {
+        Ok(Reply::of(head))
     }
-}
-
-/// What this file of a page holds, whose files are in the folder: at most its first 16 MiB.
-///
-/// Fails where it isn't there or can't be read, or memory ran out.
-pub fn read_page<R>(files: &R, folder: &str, file: PageFile) -> io::Result<Vec<u8>>
-where
-    R: Files<File = File> + AllocGlobal,
-{
-    let alloc = files.alloc();
-    let name = file.name();
-    let path = format!(in alloc; "{folder}/{name}")?;
-    let mut bytes = Vec::new(alloc);
-    fs::open(files, &path)?
-        .take(MOST_FILE_BYTES)
-        .read_to_end(&mut bytes)?;
-    Ok(bytes)
 }

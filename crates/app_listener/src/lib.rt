@@ -3,11 +3,17 @@
 
 mod answers;
 mod counters;
-mod doors;
+mod door;
+mod hall;
+mod log;
 mod noes;
 mod options;
+mod page;
+mod streams;
+mod tokens;
 
-pub use answers::read_page;
 pub use counters::Figures;
-pub use doors::stand;
+pub use door::{Door, stand};
+pub use log::{Log, write_lines};
 pub use options::{Limits, Shared};
+pub use page::Page;

@@ -1,9 +1,13 @@
 // What the threads of a server share.
 
 use crate::counters::Figures;
+use crate::log::Log;
+use crate::page::Page;
 use canvas_folder::Removed;
 use net_http::Site;
+use std::alloc::Global;
 use std::net::TcpListener;
+use std::sync::Arc;
 use std::sync::atomic::AtomicBool;
 
 /// What all threads of a server share.
@@ -13,8 +17,8 @@ pub struct Shared {
     pub listener: TcpListener,
     /// What is told of it to all who ask.
     pub site: Site,
-    /// The folder of the page's files, where there is a page.
-    pub page: Option<String>,
+    /// The files of its page.
+    pub page: Page,
     /// What it counts.
     pub figures: Figures,
     /// The files that the folder removes, where the document is in one.
@@ -25,6 +29,8 @@ pub struct Shared {
     pub limits: Limits,
     /// Whether faults alone are told.
     pub quiet: bool,
+    /// Where it logs.
+    pub log: Arc<Log, Global>,
 }
 
 /// What a connection may do.

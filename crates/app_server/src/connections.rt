@@ -14,7 +14,7 @@ use http::{HeaderName, HeaderValue, Request, Response};
 use net_inbox::{Inbox, Recorded};
 use room_handler::Terms;
 use std::alloc::Global;
-use std::io::{self, Eprint};
+use std::io;
 use std::net::TcpStream;
 use std::sync::Wait;
 use std::time::{Clock, Duration};
@@ -36,7 +36,7 @@ where
     K: Keeper + Drop,
     N: RoomName,
     L: Wait + Drop,
-    R: Wait + Clock + Eprint + AllocGlobal + Clone + Drop,
+    R: Wait + Clock + AllocGlobal + Clone + Drop,
     T: Terms<N> + Drop,
 {
     for _ in rt.forever() {
@@ -53,10 +53,13 @@ where
     unreachable!()
 }
 
-// A line on what became of a connection.
-fn tell<R: Eprint>(rt: &R, shared: &Shared, number: u64, what: &str) {
-    if !shared.quiet {
-        let _ = rt.eprintln(format_args!("connection {number} {what}"));
+// Logs what became of a connection.
+fn tell<R: Wait + AllocGlobal>(rt: &R, shared: &Shared, number: u64, what: &str) {
+    if shared.quiet {
+        return;
+    }
+    if let Ok(line) = format!(in rt.alloc(); "connection {number} {what}") {
+        shared.log.tell(rt, line);
     }
 }
 
@@ -141,10 +144,11 @@ fn serve_accepted<H: Handler, R: Clock>(
 // How long one write of a handshake may wait.
 const MOST_UNREAD_SECONDS: u64 = 8;
 
-// Bounds how long a handshake may be silent, and how long its answer may be left unread.
+// Has calls block again, and bounds how long a handshake may be silent, and how long its answer may be left unread.
 fn limit(stream: &TcpStream, limits: Limits) -> io::Result<()> {
     let idle = Some(Duration::from_secs(limits.idle_seconds));
     let unread = Some(Duration::from_secs(limits.idle_seconds.min(MOST_UNREAD_SECONDS)));
+    stream.set_nonblocking(false)?;
     // Each answer leaves at once; without this some would wait for an acknowledgement.
     stream.set_nodelay(true)?;
     stream.set_read_timeout(idle)?;

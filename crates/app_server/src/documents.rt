@@ -10,15 +10,15 @@ use crate::stopping::StopFile;
 use app_args::Serving;
 use app_faults::{Fault, of_document};
 use app_identity::{Address, identity_in, made_identity};
+use app_listener::Log;
 use app_storage::{DocumentShelf, Held, NoWitness, store_of, take_over};
 use canvas_etcd::EtcdShelf;
 use disk_integrity::Watched;
 use etcd_store::{Causes, EtcdStore, Lease};
 use std::alloc::Global;
-use std::io::Eprint;
 use std::net::{Net, TcpListener, TcpStream};
 use std::random::RandomSource;
-use std::sync::Wait;
+use std::sync::{Arc, Wait};
 use std::thread::Threads;
 use std::time::Clock;
 
@@ -33,6 +33,7 @@ pub(crate) fn take_document<R>(
     address: &Address,
     serving: &Serving,
     stop: &StopFile,
+    log: &Arc<Log, Global>,
 ) -> Result<OwnRoom<DocumentJournal<R>>, Fault>
 where
     R: Net<Listener = TcpListener, Stream = TcpStream>
@@ -40,7 +41,6 @@ where
         + Wait
         + Clock
         + RandomSource
-        + Eprint
         + AllocGlobal
         + Clone
         + Send
@@ -51,7 +51,7 @@ where
 {
     let listener = listen(rt, serving.port)?;
     let store = store_of(rt, address)?;
-    let progress = Progress::begin(rt, &address.name, serving.quiet, stop, store.lease()?)?;
+    let progress = Progress::begin(rt, &address.name, serving.quiet, stop, store.lease()?, log)?;
     let taken = take_room(rt, files, store, serving.clients as usize);
     progress.end();
     if stop.has_come() {

@@ -13,12 +13,12 @@ use crate::own_document::{OwnDocument, OwnRoom};
 use crate::polling::{Caller, Post};
 use crate::standby::await_document;
 use crate::stopping::StopFile;
-use crate::tasks::{DoorTask, SeatTask};
+use crate::tasks::{DoorTask, LogTask, SeatTask};
 use crate::watching::{Ends, watch};
 use app_args::{DocumentPlace, Options, Serving};
 use app_faults::Fault;
 use app_identity::Address;
-use app_listener::{Figures, Limits, Shared, read_page};
+use app_listener::{Door, Figures, Limits, Log, Page, Shared};
 use app_storage::begin_task;
 use canvas_bell::Bell;
 use canvas_board::RoomName;
@@ -26,7 +26,7 @@ use canvas_folder::Removed;
 use canvas_journal::Keeper;
 use canvas_room::{BlankRoom, Lock, Room, Seat};
 use crossbeam_channel::{Receiver, Sender, bounded};
-use net_http::{PageFile, Site};
+use net_http::Site;
 use std::alloc::Global;
 use std::collections::VecDeque;
 use std::io::{Eprint, ErrorKind};
@@ -37,9 +37,6 @@ use std::sync::atomic::AtomicBool;
 use std::sync::{Arc, Wait};
 use std::thread::Threads;
 use std::time::Clock;
-
-/// How many threads accept connections.
-const DOORS: u32 = 16;
 
 /// Serves a document to clients over WebSockets, for as long as nothing fails, and answers what ended it.
 ///
@@ -78,24 +75,64 @@ where
     if let Err(fault) = stop.look_first() {
         return fault;
     }
-    if let Err(fault) = look_at_page(&files, &serving) {
-        return fault;
-    }
+    let supplies = match Supplies::of(rt, &files, &serving) {
+        Ok(supplies) => supplies,
+        Err(fault) => return fault,
+    };
     match &place {
-        DocumentPlace::Folder(dir) => serve_folder(rt, files, dir, serving, stop),
-        DocumentPlace::Document(address) => serve_document(rt, files, address, serving, stop),
+        DocumentPlace::Folder(dir) => serve_folder(rt, files, dir, serving, stop, supplies),
+        DocumentPlace::Document(address) => {
+            serve_document(rt, files, address, serving, stop, supplies)
+        }
     }
 }
 
-// Looks whether the page is there that is to be served, if one is.
-fn look_at_page(files: &HostRuntime, serving: &Serving) -> Result<(), Fault>
+// What a server has before its document: its page and its log.
+#[derive(Drop)]
+struct Supplies {
+    page: Page,
+    log: Arc<Log, Global>,
+}
+
+impl Supplies {
+    // Reads the page, if one is served, and begins the log.
+    fn of<R>(rt: &R, files: &HostRuntime, serving: &Serving) -> Result<Supplies, Fault>
+    where
+        R: Threads + Wait + Eprint + AllocGlobal + Clone + Send + Drop + 'static,
+        ensures { IfErr result (λ fault. IsPageFault fault ⊎ IsThreadFault fault) }
+    {
+        let page = read_page(files, serving)?;
+        let log = begin_log(rt)?;
+        Ok(Supplies { page, log })
+    }
+}
+
+// Gives a log its thread.
+fn begin_log<R>(rt: &R) -> Result<Arc<Log, Global>, Fault>
+where
+    R: Threads + Wait + Eprint + AllocGlobal + Clone + Send + Drop + 'static,
+    ensures { IfErr result IsThreadFault }
+{
+    let (log, lines) = Log::new(rt.alloc())?;
+    let log = Arc::new(rt.alloc(), log)?;
+    let task = LogTask {
+        rt: rt.clone()?,
+        log: Arc::try_clone(&log)?,
+        lines,
+    };
+    begin_task(rt, task)?;
+    Ok(log)
+}
+
+// Reads the page that is served, if one is.
+fn read_page(files: &HostRuntime, serving: &Serving) -> Result<Page, Fault>
     ensures { IfErr result IsPageFault }
 {
     let Some(folder) = &serving.page else {
-        return Ok(());
+        return Ok(Page::none());
     };
-    match read_page(files, folder, PageFile::Index) {
-        Ok(_) => Ok(()),
+    match Page::read(files, folder) {
+        Ok(page) => Ok(page),
         Err(error) => match error.kind() {
             ErrorKind::OutOfMemory => Err(Fault::Memory),
             _ => Err(Fault::NoPage),
@@ -110,6 +147,7 @@ fn serve_folder<R>(
     dir: &String,
     serving: Serving,
     stop: StopFile,
+    supplies: Supplies,
 ) -> Fault
 where
     R: Net<Listener = TcpListener, Stream = TcpStream>
@@ -117,7 +155,6 @@ where
         + Wait
         + Clock
         + RandomSource
-        + Eprint
         + AllocGlobal
         + Clone
         + Send
@@ -127,7 +164,7 @@ where
     ensures { MayEndServer serving.clients stop.path result }
 {
     match take_folder(rt, files, dir, &serving) {
-        Ok((room, document)) => serve_taken(rt, files, room, document, serving, stop, dir),
+        Ok((room, document)) => serve_taken(rt, room, document, serving, stop, supplies, dir),
         Err(fault) => fault,
     }
 }
@@ -139,6 +176,7 @@ fn serve_document<R>(
     address: &Address,
     serving: Serving,
     stop: StopFile,
+    supplies: Supplies,
 ) -> Fault
 where
     R: Net<Listener = TcpListener, Stream = TcpStream>
@@ -146,7 +184,6 @@ where
         + Wait
         + Clock
         + RandomSource
-        + Eprint
         + AllocGlobal
         + Clone
         + Send
@@ -155,14 +192,14 @@ where
         + 'static,
     ensures { MayEndServer serving.clients stop.path result }
 {
-    match take_or_await(rt, files, address, &serving, &stop) {
+    match take_or_await(rt, files, address, &serving, &stop, &supplies.log) {
         Ok((room, document)) => serve_taken(
             rt,
-            files,
             room,
             document,
             serving,
             stop,
+            supplies,
             &address.name,
         ),
         Err(fault) => fault,
@@ -176,6 +213,7 @@ fn take_or_await<R>(
     address: &Address,
     serving: &Serving,
     stop: &StopFile,
+    log: &Arc<Log, Global>,
 ) -> Result<OwnRoom<DocumentJournal<R>>, Fault>
 where
     R: Net<Listener = TcpListener, Stream = TcpStream>
@@ -183,7 +221,6 @@ where
         + Wait
         + Clock
         + RandomSource
-        + Eprint
         + AllocGlobal
         + Clone
         + Send
@@ -193,25 +230,25 @@ where
     ensures faults { IfErr result (λ fault. IsPreparingFault serving.now.clients fault ⊎ IsThreadFault fault ⊎ IsStopFault stop.now.path fault) }
 {
     if serving.is_standby {
-        await_document(rt, files, address, serving, stop)
+        await_document(rt, files, address, serving, stop, log)
     } else {
-        take_document(rt, files, address, serving, stop)
+        take_document(rt, files, address, serving, stop, log)
     }
 }
 
 // Serves a document that is this server's under this name, and lets it go then.
 fn serve_taken<K, R>(
     rt: &R,
-    files: HostRuntime,
     room: BlankRoom<K>,
     document: OwnDocument,
     serving: Serving,
     stop: StopFile,
+    supplies: Supplies,
     name: &String,
 ) -> Fault
 where
     K: Keeper + Drop + Send + 'static,
-    R: Net + Threads + Wait + Clock + Eprint + AllocGlobal + Clone + Send + Sync + Drop + 'static,
+    R: Net + Threads + Wait + Clock + AllocGlobal + Clone + Send + Sync + Drop + 'static,
     requires { IsIdentity (string_bytes document.identity) }
     ensures { IsRunningFault result ⊎ IsStopFault stop.path result }
 {
@@ -226,8 +263,8 @@ where
     } = document;
     let ends = Ends { stop, tenure };
     let figures = Figures::new(meter, notes, space);
-    let fault = match share(rt, listener, identity, figures, removed, serving) {
-        Ok(shared) => host::<Brand, _, _>(rt, files, room, &shared, &ends, name),
+    let fault = match share(rt, listener, identity, figures, removed, serving, supplies) {
+        Ok(shared) => host::<Brand, _, _>(rt, room, &shared, &ends, name),
         Err(fault) => fault,
     };
     if let Some(tenure) = &ends.tenure {
@@ -245,6 +282,7 @@ fn share<R>(
     figures: Figures,
     removed: Option<Removed>,
     serving: Serving,
+    supplies: Supplies,
 ) -> Result<Arc<Shared, Global>, Fault>
 where
     R: Wait + AllocGlobal,
@@ -256,14 +294,15 @@ where
         message_bytes: serving.message_bytes,
     };
     let quiet = serving.quiet;
-    let (hosts, origins, page) = serving.into_pages();
+    let (hosts, origins, folder) = serving.into_pages();
+    let Supplies { page, log } = supplies;
     let shared = Shared {
         listener,
         site: Site {
             hosts,
             origins,
             identity,
-            has_page: page.is_some(),
+            has_page: folder.is_some(),
         },
         page,
         figures,
@@ -271,6 +310,7 @@ where
         has_ended: AtomicBool::new(false),
         limits,
         quiet,
+        log,
     };
     Ok(Arc::new(rt.alloc(), shared)?)
 }
@@ -278,7 +318,6 @@ where
 // Serves a room's document, which has this name.
 fn host<N, K, R>(
     rt: &R,
-    files: HostRuntime,
     room: BlankRoom<K>,
     shared: &Arc<Shared, Global>,
     ends: &Ends,
@@ -287,38 +326,37 @@ fn host<N, K, R>(
 where
     N: RoomName + Send + Sync + 'static,
     K: Keeper + Drop + Send + 'static,
-    R: Net + Threads + Wait + Clock + Eprint + AllocGlobal + Clone + Send + Sync + Drop + 'static,
+    R: Net + Threads + Wait + Clock + AllocGlobal + Clone + Send + Sync + Drop + 'static,
     requires book { room.book ≡ N.book }
     requires opening { room.opening ≡ N.opening }
     ensures { IsRunningFault result ⊎ IsStopFault ends.now.stop.path result }
 {
-    match begin::<N, K, R>(rt, files, room, shared) {
+    match begin::<N, K, R>(rt, room, shared) {
         Ok(seen) => watch(rt, shared, &seen, ends, name),
         Err(fault) => fault,
     }
 }
 
-// Gives each seat and each door its thread, and one to who looks at the room.
+// Gives each seat and the door their threads, and one to who looks at the room.
 fn begin<N, K, R>(
     rt: &R,
-    files: HostRuntime,
     room: BlankRoom<K>,
     shared: &Arc<Shared, Global>,
 ) -> Result<Arc<Seen, Global>, Fault>
 where
     N: RoomName + Send + Sync + 'static,
     K: Keeper + Drop + Send + 'static,
-    R: Net + Threads + Wait + Clock + Eprint + AllocGlobal + Clone + Send + Sync + Drop + 'static,
+    R: Net + Threads + Wait + Clock + AllocGlobal + Clone + Send + Sync + Drop + 'static,
     requires book { room.book ≡ N.book }
     requires opening { room.opening ≡ N.opening }
     ensures { IfErr result IsThreadFault }
 {
     let (room, seats) = opened::<N, K, R>(rt, room)?;
-    let (doors, connections) = bounded(rt.alloc(), 0)?;
+    let (seated, connections) = bounded(rt.alloc(), 0)?;
     let version = room.desk(rt).version();
     begin_seats(rt, seats, shared, &connections)?;
     let seen = begin_glances(rt, room, shared)?;
-    begin_doors(rt, files, shared, &doors)?;
+    begin_door(rt, shared, seated)?;
     announce(rt, shared, version);
     Ok(seen)
 }
@@ -356,7 +394,7 @@ fn begin_seats<N, K, R>(
 where
     N: RoomName + Send + Sync + 'static,
     K: Keeper + Drop + Send + 'static,
-    R: Net + Threads + Wait + Clock + Eprint + AllocGlobal + Clone + Send + Sync + Drop + 'static,
+    R: Net + Threads + Wait + Clock + AllocGlobal + Clone + Send + Sync + Drop + 'static,
     ensures { IfErr result IsThreadFault }
 {
     let copies = Arc::new(rt.alloc(), Copies::new(rt.alloc()))?;
@@ -401,31 +439,30 @@ fn begin_posts<R: Net + AllocGlobal>(
     Ok((posts, bell))
 }
 
-// Gives each door its thread.
-fn begin_doors<R>(
+// Gives the door its thread.
+fn begin_door<R>(
     rt: &R,
-    files: HostRuntime,
     shared: &Arc<Shared, Global>,
-    seats: &Sender<TcpStream, Global>,
+    seats: Sender<TcpStream, Global>,
 ) -> Result<(), Fault>
 where
-    R: Threads + Wait + Clock + AllocGlobal + Clone + Send + Drop + 'static,
+    R: Net + Threads + Wait + Clock + AllocGlobal + Clone + Send + Drop + 'static,
     ensures { IfErr result IsThreadFault }
 {
-    for _ in 0..DOORS {
-        let task = DoorTask {
-            rt: rt.clone()?,
-            files,
-            shared: Arc::try_clone(shared)?,
-            seats: seats.clone()?,
-        };
-        begin_task(rt, task)?;
-    }
-    Ok(())
+    let Ok(door) = Door::new(rt, &shared.listener) else {
+        return Err(Fault::NoThread);
+    };
+    let task = DoorTask {
+        rt: rt.clone()?,
+        shared: Arc::try_clone(shared)?,
+        seats,
+        door,
+    };
+    begin_task(rt, task)
 }
 
-// Tells where the server serves, and from which version on.
-fn announce<R: Eprint>(rt: &R, shared: &Shared, version: u64) {
+// Logs where the server serves, and from which version on.
+fn announce<R: Wait + AllocGlobal>(rt: &R, shared: &Shared, version: u64) {
     if shared.quiet {
         return;
     }
@@ -433,5 +470,9 @@ fn announce<R: Eprint>(rt: &R, shared: &Shared, version: u64) {
         Ok(address) => address.port(),
         Err(_) => 0,
     };
-    let _ = rt.eprintln(format_args!("serving at http://127.0.0.1:{port}/ version {version}"));
+    if let Ok(line) = format!(in rt.alloc();
+        "serving at http://127.0.0.1:{port}/ version {version}"
+    ) {
+        shared.log.tell(rt, line);
+    }
 }

@@ -4,14 +4,14 @@ ghost use Rattle.app_storage.specs.Faults.{IsThreadFault};
 
 use crate::stopping::StopFile;
 use app_faults::Fault;
+use app_listener::Log;
 use app_storage::{Task, begin_task};
 use etcd_store::Lease;
 use std::alloc::Global;
-use std::io::Eprint;
 use std::net::{Net, TcpListener, TcpStream};
 use std::random::RandomSource;
-use std::sync::Arc;
 use std::sync::atomic::{AtomicBool, Ordering};
+use std::sync::{Arc, Wait};
 use std::thread::{Threads, sleep};
 use std::time::{Clock, Duration};
 
@@ -43,13 +43,14 @@ impl Progress {
         quiet: bool,
         stop: &StopFile,
         lease: Lease<R>,
+        log: &Arc<Log, Global>,
     ) -> Result<Progress, Fault>
     where
         R: Net<Listener = TcpListener, Stream = TcpStream>
             + Threads
+            + Wait
             + Clock
             + RandomSource
-            + Eprint
             + AllocGlobal
             + Clone
             + Send
@@ -64,6 +65,7 @@ impl Progress {
             quiet,
             stop: stop.another()?,
             lease,
+            log: Arc::try_clone(log)?,
             is_done: Arc::try_clone(&is_done)?,
         };
         begin_task(rt, task)?;
@@ -85,6 +87,7 @@ struct ProgressTask<
     quiet: bool,
     stop: StopFile,
     lease: Lease<R>,
+    log: Arc<Log, Global>,
     is_done: Arc<AtomicBool, Global>,
 }
 
@@ -97,6 +100,7 @@ impl<R: Net<Stream = TcpStream> + Clock + RandomSource + AllocGlobal + Clone + D
             quiet: _,
             stop: _,
             lease: _,
+            log: _,
             is_done: _,
         } = self;
     }
@@ -104,7 +108,7 @@ impl<R: Net<Stream = TcpStream> + Clock + RandomSource + AllocGlobal + Clone + D
 
 impl<R> Task for ProgressTask<R>
 where
-    R: Net<Stream = TcpStream> + Clock + RandomSource + Eprint + AllocGlobal + Clone + Drop,
+    R: Net<Stream = TcpStream> + Wait + Clock + RandomSource + AllocGlobal + Clone + Drop,
 {
     fn run(self) {
         let ProgressTask {
@@ -113,6 +117,7 @@ where
             quiet,
             stop,
             lease,
+            log,
             is_done,
         } = self;
         for look in 1..u64::MAX {
@@ -125,13 +130,15 @@ where
                 return;
             }
             if !quiet && look % LOOKS_A_LINE == 0 {
-                tell(&rt, &name, look / LOOKS_A_SECOND);
+                tell(&rt, &log, &name, look / LOOKS_A_SECOND);
             }
         }
     }
 }
 
-// A line on how long that has been.
-fn tell<R: Eprint>(rt: &R, name: &str, seconds: u64) {
-    let _ = rt.eprintln(format_args!("opening the document {name}: {seconds} s"));
+// Logs how long that has been.
+fn tell<R: Wait + AllocGlobal>(rt: &R, log: &Log, name: &str, seconds: u64) {
+    if let Ok(line) = format!(in rt.alloc(); "opening the document {name}: {seconds} s") {
+        log.tell(rt, line);
+    }
 }

@@ -9,12 +9,13 @@ use crate::stopping::StopFile;
 use app_args::Serving;
 use app_faults::{Fault, Why};
 use app_identity::Address;
+use app_listener::Log;
 use app_storage::store_of;
 use etcd_store::{EtcdStore, StoreError};
-use std::io::Eprint;
+use std::alloc::Global;
 use std::net::{Net, TcpListener, TcpStream};
 use std::random::RandomSource;
-use std::sync::Wait;
+use std::sync::{Arc, Wait};
 use std::thread::{Threads, sleep};
 use std::time::{Clock, Duration};
 
@@ -53,6 +54,7 @@ pub(crate) fn await_document<R>(
     address: &Address,
     serving: &Serving,
     stop: &StopFile,
+    log: &Arc<Log, Global>,
 ) -> Result<OwnRoom<DocumentJournal<R>>, Fault>
 where
     R: Net<Listener = TcpListener, Stream = TcpStream>
@@ -60,7 +62,6 @@ where
         + Wait
         + Clock
         + RandomSource
-        + Eprint
         + AllocGlobal
         + Clone
         + Send
@@ -72,12 +73,12 @@ where
     let mut store = store_of(rt, address)?;
     let mut told = None;
     for _ in rt.forever() {
-        let obstacle = match try_document(rt, files, address, serving, stop, &mut store)? {
+        let obstacle = match try_document(rt, files, address, serving, stop, log, &mut store)? {
             Ok(taken) => return Ok(taken),
             Err(obstacle) => obstacle,
         };
         if told != Some(obstacle) && !serving.quiet {
-            tell(rt, address, obstacle);
+            tell(rt, log, address, obstacle);
         }
         told = Some(obstacle);
         if rest(rt, stop, obstacle.looks()) {
@@ -94,6 +95,7 @@ fn try_document<R>(
     address: &Address,
     serving: &Serving,
     stop: &StopFile,
+    log: &Arc<Log, Global>,
     store: &mut EtcdStore<R>,
 ) -> Result<Result<OwnRoom<DocumentJournal<R>>, Obstacle>, Fault>
 where
@@ -102,7 +104,6 @@ where
         + Wait
         + Clock
         + RandomSource
-        + Eprint
         + AllocGlobal
         + Clone
         + Send
@@ -116,7 +117,7 @@ where
         Ok(false) => {}
         Err(why) => return Ok(Err(Obstacle::Silence(why))),
     }
-    match take_document(rt, files, address, serving, stop) {
+    match take_document(rt, files, address, serving, stop, log) {
         Ok(taken) => Ok(Ok(taken)),
         Err(Fault::InUse) => Ok(Err(Obstacle::Owner)),
         Err(Fault::NoStore { why }) if why != StoreError::Damaged => Ok(Err(Obstacle::Failure(
@@ -126,18 +127,22 @@ where
     }
 }
 
-// A line on what a standby waits for.
-fn tell<R: Eprint>(rt: &R, address: &Address, obstacle: Obstacle) {
+// Logs what a standby waits for.
+fn tell<R: Wait + AllocGlobal>(rt: &R, log: &Log, address: &Address, obstacle: Obstacle) {
     let name = address.name.as_str();
-    let _ = match obstacle {
-        Obstacle::Owner => rt.eprintln(format_args!(
-            "waiting for the document {name}: another server has it"
-        )),
+    let alloc = rt.alloc();
+    let line = match obstacle {
+        Obstacle::Owner => {
+            format!(in alloc; "waiting for the document {name}: another server has it")
+        }
         Obstacle::Silence(error) | Obstacle::Failure(error) => {
             let why = Why(error);
-            rt.eprintln(format_args!("waiting for the document {name}: the etcd {why}"))
+            format!(in alloc; "waiting for the document {name}: the etcd {why}")
         }
     };
+    if let Ok(line) = line {
+        log.tell(rt, line);
+    }
 }
 
 // Rests for this number of looks. Checks whether the file that stops the server has come.

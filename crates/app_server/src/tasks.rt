@@ -6,7 +6,7 @@ use crate::copies::Copies;
 use crate::live_seat::LiveSeat;
 use crate::polling::{Caller, Post};
 use crate::seat_terms::{SeatFlags, SeatTerms};
-use app_listener::{Shared, stand};
+use app_listener::{Door, Log, Shared, stand, write_lines};
 use app_storage::Task;
 use canvas_bell::Bell;
 use canvas_board::RoomName;
@@ -53,7 +53,7 @@ where
     K: Keeper + Drop,
     N: RoomName,
     L: Wait + Drop,
-    R: Wait + Clock + Eprint + AllocGlobal + Clone + Drop,
+    R: Wait + Clock + AllocGlobal + Clone + Drop,
 {
     // Serves one connection after the other. If memory runs out at its beginning, the seat stays empty.
     fn run(self) {
@@ -92,27 +92,46 @@ where
     }
 }
 
-/// A door, and the way to the seats.
+/// The door, and the way to the seats.
 #[derive(Drop)]
 pub(crate) struct DoorTask<R: Drop> {
     pub(crate) rt: R,
-    pub(crate) files: HostRuntime,
     pub(crate) shared: Arc<Shared, Global>,
     pub(crate) seats: Sender<TcpStream, Global>,
+    pub(crate) door: Door,
 }
 
 impl<R> Task for DoorTask<R>
 where
     R: Wait + Clock + AllocGlobal + Drop,
 {
-    // Accepts one connection after the other.
+    // Serves all connections that no seat does.
     fn run(self) {
         let DoorTask {
             rt,
-            files,
             shared,
             seats,
+            mut door,
         } = self;
-        stand(&rt, files, &shared, &seats);
+        stand(&rt, &shared, &seats, &mut door);
+    }
+}
+
+/// The lines that are logged.
+#[derive(Drop)]
+pub(crate) struct LogTask<R: Drop> {
+    pub(crate) rt: R,
+    pub(crate) log: Arc<Log, Global>,
+    pub(crate) lines: Receiver<String, Global>,
+}
+
+impl<R> Task for LogTask<R>
+where
+    R: Wait + Eprint + Drop,
+{
+    // Writes one line after the other.
+    fn run(self) {
+        let LogTask { rt, log, lines } = self;
+        write_lines(&rt, &log, &lines);
     }
 }

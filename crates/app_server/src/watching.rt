@@ -9,7 +9,6 @@ use app_faults::Fault;
 use app_listener::Shared;
 use app_storage::Refused;
 use canvas_folder::SpaceRefusal;
-use std::io::Eprint;
 use std::sync::Wait;
 use std::sync::atomic::Ordering;
 use std::thread::sleep;
@@ -43,7 +42,7 @@ impl Drop for Ends {
 /// Looks ten times a second whether the server must end, and says why then: the lease of its document has ended, or it wasn't renewed in
 /// ten seconds; the file that stops it has come; or the journal has failed. It never waits for the writer or for an etcd. Logs a checkpoint of the
 /// document of this name that isn't made, once until one is.
-pub(crate) fn watch<R: Wait + Clock + Eprint>(
+pub(crate) fn watch<R: Wait + Clock + AllocGlobal>(
     rt: &R,
     shared: &Shared,
     seen: &Seen,
@@ -67,7 +66,7 @@ pub(crate) fn watch<R: Wait + Clock + Eprint>(
         }
         let refusal = shared.figures.refusal();
         if told.is_none() {
-            tell_refusal(rt, name, refusal);
+            tell_refusal(rt, shared, name, refusal);
         }
         told = refusal;
         sleep(rt, Duration::from_millis(GLANCE_MILLIS));
@@ -75,11 +74,18 @@ pub(crate) fn watch<R: Wait + Clock + Eprint>(
     unreachable!()
 }
 
-// A line on why a checkpoint isn't made, if it isn't.
-fn tell_refusal<R: Eprint>(rt: &R, dir: &str, refusal: Option<SpaceRefusal>) {
+// Logs why a checkpoint isn't made, if it isn't.
+fn tell_refusal<R: Wait + AllocGlobal>(
+    rt: &R,
+    shared: &Shared,
+    dir: &str,
+    refusal: Option<SpaceRefusal>,
+) {
     if let Some(refusal) = refusal {
         let refused = Refused { refusal, dir };
-        let _ = rt.eprintln(format_args!("{refused}"));
+        if let Ok(line) = format!(in rt.alloc(); "{refused}") {
+            shared.log.tell(rt, line);
+        }
     }
 }
 
