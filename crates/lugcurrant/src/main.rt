@@ -4,11 +4,26 @@
 mod caring;
 mod remote;
 mod running;
+mod telling;
 
 use running::run;
 use std::env;
 use std::io::{self, ErrorKind, Input, LineWriter};
 use std::process::ExitCode;
+use telling::Faults;
+
+// Standard error: a server doesn't wait until its fault is read.
+fn faults_of(rt: HostRuntime, words: &[String]) -> Faults {
+    let serves = match words.get(1) {
+        Some(command) => command.as_str() == "serve",
+        None => false,
+    };
+    Faults {
+        rt,
+        stderr: rt.stderr(),
+        waits: !serves,
+    }
+}
 
 // The program's words, of which the first is its name.
 fn words(rt: &HostRuntime) -> io::Result<Vec<String>> {
@@ -19,7 +34,7 @@ fn words(rt: &HostRuntime) -> io::Result<Vec<String>> {
 fn main(rt: HostRuntime) -> ExitCode {
     let status = match words(&rt) {
         // Each line about a fault is written by one call, so that no line of another thread cuts it.
-        Ok(words) => match LineWriter::new(rt.alloc(), rt.stderr()) {
+        Ok(words) => match LineWriter::new(rt.alloc(), faults_of(rt, &words)) {
             Ok(mut faults) => run(
                 &rt,
                 rt,
