@@ -6,6 +6,14 @@ own; only the named groups, where some are named.
 - full: 64 clients at once, and the 65th is answered 503; once one has left, the next is served.
 - quiet: a peer that says nothing, one that sends half a head, one that sends it byte by byte, and one that closes its half: none
   keeps a seat or the port. A client that is silent past --idle gives its seat back.
+- strangers: 10,000 connections that say nothing, and others in their place; 50 at once that send a byte and go; 500 that send a byte each
+  4.5 s; 500 that read a byte of a page each 4.5 s; 50 at once that reset. Beside each, /health and a handshake take less than 50 ms (median), and
+  one that joined goes on. Where the server may have 256 descriptors, silent connections don't keep others out either.
+- ended: a connection that closes its half before its head is whole is closed at once, so is one whose head is none; one that sends nothing is closed
+  after 10 s, and one that sends a byte now and then too.
+- unread: nothing reads the standard error of a server: 2,000 clients come and go, one after the other. Once it is read, a line says how many
+  were left out. One that ends by a fault ends although its sentence isn't read.
+- stopped: a server that is stopped by a signal and goes on keeps its clients.
 - pages: health, metrics, document, the page's files, HEAD, what isn't there, paths that lead out of the folder, wrong methods.
 - origins: a page of the same host, of a named one, of a foreign one, and none.
 - hosts: the machine's own names and those of --host are served, with and without a port; every other is answered 421, whatever it asks for; two are 400.
@@ -68,6 +76,7 @@ import re
 import resource
 import select
 import shutil
+import signal
 import socket
 import struct
 import subprocess
@@ -174,6 +183,256 @@ def quiet(room):
                 break
     server.kill()
     return "silent, slow and half-closed peers are closed, and keep no seat"
+
+
+# How many connections strangers open, and for how long /health and handshakes are measured beside them.
+STRANGERS = 10_000
+BESIDE = 6.0
+
+
+def reached(port):
+    peer = socket.socket()
+    peer.settimeout(30)
+    peer.connect(("127.0.0.1", port))
+    return peer
+
+
+def say_nothing(port, ready):
+    peers = [reached(port) for _ in range(STRANGERS)]
+    ready.set()
+    while True:
+        for at, peer in enumerate(peers):
+            peer.close()
+            peers[at] = reached(port)
+            time.sleep(0.001)
+
+
+def come_and_go(port, ready):
+    ready.set()
+    while True:
+        peers = [reached(port) for _ in range(50)]
+        for peer in peers:
+            peer.sendall(b"G")
+            peer.close()
+        time.sleep(0.05)
+
+
+def say_a_byte(port, ready):
+    peers = [reached(port) for _ in range(500)]
+    ready.set()
+    while True:
+        for at, peer in enumerate(peers):
+            try:
+                peer.sendall(b"G")
+            except OSError:
+                peers[at] = reached(port)
+        time.sleep(4.5)
+
+
+def read_a_byte(port, ready):
+    peers = []
+    for _ in range(500):
+        peer = socket.socket()
+        peer.setsockopt(socket.SOL_SOCKET, socket.SO_RCVBUF, 1024)
+        peer.connect(("127.0.0.1", port))
+        peer.sendall(f"GET /canvas.wasm HTTP/1.1\r\nHost: 127.0.0.1:{port}\r\n\r\n".encode())
+        peers.append(peer)
+    ready.set()
+    while True:
+        time.sleep(4.5)
+        for peer in peers:
+            try:
+                peer.recv(1)
+            except OSError:
+                pass
+
+
+def reset(port, ready):
+    ready.set()
+    while True:
+        peers = [reached(port) for _ in range(50)]
+        for number, peer in enumerate(peers):
+            peer.setsockopt(socket.SOL_SOCKET, socket.SO_LINGER, struct.pack("ii", 1, 0))
+            if number % 2:
+                peer.sendall(b"GET / HTTP/1.1\r\n")
+            peer.close()
+        time.sleep(0.05)
+
+
+def timed(work):
+    start = time.time()
+    work()
+    return (time.time() - start) * 1000
+
+
+def measured(server, seconds):
+    """The milliseconds that each /health and each handshake takes."""
+    def look():
+        require(server.get("/health")[0] == 200, "health isn't answered")
+
+    def shake():
+        client = Client(server.port)
+        require(client.status == 101, "a handshake is answered", client.head)
+        client.leave()
+
+    looks, shakes, end = [], [], time.time() + seconds
+    while time.time() < end:
+        looks.append(timed(look))
+        shakes.append(timed(shake))
+        time.sleep(0.02)
+    return sorted(looks), sorted(shakes)
+
+
+def beside(server, attack):
+    """The medians and the worst of both beside strangers who do this."""
+    ready = multiprocessing.Event()
+    stranger = multiprocessing.Process(target=attack, args=(server.port, ready), daemon=True)
+    stranger.start()
+    try:
+        require(ready.wait(60), "the strangers don't get through:", attack.__name__)
+        looks, shakes = measured(server, BESIDE)
+    finally:
+        stranger.kill()
+        stranger.join()
+    middle = max(looks[len(looks) // 2], shakes[len(shakes) // 2])
+    require(middle < 50, attack.__name__, "has /health take", looks, "and handshakes", shakes)
+    return f"{attack.__name__} {middle:.1f} ms (at worst {max(looks[-1], shakes[-1]):.0f})"
+
+
+def strangers(room):
+    _, most = resource.getrlimit(resource.RLIMIT_NOFILE)
+    resource.setrlimit(resource.RLIMIT_NOFILE, (most, most))
+    require(most > STRANGERS + 1000, "this group needs", STRANGERS + 1000, "descriptors, and may have", most)
+    site = os.path.join(os.path.dirname(room), "page")
+    os.mkdir(site)
+    Path(site, "index.html").write_bytes(b"<!doctype html>")
+    Path(site, "canvas.wasm").write_bytes(bytes(1 << 20))
+    server = Server(room, "--page", site, "--quiet")
+    inside = Client(server.port)
+    name = inside.join()
+    told = []
+    for number, attack in enumerate((say_nothing, come_and_go, say_a_byte, read_a_byte, reset), 1):
+        told.append(beside(server, attack))
+        require(inside.ask("edit", name, number, ["delete", [name, 9]]) == [["idle"]], "an edit isn't judged beside", attack.__name__)
+    require(server.memory() < 500_000, "the server has", server.memory(), "kB")
+    server.kill()
+    resource.setrlimit(resource.RLIMIT_NOFILE, (256, most))
+    server = Server(room, "--clients", "8", "--quiet")
+    resource.setrlimit(resource.RLIMIT_NOFILE, (most, most))
+    told.append("256 descriptors: " + beside(server, say_nothing))
+    server.kill()
+    return "; ".join(told)
+
+
+def ended(room):
+    server = Server(room, "--quiet")
+
+    def until_closed(peer):
+        start = time.time()
+        try:
+            while peer.recv(4096):
+                pass
+        except ConnectionResetError:
+            pass
+        return time.time() - start
+
+    for text in (b"", b"G", b"GET /health HTTP/1.1\r\nHost: loc"):
+        peer = reached(server.port)
+        peer.sendall(text)
+        time.sleep(0.1)
+        peer.shutdown(socket.SHUT_WR)
+        took = until_closed(peer)
+        require(took < 1, "a connection that ends behind", text, "is closed after", took, "s")
+    peer = reached(server.port)
+    peer.sendall(b"GET /health HTTP/1.1\r\nHost: localhost\r\n\r\n")
+    peer.shutdown(socket.SHUT_WR)
+    require(read_answer(peer)[0] == 200, "a whole head before the end isn't answered")
+    silent, slow = reached(server.port), reached(server.port)
+    begun = time.time()
+    threading.Thread(target=drip, args=(slow,), daemon=True).start()
+    for peer in (silent, slow):
+        until_closed(peer)
+        took = time.time() - begun
+        require(9 < took < 13, "a connection without a head is closed after", took, "s")
+    server.kill()
+    return "closed at once at an end, and after 10 s"
+
+
+def drip(peer):
+    """Sends the first line of a request, a byte each second."""
+    try:
+        for byte in b"GET /health HTTP/1.1":
+            peer.sendall(bytes([byte]))
+            time.sleep(1)
+    except OSError:
+        pass
+
+
+def unread(room):
+    port = shared.free_port()
+    read, write = os.pipe()
+    process = subprocess.Popen([PROGRAM, "serve", room, "--port", str(port)], stdin=subprocess.DEVNULL, stdout=write, stderr=write)
+    shared.RUNNING.append(process)
+    os.close(write)
+    begun = time.time()
+    while True:
+        try:
+            reached(port).close()
+            break
+        except OSError:
+            require(time.time() < begun + 20, "the server doesn't listen")
+            time.sleep(0.05)
+    for number in range(2000):
+        client = Client(port, timeout=10)
+        require(client.status == 101, "client", number, "is answered", client.head)
+        client.leave()
+    lines, rest = [], b""
+    while not any("were left out" in line for line in lines):
+        require(select.select([read], [], [], 5)[0], "no line says how many were left out, of", len(lines), "lines")
+        *whole, rest = (rest + os.read(read, 1 << 16)).split(b"\n")
+        lines += [line.decode() for line in whole]
+    os.close(read)
+    process.kill()
+    process.wait()
+    require(lines[0].startswith("serving at"), "the first line is", lines[:1])
+    left_out = next(line for line in lines if "were left out" in line)
+    with socket.create_server(("127.0.0.1", 0)) as other:
+        read, write = full_pipe()
+        begun = time.time()
+        process = subprocess.Popen([PROGRAM, "serve", room, "--port", str(other.getsockname()[1])], stdin=subprocess.DEVNULL, stderr=write)
+        shared.RUNNING.append(process)
+        require(process.wait(20) == 4, "a server whose fault isn't read ends with", process.returncode)
+        took = time.time() - begun
+        os.close(read)
+        os.close(write)
+    return f"2000 clients served; {left_out}; one whose fault isn't read ends after {took:.1f} s"
+
+
+def full_pipe():
+    """The ends of a pipe that takes no byte more."""
+    read, write = os.pipe()
+    os.set_blocking(write, False)
+    try:
+        while True:
+            os.write(write, bytes(4096))
+    except BlockingIOError:
+        os.set_blocking(write, True)
+    return read, write
+
+
+def stopped(room):
+    server = Server(room, "--quiet")
+    clients = [Client(server.port) for _ in range(8)]
+    names = [client.join() for client in clients]
+    for number in range(1, 6):
+        server.process.send_signal(signal.SIGSTOP)
+        time.sleep(0.2)
+        server.process.send_signal(signal.SIGCONT)
+        for name, client in zip(names, clients):
+            require(client.ask("edit", name, number, ["delete", [name, 9]]) == [["idle"]], "an edit isn't judged")
+    require(server.get("/health")[0] == 200, "health isn't answered")
+    server.kill()
+    return "8 clients stay over 5 stops"
 
 
 def pages(room):
@@ -1525,7 +1784,7 @@ def coming(room):
     return f"{served[0]} clients in {SECONDS:.0f} s, none refused, memory {before} kB after a third, {after} kB at the end"
 
 
-GROUPS = (reuse, full, quiet, pages, origins, hosts, handshakes, identity, kills, figures, sizes, copies, pace, pieces, large, disk, space, sentences, rights, rows, restored, whole, lost, torn, gone, moved, checked, served,
+GROUPS = (reuse, full, quiet, strangers, ended, unread, stopped, pages, origins, hosts, handshakes, identity, kills, figures, sizes, copies, pace, pieces, large, disk, space, sentences, rights, rows, restored, whole, lost, torn, gone, moved, checked, served,
           memory, coming)
 
 sys.exit(try_groups(GROUPS, NAMES))
