@@ -8,7 +8,8 @@ own; only the named groups, where some are named.
   keeps a seat or the port. A client that is silent past --idle gives its seat back.
 - strangers: 10,000 connections that say nothing, and others in their place; 50 at once that send a byte and go; 500 that send a byte each
   4.5 s; 500 that read a byte of a page each 4.5 s; 50 at once that reset. Beside each, /health and a handshake take less than 50 ms (median), and
-  one that joined goes on. Where the server may have 256 descriptors, silent connections don't keep others out either.
+  one that joined goes on. Where the server may have 256 descriptors, silent connections, and those that stay once they are answered, don't
+  keep others out either.
 - ended: a connection that closes its half before its head is whole is closed at once, so is one whose head is none; one that sends nothing is closed
   after 10 s, and one that sends a byte now and then too.
 - unread: nothing reads the standard error of a server: 2,000 clients come and go, one after the other. Once it is read, a line says how many
@@ -259,6 +260,19 @@ def reset(port, ready):
         time.sleep(0.05)
 
 
+def stay(port, ready):
+    """Connections that are answered, and don't end."""
+    peers = []
+    ready.set()
+    while True:
+        peer = reached(port)
+        peer.sendall(f"GET /health HTTP/1.1\r\nHost: 127.0.0.1:{port}\r\n\r\n".encode())
+        peers.append(peer)
+        if len(peers) > 5000:
+            peers.pop(0).close()
+        time.sleep(0.001)
+
+
 def timed(work):
     start = time.time()
     work()
@@ -320,6 +334,7 @@ def strangers(room):
     server = Server(room, "--clients", "8", "--quiet")
     resource.setrlimit(resource.RLIMIT_NOFILE, (most, most))
     told.append("256 descriptors: " + beside(server, say_nothing))
+    told.append(beside(server, stay))
     server.kill()
     return "; ".join(told)
 

@@ -130,7 +130,7 @@ impl Door {
     }
 }
 
-// Accepts connections that wait. Where none can be accepted, the ones that came first and have no whole head make room.
+// Accepts connections that wait. If no descriptor is left for them, others make room.
 fn accept<R>(round: &Round<'_, R>, hall: &mut Hall, port: Port) -> Port {
     if port == Port::Still {
         return port;

@@ -1,5 +1,5 @@
 // The connections that no seat serves: whose head isn't whole, that wait for a seat, whose answer leaves, or that have it.
-ghost use Rattle.std.specs.Prelude.{◌≡◌, ◌<◌, ◌≤◌, ◌⊎◌, ◌++◌, ◌↔◌, [], IfNone, IfSome, IsTrue, None, Some, drop, length, min, option_to_list};
+ghost use Rattle.std.specs.Prelude.{◌≡◌, ◌+◌, ◌<◌, ◌≤◌, ◌⊎◌, ◌++◌, ◌↔◌, [], IfNone, IfSome, IsTrue, None, Some, drop, length, min, option_to_list};
 ghost use Rattle.net_listener.specs.Queues.{waiting_of};
 ghost use Rattle.app_listener.specs.Halls.{HasEmptyQueues, IsBeforeAll, line_of};
 
@@ -115,13 +115,15 @@ impl Hall {
         }
     }
 
-    /// Closes the 64 connections that came first and have no whole head. Returns whether any was there.
+    /// Closes the 64 connections that have had their answer for longest, or, if none has it, the 64 that came first and have no whole head.
+    /// Returns whether any was there.
     pub(crate) fn make_room(&mut self) -> bool
-        ensures made { IsTrue result ↔ (0 < length (waiting_of self.old.heads)) }
-        ensures first { waiting_of self.new.heads ≡ drop (min MADE_ROOM (length (waiting_of self.old.heads))) (waiting_of self.old.heads) }
+        ensures made { IsTrue result ↔ (0 < length (waiting_of self.old.ends) + length (waiting_of self.old.heads)) }
+        ensures ends { waiting_of self.new.ends ≡ drop (min MADE_ROOM (length (waiting_of self.old.ends))) (waiting_of self.old.ends) }
+        ensures heads { waiting_of self.old.ends ≡ [] → waiting_of self.new.heads ≡ drop (min MADE_ROOM (length (waiting_of self.old.heads))) (waiting_of self.old.heads) }
         ensures line { line_of self.new ≡ line_of self.old }
     {
-        self.heads.drop_first(MADE_ROOM) > 0
+        self.ends.drop_first(MADE_ROOM) > 0 || self.heads.drop_first(MADE_ROOM) > 0
     }
 
     /// Goes on with a connection of which something was reported.
