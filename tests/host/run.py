@@ -199,13 +199,26 @@ def reached(port):
 
 
 def say_nothing(port, ready):
-    peers = [reached(port) for _ in range(STRANGERS)]
+    peers = []
+    for number in range(STRANGERS):
+        peers.append(begun(port))
+        if number % 50 == 0:
+            time.sleep(0.005)
+    time.sleep(3)
     ready.set()
     while True:
         for at, peer in enumerate(peers):
             peer.close()
-            peers[at] = reached(port)
+            peers[at] = begun(port)
             time.sleep(0.001)
+
+
+def begun(port):
+    """A connection that isn't waited for."""
+    peer = socket.socket()
+    peer.setblocking(False)
+    peer.connect_ex(("127.0.0.1", port))
+    return peer
 
 
 def come_and_go(port, ready):
