@@ -13,21 +13,12 @@ const MOST_LOOKS: u32 = 20;
 const LOOK_MILLIS: u64 = 100;
 
 /// Standard error. A server ends even if its fault isn't read: after 2 seconds a write fails.
+#[derive(Drop)]
 pub(crate) struct Faults {
     pub(crate) rt: HostRuntime,
     pub(crate) stderr: Stderr,
     /// If set, a write waits as long as it takes, as the commands do; else for 2 seconds.
     pub(crate) waits: bool,
-}
-
-impl Drop for Faults {
-    fn drop(self) {
-        let Faults {
-            rt: _,
-            stderr: _,
-            waits: _,
-        } = self;
-    }
 }
 
 impl Write for Faults {
