@@ -295,7 +295,7 @@ where
 const EDIT: &[u8] = b"[\"edit\",";
 
 // Returns the edits of which these are the texts, up to the first that isn't one, or isn't the next of the same client: if one that was judged before is
-// refused, none behind it may have been taken. Errors: out of memory.
+// refused, none after it may have been taken. Errors: out of memory.
 fn edits_of(alloc: Global, texts: &[Vec<u8>]) -> Result<Vec<Message>, AllocError> {
     let mut edits = Vec::with_capacity(alloc, texts.len())?;
     let mut last = None;
@@ -321,7 +321,7 @@ fn number_of(message: &Message) -> Option<(u32, u64)> {
     }
 }
 
-// Checks whether an edit of this client and number is the next one behind the last, if there is one.
+// Checks whether an edit of this client and number is the next one after the last, if there is one.
 fn is_behind(last: Option<(u32, u64)>, next: Option<(u32, u64)>) -> bool {
     match (last, next) {
         (Some((client, number)), Some(next)) => next == (client, number.saturating_add(1)),

@@ -50,7 +50,7 @@ impl Inbox {
         }
     }
 
-    /// Takes the messages that have come together with this one, which is handed out now: itself and those behind it, at most 64, as far as all
+    /// Takes the messages that have come together with this one, which is handed out now: itself and those after it, at most 64, as far as all
     /// begin with `start`. Called for each message that is handed out, in their order. Returns none for one that was taken with others before.
     pub fn take_run(&self, message: &[u8], start: &[u8]) -> Vec<Vec<u8>> {
         let left = self.taken.get();
@@ -75,7 +75,7 @@ pub struct Recorded<'a, S> {
 }
 
 impl<'a, S> Recorded<'a, S> {
-    /// Returns a stream that this inbox records, no byte of which was read since the handshake.
+    /// Returns a stream that this inbox records. Nothing was read from it since the handshake.
     pub fn new(stream: S, inbox: &'a Inbox) -> Recorded<'a, S> {
         inbox.clear();
         Recorded { stream, inbox }

@@ -19,7 +19,7 @@ enum Payload {
     Passed,
     // It ends a message that isn't kept.
     Dropped,
-    // It is a message, of which so much has come.
+    // It is a message. This part of it has come.
     Kept(Vec<u8>),
 }
 
@@ -57,7 +57,7 @@ impl Messages {
         }
     }
 
-    /// Goes on by bytes that were read. All messages before them were handed out: whoever reads reads on only then.
+    /// Follows bytes that were read. All messages before them were handed out: whoever reads reads on only then.
     pub(crate) fn pass(&mut self, bytes: &[u8]) {
         self.whole.clear();
         let mut at = 0;
@@ -69,7 +69,7 @@ impl Messages {
         }
     }
 
-    // Goes on by some of these bytes, and returns how many.
+    // Follows some of these bytes, and returns their count.
     fn pass_some(&mut self, bytes: &[u8]) -> usize
         ensures { result ≤ length bytes.now }
     {
@@ -91,7 +91,7 @@ impl Messages {
         count
     }
 
-    // Goes on by a byte of a header. Once bytes were no header, no byte is one.
+    // Follows a byte of a header. Once bytes were no header, no byte is one.
     fn begin(&mut self, byte: u8) {
         if self.is_lost || self.filled >= FrameHeader::MAX_SIZE {
             self.is_lost = true;
@@ -106,7 +106,7 @@ impl Messages {
         }
     }
 
-    // Goes on into a frame with this header, of so many bytes.
+    // Enters a frame with this header and length.
     fn enter(&mut self, header: &FrameHeader, length: u64) {
         self.filled = 0;
         self.left = length;
@@ -117,7 +117,7 @@ impl Messages {
         }
     }
 
-    // Goes on by bytes of a payload.
+    // Adds bytes of a payload.
     fn add(&mut self, bytes: &[u8]) {
         let has_added = match &mut self.payload {
             Payload::Kept(text) => unmask(text, self.key, bytes).is_ok(),
@@ -128,7 +128,7 @@ impl Messages {
         }
     }
 
-    // A payload is whole. If memory runs out, its message isn't kept, nor is one behind it.
+    // A payload is whole. If memory runs out, its message isn't kept, and no later one is.
     fn end(&mut self) {
         let message = match std::mem::replace(&mut self.payload, Payload::Passed) {
             Payload::Passed => return,
@@ -141,7 +141,7 @@ impl Messages {
         }
     }
 
-    /// Takes this message, if it is the oldest, and those behind it, at most 64 together, as far as all begin with `start`. If it isn't the
+    /// Takes this message, if it is the oldest, and those after it, at most 64 together, as far as all begin with `start`. If it isn't the
     /// oldest, all are dropped.
     pub(crate) fn take_run(&mut self, message: &[u8], start: &[u8]) -> Vec<Vec<u8>> {
         let mut run = Vec::new(self.alloc);
@@ -183,7 +183,7 @@ impl Messages {
     }
 }
 
-// What becomes of the payload of a frame with this header, of so many bytes.
+// Returns what becomes of the payload of a frame with this header and length.
 fn payload_of(alloc: Global, header: &FrameHeader, length: u64) -> Payload {
     match header.opcode {
         OpCode::Data(Data::Binary) if header.is_final && length <= MOST_TEXT => {

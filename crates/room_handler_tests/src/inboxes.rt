@@ -19,7 +19,7 @@ const ALONE: &[usize] = &[0, 1, 1, 1, 0, 1, 1];
 // The same where the third message is too long to be kept.
 const WITH_A_LONG_ONE: &[usize] = &[0, 1, 0, 1, 0, 2, 0];
 
-// Keys of which no two bytes are the same.
+// Keys whose bytes all differ.
 #[derive(Clone, Copy, Debug)]
 struct Keys;
 
@@ -29,7 +29,7 @@ impl MaskKeys for Keys {
     }
 }
 
-// Bytes to read, so many at a time at most. At their end it would wait.
+// Bytes to read, at most `most` at a time. At their end a read would wait.
 #[derive(Drop)]
 struct Pieces<'a> {
     bytes: &'a [u8],
@@ -64,7 +64,7 @@ fn sent(alloc: Global, long: usize) -> Result<Vec<u8>, Fail> {
     Ok(client.into_inner().writer)
 }
 
-// How many messages each message has come together with, if so many bytes come at a time. Fails if one of them isn't what was sent.
+// How many messages each message has come together with, if `most` bytes come at a time. Fails if one of them isn't what was sent.
 fn runs(alloc: Global, bytes: &[u8], most: usize) -> Result<Vec<usize>, Fail> {
     let inbox = Inbox::new(alloc);
     let stream = Duplex {
@@ -87,7 +87,7 @@ fn runs(alloc: Global, bytes: &[u8], most: usize) -> Result<Vec<usize>, Fail> {
     Ok(runs)
 }
 
-// Checks whether the messages come together so, if so many bytes come at a time.
+// Checks whether the messages come together so, if `most` bytes come at a time.
 fn come(alloc: Global, long: usize, most: usize, wanted: &[usize]) -> Result<bool, Fail> {
     let bytes = sent(alloc, long)?;
     Ok(runs(alloc, &bytes, most)?.as_slice() == wanted)
