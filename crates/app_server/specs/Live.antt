@@ -1,5 +1,5 @@
 -- What a seat says to a client that is told unasked.
-use Rattle.std.specs.Prelude.{◌≡◌, ◌⊎◌, ℕ, ◌<◌, List, [], ◌∷◌, Option, None, Some}
+use Rattle.std.specs.Prelude.{◌≡◌, ◌⊎◌, ℕ, List, [], ◌∷◌, Option, None, Some}
 use Rattle.canvas_model.specs.Messages.{Message, Idle}
 use Rattle.canvas_judge.specs.declared.message.NoReason.TheVariants as no
 use Rattle.canvas_board.specs.Marks.{Mark, Opening, board}

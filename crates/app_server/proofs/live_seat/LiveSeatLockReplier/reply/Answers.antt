@@ -1,4 +1,3 @@
-use Rattle.std.proofs.Common.{rules}
 use Rattle.app_server.proofs.live_seat.LiveSeatLockReplier.reply.Goals as goal
 
 -- what was judged ahead changes nothing that is seen
