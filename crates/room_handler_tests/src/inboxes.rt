@@ -3,7 +3,7 @@ use net_inbox::{Inbox, Recorded};
 use std::alloc::Global;
 use std::io::{self, ErrorKind, Read};
 use std::test::Fail;
-use tungstenite::{Duplex, Error, MaskKeys, Message, NoMask, Role, WebSocket};
+use tungstenite::{Duplex, MaskKeys, Message, NoMask, Role, WebSocket};
 
 // What a client sends, a line for each message.
 const LINES: &str = "join\nedit 1\nedit 2\nedit 3\nask\nedit 4\nedit 5";
@@ -64,27 +64,41 @@ fn sent(alloc: Global, long: usize) -> Result<Vec<u8>, Fail> {
     Ok(client.into_inner().writer)
 }
 
-// How many messages each message has come together with, if `most` bytes come at a time. Fails if one of them isn't what was sent.
-fn runs(alloc: Global, bytes: &[u8], most: usize) -> Result<Vec<usize>, Fail> {
-    let inbox = Inbox::new(alloc);
+// How many messages each message has come together with, up to the first that this stream doesn't have.
+fn runs_of<S: Read + Drop>(
+    alloc: Global,
+    inbox: &Inbox,
+    stream: Recorded<'_, S>,
+    most: usize,
+) -> Result<Vec<usize>, Fail> {
     let stream = Duplex {
-        reader: Recorded::new(Pieces { bytes, most }, &inbox),
+        reader: stream,
         writer: io::sink(),
     };
     let mut server = WebSocket::from_raw_socket(alloc, stream, NoMask, Role::Server, None);
     let mut runs = Vec::new(alloc);
-    for _message in 0..bytes.len() {
-        match server.read() {
-            Ok(Message::Binary(message)) => {
-                let run = inbox.take_run(message.as_slice(), EDIT);
-                runs.push(run.len())?;
-            }
-            Ok(_) => {}
-            Err(Error::Io(_)) => return Ok(runs),
-            Err(error) => return Err(error.into()),
+    for _message in 0..most {
+        let Ok(message) = server.read() else {
+            return Ok(runs);
+        };
+        if let Message::Binary(message) = message {
+            let run = inbox.take_run(message.as_slice(), EDIT);
+            runs.push(run.len())?;
         }
     }
     Ok(runs)
+}
+
+// The same, if `most` bytes come at a time.
+fn runs(alloc: Global, bytes: &[u8], most: usize) -> Result<Vec<usize>, Fail> {
+    let inbox = Inbox::new(alloc);
+    runs_in(alloc, &inbox, bytes, most)
+}
+
+// The same, with this inbox.
+fn runs_in(alloc: Global, inbox: &Inbox, bytes: &[u8], most: usize) -> Result<Vec<usize>, Fail> {
+    let stream = Recorded::new(Pieces { bytes, most }, inbox);
+    runs_of(alloc, inbox, stream, bytes.len())
 }
 
 // Checks whether the messages come together so, if `most` bytes come at a time.
