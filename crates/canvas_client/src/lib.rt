@@ -15,6 +15,7 @@ mod parts;
 mod placed;
 mod received;
 mod request;
+mod resuming;
 mod shown;
 
 pub use changes::Changes;
