@@ -263,8 +263,8 @@ impl<N: RoomName, W: Wait + Clock> Terms<N> for SeatTerms<'_, N, W> {
         is_too_large(alloc, message, self.shared.limits.message_bytes)
     }
 
-    fn shares_copy(&self, version: u64) -> bool {
-        self.is_below(version)
+    fn shares_copy<D: Drop>(&self, alloc: Global, seat: &mut Seat<N, D>, version: u64) -> bool {
+        is_below_floor(alloc, seat, version)
     }
 
     fn ask_texts<D: Drop>(

@@ -1,5 +1,5 @@
 // A seat as what answers the clients of connections.
-ghost use Rattle.std.specs.Prelude.{◌≡◌, ◌↔◌, IfOk, IfSome, IsTrue, map};
+ghost use Rattle.std.specs.Prelude.{◌≡◌, ◌↔◌, ℕ, IfNone, IfOk, IfSome, IsTrue, map};
 ghost use Rattle.std.specs.Option.{option_map};
 ghost use Rattle.canvas_model.specs.Messages as messages;
 ghost use Rattle.canvas_judge.specs.Seen.{seen_message};
@@ -107,8 +107,10 @@ impl<N: RoomName, D: Drop, W: Drop, T: Terms<N> + Drop> SeatAnswerer<N, D, W, T>
     }
 
     // Checks whether an Ask from this version gets a copy out of one for many.
-    fn shares_copy(&self, version: u64) -> bool {
-        self.terms.shares_copy(version)
+    fn shares_copy(&mut self, version: u64) -> bool
+        ensures { SeatSeesOn N.opening self.old self.new }
+    {
+        self.terms.shares_copy(self.alloc, &mut self.seat, version)
     }
 
     // Returns the texts of the answer to that Ask.
@@ -149,6 +151,39 @@ impl<N: RoomName, D: Drop, W: Drop, T: Terms<N> + Drop> SeatAnswerer<N, D, W, T>
         told_texts(alloc, &told)
     }
 
+    // Returns the texts of the answer to an Ask, out of a copy that many are sent, if its terms say so. Errors: out of memory; its terms don't
+    // let the texts wait to be sent.
+    fn ask_texts(
+        &mut self,
+        alloc: Global,
+        client: u32,
+        version: u64,
+    ) -> Result<Vec<Text>, AllocError>
+        ensures { IfOk result (λ ts. GivesTexts (SeatGives N.opening) self.old (messages.Ask client version) (map text_bytes ts.items) self.new) }
+    {
+        if self.shares_copy(version) {
+            return self.copied(client, version);
+        }
+        let texts = self.asked(alloc, client, version)?;
+        own_texts(alloc, texts)
+    }
+
+    // Returns the bytes of each text of that answer. Errors: out of memory; its terms don't let the texts wait to be sent.
+    fn ask_bytes(
+        &mut self,
+        alloc: Global,
+        client: u32,
+        version: u64,
+    ) -> Result<Vec<Vec<u8>>, AllocError>
+        ensures { IfOk result (λ ts. GivesTexts (SeatGives N.opening) self.old (messages.Ask client version) (map (λ t. t.items) ts.items) self.new) }
+    {
+        if !self.shares_copy(version) {
+            return self.asked(alloc, client, version);
+        }
+        let texts = self.copied(client, version)?;
+        bytes_of_each(alloc, &texts)
+    }
+
     // An answer that refuses an edit as too large. Errors: out of memory.
     fn too_large(&self) -> Result<Vec<Message>, AllocError>
         ensures { IfOk result (λ answer. map seen_message answer.items ≡ refusal_alone NoReason.TooLarge) }
@@ -179,14 +214,13 @@ where
     pub fn reply_texts(&mut self, alloc: Global, message: Message) -> Result<Vec<Text>, AllocError>
         ensures { IfOk result (λ ts. GivesTexts (SeatGives N.opening) self.old (seen_message message) (map text_bytes ts.items) self.new) }
     {
-        let (client, version) = match &message {
-            Message::Ask { client, version } if self.shares_copy(*version) => (*client, *version),
-            _ => {
-                let texts = self.texts_anew(alloc, message)?;
-                return own_texts(alloc, texts);
+        match asked_of(&message) {
+            Some((client, version)) => self.ask_texts(alloc, client, version),
+            None => {
+                let texts = self.answer_texts(alloc, message)?;
+                own_texts(alloc, texts)
             }
-        };
-        self.copied(client, version)
+        }
     }
 
     /// Gets edits judged and kept together, at most 64, before each gets its answer: those before the first message that is no edit or is over the
@@ -218,17 +252,6 @@ where
             Ok(false) => Request::asked_by(message),
             Ok(true) | Err(_) => None,
         }
-    }
-
-    // Returns the texts of the answer to a message, which share nothing with other texts. Errors: out of memory.
-    fn texts_anew(&mut self, alloc: Global, message: Message) -> Result<Vec<Vec<u8>>, AllocError>
-        ensures { IfOk result (λ ts. GivesTexts (SeatGives N.opening) self.old (seen_message message) (map (λ t. t.items) ts.items) self.new) }
-    {
-        let (client, version) = match &message {
-            Message::Ask { client, version } => (*client, *version),
-            _ => return self.answer_texts(alloc, message),
-        };
-        self.asked(alloc, client, version)
     }
 
     // Returns the texts of the answer to a message that shares nothing. Errors: out of memory.
@@ -271,11 +294,20 @@ where
     }
 
     fn texts(&mut self, alloc: Global, message: Message) -> Result<Vec<Vec<u8>>, AllocError> {
-        let (client, version) = match &message {
-            Message::Ask { client, version } if self.shares_copy(*version) => (*client, *version),
-            _ => return self.texts_anew(alloc, message),
-        };
-        let texts = self.copied(client, version)?;
-        bytes_of_each(alloc, &texts)
+        match asked_of(&message) {
+            Some((client, version)) => self.ask_bytes(alloc, client, version),
+            None => self.answer_texts(alloc, message),
+        }
+    }
+}
+
+// Returns the client and the version of an Ask. Returns `None` for any other message.
+fn asked_of(message: &Message) -> Option<(u32, u64)>
+    ensures some { IfSome result (λ ask. seen_message message.now ≡ messages.Ask ask.0 ask.1) }
+    ensures none { IfNone result ((client version : ℕ) → seen_message message.now ≡ messages.Ask client version → ⊥) }
+{
+    match message {
+        Message::Ask { client, version } => Some((*client, *version)),
+        _ => None,
     }
 }

@@ -31,8 +31,9 @@ pub trait Terms<N: RoomName>: Pace {
     fn is_over_limit(&self, alloc: Global, message: &Message) -> Result<bool, AllocError>
         ensures { IfOk result (λ over. IsTrue over ↔ IsOverLimit (limit self.now) (seen_message message.now)) };
 
-    /// Checks whether an Ask from this version gets a copy out of one for many.
-    fn shares_copy(&self, version: u64) -> bool;
+    /// Checks whether an Ask from this version gets a copy out of one for many. It may look at what is published.
+    fn shares_copy<D: Drop>(&self, alloc: Global, seat: &mut Seat<N, D>, version: u64) -> bool
+        ensures { SeesOn N.opening seat.old seat.new };
 
     /// Returns the texts of the answer to that Ask. Errors: out of memory; no room for a copy.
     fn ask_texts<D: Drop>(
@@ -93,7 +94,7 @@ impl<N: RoomName> Terms<N> for Plain {
         Ok(false)
     }
 
-    fn shares_copy(&self, _version: u64) -> bool {
+    fn shares_copy<D: Drop>(&self, _alloc: Global, _seat: &mut Seat<N, D>, _version: u64) -> bool {
         false
     }
 

@@ -52,7 +52,7 @@ impl<N: RoomName> Terms<N> for Sharing<N> {
         Ok(false)
     }
 
-    fn shares_copy(&self, _version: u64) -> bool {
+    fn shares_copy<D: Drop>(&self, _alloc: Global, _seat: &mut Seat<N, D>, _version: u64) -> bool {
         self.is_shared
     }
 
