@@ -1,5 +1,5 @@
 -- How many entries the tail of a board has.
-use Rattle.std.proofs.Common.{◌≡◌, ◌⊎◌, ℕ, ◌+◌, ◌-◌, ◌<◌, ◌≤◌, ◌^◌, List, [], ◌∷◌, ◌++◌, length, take, drop, Bool, true, false, cond, Some, None, refl, ap, arith, inl, inr, length-append, length-drop, ⊎_elim}
+use Rattle.std.proofs.Common.{◌≡◌, ◌⊎◌, ℕ, ◌+◌, ◌-◌, ◌<◌, ◌≤◌, ◌^◌, List, [], ◌∷◌, length, take, drop, Bool, true, false, cond, Some, None, refl, ap, arith, inl, inr, length-append, length-drop, ⊎_elim}
 use Rattle.std.specs.Prelude.{nat_lt}
 use Rattle.canvas_model.specs.Log.{Entry, last_version}
 use Rattle.canvas_model.proofs.Tests.{lt_false}

@@ -2,14 +2,14 @@
 use Rattle.std.proofs.Common.{◌≡◌, ◌<◌, ◌∷◌, [], ℕ, nat_lt, List, true, Option, Some, None, refl, sym, subst, arith}
 use Rattle.std.specs.Prelude.{is_some}
 use Rattle.std.specs.Option.{option_map, unwrap_or}
-use mathlib.Core.Logic.{inl, inr}
+use mathlib.Core.Logic.{inl}
 use Rattle.canvas_model.specs.declared.Counts.{Counts}
 use Rattle.canvas_model.specs.Numbered.{nth}
 use Rattle.canvas_model.specs.Messages as messages
 use Rattle.canvas_model.specs.Messages.{Idle}
 use Rattle.canvas_server.specs.Served.{Served}
 use Rattle.canvas_wire.specs.Text.{EncodesMessage}
-use Rattle.canvas_board.specs.Marks.{Mark, Opening, SeesHistory, board}
+use Rattle.canvas_board.specs.Marks.{Mark, Opening, board}
 use Rattle.canvas_nodes.specs.Answers.{AreMessageTexts, GivesTexts}
 use Rattle.room_handler.specs.News.{copies}
 use Rattle.room_handler.specs.Table.{AnswersAsk, Gives, SeesOn, TellsCopy, TellsTexts}

@@ -1,4 +1,4 @@
-use Rattle.std.proofs.Common.{◌≡◌, ◌<◌, ◌^◌, subst, arith}
+use Rattle.std.proofs.Common.{◌<◌, ◌^◌, subst, arith}
 use Rattle.canvas_board.specs.Marks.{board}
 use Rattle.canvas_board.specs.News.{IsNews}
 use Rattle.room_handler.proofs.Boards.{few_told}

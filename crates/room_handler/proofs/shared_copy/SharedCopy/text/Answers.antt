@@ -1,4 +1,4 @@
-use Rattle.std.proofs.Common.{ℕ, ◌<◌, List, [], ◌∷◌, ◌++◌, ap, subst, sym, ◌∙◌, arith}
+use Rattle.std.proofs.Common.{ℕ, List, ◌++◌, ap, subst, sym, ◌∙◌, arith}
 use Rattle.net_outbox.specs.Texts.{text_bytes}
 use Rattle.canvas_model.specs.Messages as messages
 use Rattle.canvas_board.specs.Marks.{board}
