@@ -1,1 +1,2 @@
+pub mod Presence
 pub mod Word

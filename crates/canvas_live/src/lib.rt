@@ -1,8 +1,11 @@
-//! The word by which a client asks to be told what is published, unasked: `["live",ID,VERSION]`. It is no message of the wire.
+//! The words of live connections, none of them a message of the wire. By `["live",ID,VERSION]` a client asks to be told what is published, and by
+//! `["here",ID,VALUE]` it shows the others something of itself, as its pointer's place.
 #![tactic(auto)]
 
+mod here;
 mod laws;
 mod place;
 
-pub use laws::every_place;
+pub use here::{Here, MOST_VALUE_BYTES, here_in};
+pub use laws::{every_here, every_place};
 pub use place::{Place, place_in};
