@@ -6,6 +6,7 @@ pub mod Kinds
 pub mod Messages
 pub mod Objects
 pub mod Places
+pub mod Resuming
 pub mod Trees
 pub mod Values
 pub mod Saves

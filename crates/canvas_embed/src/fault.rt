@@ -2,6 +2,7 @@
 use canvas_client::{EditError, EndError, PlaceError};
 use canvas_pos::PosError;
 use canvas_value::NameError;
+use canvas_wire::WireError;
 use thiserror::Error;
 
 /// Why bytes are the JSON of no value: the first reason that holds, in this order, each looked for over the whole text before the next.
@@ -120,4 +121,25 @@ pub enum LoadError {
     /// Memory ran out.
     #[error("out of memory")]
     Memory,
+}
+
+/// Why no edit was made again: the first that holds, in this order. But memory can run out before.
+#[derive(Clone, Copy, Debug, PartialEq, Eq, Error)]
+pub enum ResumeError {
+    /// The bytes are the text of no message, or memory ran out.
+    #[error("{0}")]
+    Message(WireError),
+    /// They are that of a message, and it is no edit.
+    #[error("the message is no edit")]
+    NotAnEdit,
+    /// It is an edit of another client, or this one has no id.
+    #[error("the edit is another client's")]
+    NotOwn,
+    /// It is the client's own, and its number is above the next one.
+    #[error("an edit before this one is missing")]
+    Gap,
+    /// Its number is the next one, and the client can't add the change: it creates an object that hasn't the client's id and its next
+    /// counter, or the last number was given before.
+    #[error("the client can't make this edit next")]
+    NotNext,
 }
