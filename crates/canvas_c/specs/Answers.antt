@@ -13,20 +13,23 @@ use Rattle.canvas_client.specs.Placed as placed
 use Rattle.canvas_wire.specs.Text.{EncodesMessage, IsMessageError}
 use Rattle.canvas_wire.specs.declared.fault.WireError.{WireError}
 use Rattle.canvas_embed.specs.declared.fault.LoadError.{LoadError}
+use Rattle.canvas_embed.specs.declared.fault.ResumeError.{ResumeError}
 use Rattle.canvas_embed.specs.declared.heard.Heard.{Heard}
+use Rattle.canvas_embed.specs.declared.resuming.Resumed.{Resumed}
 use Rattle.canvas_embed.specs.Changed.{TellsChanges}
 use Rattle.canvas_embed.specs.Edits.{HasCleared, HasCreatedKind, HasSet}
 use Rattle.canvas_embed.specs.Faults.{IsClearError, IsCreateError, IsSetError}
 use Rattle.canvas_embed.specs.Messages.{HasHeard, IsAskText, IsEditText}
 use Rattle.canvas_embed.specs.Objects.{IsChildrenText, IsObjectText}
 use Rattle.canvas_embed.specs.Places.{HasCreatedKindAt, HasCreatedKindThere, HasMovedToBytes, IsCreateAtError, IsCreateEndError, IsMoveAtError}
+use Rattle.canvas_embed.specs.Resuming.{HasResumed, IsResumeError, MayResume}
 use Rattle.canvas_embed.specs.Saves.{EncodesClient, IsLoadError, SpellsClient}
 use Rattle.canvas_embed.specs.Trees.{IsTreeText}
 use Rattle.canvas_c.specs.declared.ids.ObjectId.{ObjectId}
 use Rattle.canvas_c.specs.declared.session.Session.{Session}
 use Rattle.canvas_c.specs.Ids.{object_told}
 use Rattle.canvas_c.specs.Numbers.{call_done, not_shown, memory, held, nothing, no_room, no_client}
-use Rattle.canvas_c.specs.Numbers.{edit_number, create_number, create_at_number, move_at_number, create_end_number, set_number, clear_number, wire_number, heard_number, load_number}
+use Rattle.canvas_c.specs.Numbers.{edit_number, create_number, create_at_number, move_at_number, create_end_number, set_number, clear_number, wire_number, heard_number, load_number, resume_number, resumed_number}
 
 -- a client without an id, and nothing is left to be read
 abbrev pub IsNewSession : Session → Type 0
@@ -67,6 +70,13 @@ abbrev pub TellAnswer : List ℕ → ℕ → Session → Session → Type 0
 TellAnswer bytes n old new =
     ((heard : Heard) × (n ≡ heard_number heard) × HasHeard old.client bytes heard new.client × TellsChanges new.left.items old.client.view new.client.view)
     ⊎ ((e : WireError) × (n ≡ wire_number e) × IsMessageError bytes e × (new ≡ old))
+
+-- the bytes spell an edit of the client's own, which is its last one now, or which it had; or they don't, or it can't be the next one: this is
+-- why, and nothing has changed. An edit that can be the next one, or that it had, fails only for memory.
+abbrev pub ResumeAnswer : List ℕ → ℕ → Session → Session → Type 0
+ResumeAnswer bytes n old new =
+    ((told : Resumed) × (n ≡ resumed_number told) × HasResumed old.client bytes told new.client × (new.left ≡ old.left))
+    ⊎ ((e : ResumeError) × (n ≡ resume_number e) × IsResumeError old.client bytes e × (MayResume old.client bytes → n ≡ memory) × (new ≡ old))
 
 -- the client has made the edit, and stands where it stood; or this is why it hasn't, and nothing has changed
 abbrev pub EditAnswer : {E : Type 0} → (E → ℕ) → (Client → Client → Type 0) → (Client → E → Type 0) → ℕ → Session → Session → Type 0

@@ -30,6 +30,10 @@ use Rattle.canvas_embed.specs.declared.fault.CreateEndError.{CreateEndError}
 use Rattle.canvas_embed.specs.declared.fault.CreateEndError.TheVariants as create_end
 use Rattle.canvas_embed.specs.declared.fault.LoadError.{LoadError}
 use Rattle.canvas_embed.specs.declared.fault.LoadError.TheVariants as load
+use Rattle.canvas_embed.specs.declared.fault.ResumeError.{ResumeError}
+use Rattle.canvas_embed.specs.declared.fault.ResumeError.TheVariants as resume
+use Rattle.canvas_embed.specs.declared.resuming.Resumed.{Resumed}
+use Rattle.canvas_embed.specs.declared.resuming.Resumed.TheVariants as resumed
 use Rattle.canvas_embed.specs.declared.heard.Heard.{Heard}
 use Rattle.canvas_embed.specs.declared.heard.Heard.TheVariants as heard
 
@@ -152,3 +156,16 @@ abbrev pub heard_number : Heard → ℕ
 heard_number (heard.Received received) = received_number received
 heard_number heard.Idle = 54
 heard_number (heard.No reason) = 60 + reasons.number_of reason
+
+-- what became of an edit that was saved
+abbrev pub resumed_number : Resumed → ℕ
+resumed_number resumed.Made = call_done
+resumed_number resumed.Had = 51
+
+-- why no edit is made again
+abbrev pub resume_number : ResumeError → ℕ
+resume_number (resume.Message e) = wire_number e
+resume_number resume.NotAnEdit = 47
+resume_number resume.NotOwn = 48
+resume_number resume.Gap = 49
+resume_number resume.NotNext = 46

@@ -11,7 +11,7 @@ ghost use Rattle.canvas_client.specs.Ends.{LiesFirst, LiesLast};
 ghost use Rattle.canvas_client.specs.Kept.{IsKept};
 ghost use Rattle.canvas_embed.specs.Saves.{IsLoadError, SpellsClient};
 ghost use Rattle.canvas_embed.specs.declared.fault.LoadError.TheVariants as load;
-ghost use Rattle.canvas_c.specs.Answers.{AskAnswer, ChildrenAnswer, ClearAnswer, CreateAnswer, CreateAtAnswer, CreateThereAnswer, DeleteAnswer, FreeAnswer, InTreeAnswer, IsLoaded, IsNewSession, JoinAnswer, LoadAnswer, MoveAnswer, MoveAtAnswer, MoveThereAnswer, NewAnswer, ObjectAnswer, ReadAnswer, ReceiveAnswer, SaveAnswer, SetAnswer, TellAnswer, TreeAnswer, WaitingAnswer};
+ghost use Rattle.canvas_c.specs.Answers.{AskAnswer, ChildrenAnswer, ClearAnswer, CreateAnswer, CreateAtAnswer, CreateThereAnswer, DeleteAnswer, FreeAnswer, InTreeAnswer, IsLoaded, IsNewSession, JoinAnswer, LoadAnswer, MoveAnswer, MoveAtAnswer, MoveThereAnswer, NewAnswer, ObjectAnswer, ReadAnswer, ReceiveAnswer, ResumeAnswer, SaveAnswer, SetAnswer, TellAnswer, TreeAnswer, WaitingAnswer};
 ghost use Rattle.canvas_c.specs.Held.{OnHeld, OnHeldMaking};
 ghost use Rattle.canvas_c.specs.Ids.{object, target_of};
 ghost use Rattle.canvas_c.specs.Numbers.{no_client};
@@ -185,6 +185,19 @@ pub extern "C" fn lugcurrant_receive_and_tell(
         return NO_CLIENT;
     };
     let answer = session.receive_and_tell(alloc, bytes);
+    handle.put(session);
+    answer
+}
+
+/// Makes an edit again by the bytes of its message, as `lugcurrant_edit` has left them.
+#[unsafe(no_mangle)]
+pub extern "C" fn lugcurrant_resume(handle: &mut Handle, alloc: Global, bytes: &[u8]) -> u32
+    ensures { OnHeld (ResumeAnswer bytes.now result) (result ≡ no_client) handle.old.kept.session handle.new.kept.session }
+{
+    let Some(mut session) = handle.take(alloc) else {
+        return NO_CLIENT;
+    };
+    let answer = session.resume(alloc, bytes);
     handle.put(session);
     answer
 }

@@ -1,12 +1,12 @@
 // The numbers that calls answer.
 ghost use Rattle.std.specs.Prelude.{◌≡◌};
 ghost use Rattle.canvas_client.specs.Ends.{end_error_number};
-ghost use Rattle.canvas_c.specs.Numbers.{clear_number, create_at_number, create_end_number, create_number, edit_number, heard_number, load_number, move_at_number, name_number, place_number, position_number, received_number, set_number, value_number, wire_number};
+ghost use Rattle.canvas_c.specs.Numbers.{clear_number, create_at_number, create_end_number, create_number, edit_number, heard_number, load_number, move_at_number, name_number, place_number, position_number, received_number, resume_number, resumed_number, set_number, value_number, wire_number};
 
 use canvas_client::{EditError, EndError, PlaceError, Received};
 use canvas_embed::{
     ClearError, CreateAtError, CreateEndError, CreateError, Heard, LoadError, MoveAtError,
-    SetError, ValueError,
+    ResumeError, Resumed, SetError, ValueError,
 };
 use canvas_pos::PosError;
 use canvas_value::NameError;
@@ -201,5 +201,28 @@ pub(crate) fn heard_number(heard: Heard) -> u32
         Heard::Received(received) => received_number(received),
         Heard::Idle => 54,
         Heard::No(reason) => 60 + reason.number() as u32,
+    }
+}
+
+// What became of an edit that was saved.
+pub(crate) fn resumed_number(resumed: Resumed) -> u32
+    ensures { result ≡ resumed_number resumed }
+{
+    match resumed {
+        Resumed::Made => DONE,
+        Resumed::Had => 51,
+    }
+}
+
+// Why no edit is made again.
+pub(crate) fn resume_number(error: ResumeError) -> u32
+    ensures { result ≡ resume_number error }
+{
+    match error {
+        ResumeError::Message(error) => wire_number(error),
+        ResumeError::NotAnEdit => 47,
+        ResumeError::NotOwn => 48,
+        ResumeError::Gap => 49,
+        ResumeError::NotNext => 46,
     }
 }

@@ -5,12 +5,13 @@ ghost use Rattle.canvas_client.specs.Ends.{LiesFirst, LiesLast};
 ghost use Rattle.canvas_client.specs.Kept.{IsKept};
 ghost use Rattle.canvas_embed.specs.Saves.{IsLoadError, SpellsClient};
 ghost use Rattle.canvas_embed.specs.declared.fault.LoadError.TheVariants as load;
-ghost use Rattle.canvas_c.specs.Answers.{AskAnswer, ChildrenAnswer, ClearAnswer, CreateAnswer, CreateAtAnswer, CreateThereAnswer, DeleteAnswer, InTreeAnswer, IsLoaded, IsNewSession, JoinAnswer, MoveAnswer, MoveAtAnswer, MoveThereAnswer, ObjectAnswer, ReadAnswer, ReceiveAnswer, SaveAnswer, SetAnswer, TellAnswer, TreeAnswer, WaitingAnswer};
+ghost use Rattle.canvas_c.specs.Answers.{AskAnswer, ChildrenAnswer, ClearAnswer, CreateAnswer, CreateAtAnswer, CreateThereAnswer, DeleteAnswer, InTreeAnswer, IsLoaded, IsNewSession, JoinAnswer, MoveAnswer, MoveAtAnswer, MoveThereAnswer, ObjectAnswer, ReadAnswer, ReceiveAnswer, ResumeAnswer, SaveAnswer, SetAnswer, TellAnswer, TreeAnswer, WaitingAnswer};
 
 use crate::ids::ObjectId;
 use crate::numbers::{
     DONE, MEMORY, NO_ROOM, NOT_SHOWN, NOTHING, clear_number, create_at_number, create_end_number,
-    create_number, edit_number, end_number, heard_number, move_at_number, set_number, wire_number,
+    create_number, edit_number, end_number, heard_number, move_at_number, resume_number,
+    resumed_number, set_number, wire_number,
 };
 use canvas_client::Client;
 use canvas_doc::ObjId;
@@ -72,6 +73,16 @@ impl Session {
                 heard_number(heard)
             }
             Err(error) => wire_number(error),
+        }
+    }
+
+    /// Makes an edit again by the bytes of its message.
+    pub fn resume(&mut self, alloc: Global, bytes: &[u8]) -> u32
+        ensures { ResumeAnswer bytes.now result self.old self.new }
+    {
+        match canvas_embed::resume(alloc, &mut self.client, bytes) {
+            Ok(resumed) => resumed_number(resumed),
+            Err(error) => resume_number(error),
         }
     }
 
