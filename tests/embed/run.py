@@ -116,9 +116,9 @@ def numbers():
             calls.ask(handle), calls.edit(handle, 1), calls.tree(handle), calls.read(handle, room, 4), calls.receive_and_tell(handle, b"", 0),
             calls.create_at(handle, 1, 0, 0, b"O", 1, made), calls.create_last(handle, 1, 0, 0, made), calls.create_first(handle, 1, 0, 0, made),
             calls.move_at(handle, 1, 1, 0, 0, b"O", 1), calls.move_last(handle, 1, 1, 0, 0), calls.move_first(handle, 1, 1, 0, 0),
-            calls.object(handle, 0, 0), calls.children(handle, 0, 0), calls.in_tree(handle, 0, 0), calls.save(handle),
+            calls.object(handle, 0, 0), calls.children(handle, 0, 0), calls.in_tree(handle, 0, 0), calls.save(handle), calls.resume(handle, b"", 0),
         ]
-        require(answers == [20] * 23, "without a client:", answers)
+        require(answers == [20] * 24, "without a client:", answers)
         counts = [calls.id(handle), calls.version(handle), calls.acknowledged(handle), calls.waiting(handle), calls.length(handle)]
         require(counts == [0] * 5, "without a client:", counts)
     require((made.client, made.counter, room.raw[:4]) == (7, 8, b"keep"), "without a client something was written")
@@ -149,6 +149,7 @@ def numbers():
     require(calls.read(handle, small, length) == 0 and small.raw.startswith(b"0:0 document\n"), "the tree that was left")
     places(handle, made)
     saved(handle)
+    resumed(handle)
     require(calls.free(handle) == 0 and calls.free(handle) == 20 and not handle.at, "an end")
     return "as they should be"
 
@@ -197,6 +198,28 @@ def saved(handle):
         require(answer == number, bytes_[:30], "is loaded with", answer, "and not", number)
     require(calls.load(other, text, len(text)) == 21, "a second client in a handle")
     require(calls.save(other) == 0 and left(other) == text and calls.waiting(other) == calls.waiting(handle), "the client that was loaded")
+    require(calls.free(other) == 0, "its end")
+
+
+def resumed(handle):
+    """Edits that are made again by their messages, and messages that are none; the client's next edit has number 9, and its next object 3:5."""
+    calls, other = Calls(), Handle()
+    require((calls.acknowledged(handle), calls.waiting(handle)) == (0, 8), "edits wait:", calls.waiting(handle))
+    require(calls.save(handle) == 0, "no saved client")
+    whole = left(handle)
+    require(calls.new(other) == 0 and calls.resume(other, b'["edit",3,1,["delete",[3,1]]]', 29) == 48 and calls.free(other) == 0, "an edit without an id")
+    require(calls.load(other, whole, len(whole)) == 0, "no client of the save")
+    deep = b'["list",' * 17 + b'["list"]' + b"]" * 17
+    for text, number in [(b"", 40), (b"\xff", 40), (b"{}", 42), (b'["edit",3,9]', 42), (b'["edit",3,4611686018427387905,["delete",[3,1]]]', 43), (b'["edit",3,9,["set",[3,1],"a",%b]]' % deep, 44),
+                         (b'["idle"]', 47), (b'["entry",1,[0,0,"join",["joined",1]]]', 47), (b'["edit",4,9,["delete",[3,1]]]', 48), (b'["edit",3,10,["delete",[3,1]]]', 49),
+                         (b'["edit",3,9,["create",[3,6],"page",[[0,0],"O"]]]', 46), (b'["edit",3,9,["create",[4,5],"page",[[0,0],"O"]]]', 46), (b'["edit",3,8,["delete",[3,1]]]', 51)]:
+        answer = calls.resume(other, text, len(text))
+        require(answer == number, text[:40], "is answered", answer, "and not", number)
+        require(calls.save(other) == 0 and left(other) == whole, text[:40], "has changed the client")
+    # Edits of objects that nobody shows, and of a place that is taken, are made again too: the server judges them.
+    for text in [b'["edit",3,9,["create",[3,5],"frame",[[9,9],"O"]]]', b'["edit",3,10,["set",[7,7],"a",1]]', b'["edit",3,11,["move",[3,1],[[0,0],"P"]]]', b'["edit",3,12,["delete",[3,5]]]']:
+        require(calls.resume(other, text, len(text)) == 0, text[:40], "isn't made again")
+        require(calls.edit(other, calls.waiting(other)) == 0 and left(other) == text, "the last edit that waits is", left(other))
     require(calls.free(other) == 0, "its end")
 
 

@@ -94,6 +94,9 @@ enum {
     LUGCURRANT_VALUE_TOO_DEEP = 44, /* lists stand at most 16 deep in one another */
     LUGCURRANT_NOT_A_CLIENT = 45, /* this is no saved client */
     LUGCURRANT_INCONSISTENT = 46, /* no client waits with these edits */
+    LUGCURRANT_NOT_AN_EDIT = 47, /* this message is no edit */
+    LUGCURRANT_NOT_OWN = 48, /* this edit is another client's */
+    LUGCURRANT_GAP = 49, /* an edit before this one is missing */
     LUGCURRANT_TOOK = 50, /* the client took the message */
     LUGCURRANT_OLD = 51, /* the client had it already */
     LUGCURRANT_AHEAD = 52, /* something before it is missing */
@@ -151,6 +154,9 @@ static inline const char *lugcurrant_fault_name(uint32_t number)
     case 44: return "ValueTooDeep";
     case 45: return "NotAClient";
     case 46: return "Inconsistent";
+    case 47: return "NotAnEdit";
+    case 48: return "NotOwn";
+    case 49: return "Gap";
     case 50: return "took";
     case 51: return "old";
     case 52: return "ahead";
@@ -205,6 +211,9 @@ static inline const char *lugcurrant_fault_sentence(uint32_t number)
     case 44: return "lists stand at most 16 deep in one another";
     case 45: return "this is no saved client";
     case 46: return "no client waits with these edits";
+    case 47: return "this message is no edit";
+    case 48: return "this edit is another client's";
+    case 49: return "an edit before this one is missing";
     case 50: return "the client took the message";
     case 51: return "the client had it already";
     case 52: return "something before it is missing";
@@ -276,6 +285,17 @@ uint32_t lugcurrant_receive(lugcurrant_client *client, const uint8_t *bytes, siz
 /* The same, and where it isn't an error it leaves which objects of the view may have changed: the JSON of their ids, [[1,2],..], each of
  * which may be new or gone; or null, and any may have changed. */
 uint32_t lugcurrant_receive_and_tell(lugcurrant_client *client, const uint8_t *bytes, size_t length);
+
+/* Makes an edit again by the bytes of its message, as lugcurrant_edit has left them. It must be of this client's id. With the next number it
+ * becomes the last edit that waits, whatever the client shows. OLD: the client had an edit of this number already, and is as it was. Else the
+ * first that holds, and nothing has changed: NOT_JSON, NOT_A_MESSAGE, OUT_OF_RANGE, VALUE_TOO_DEEP, NOT_AN_EDIT, NOT_OWN, GAP (its number is
+ * above the next one), INCONSISTENT (it creates an object with another id than the client's next one); MEMORY, NO_CLIENT.
+ *
+ * So a save can be a log: the bytes of lugcurrant_save once, and behind them a line for each message that the client took and for each edit that
+ * it made, in order. lugcurrant_load of the first, then lugcurrant_receive and lugcurrant_resume of the lines, make the very client that wrote
+ * them. An edit is sent once its line is on the disk, and all before it; a last line that was cut is dropped, as its edit was never sent. Save
+ * the whole client again after a copy, once the log is longer than that, and after ANEW or a REFUSED with the edit in `lost`. */
+uint32_t lugcurrant_resume(lugcurrant_client *client, const uint8_t *bytes, size_t length);
 
 /* Creates an object of this kind under the parent, behind its child `after`, or as the first where `after` is 0:0. `made` is its id then,
  * and is as it was after each error. DONE, NO_KIND, the refusals of an edit, NO_CLIENT. */
@@ -350,7 +370,8 @@ uint32_t lugcurrant_children(lugcurrant_client *client, uint32_t object_client, 
 uint32_t lugcurrant_in_tree(lugcurrant_client *client, uint32_t object_client, uint32_t object_counter);
 
 /* Leaves the client as JSON, of which lugcurrant_load makes it again: what the program keeps while it doesn't run. Save before an edit is
- * sent: of two edits with one number the server takes the second for a repeat. DONE, MEMORY, NO_CLIENT. */
+ * sent, or write its line (lugcurrant_resume): of two edits with one number the server takes the second for a repeat. DONE, MEMORY,
+ * NO_CLIENT. */
 uint32_t lugcurrant_save(lugcurrant_client *client);
 
 /* How many bytes were left by the last call that leaves some and answered DONE; 0 where there was none. */

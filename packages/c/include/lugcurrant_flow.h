@@ -19,8 +19,8 @@
  *
  * Memory. A flow takes memory by malloc and returns it by free, as the library does. The client stays the program's: edits are made by the
  * calls of lugcurrant.h, and wait there. It must outlive the flow, stay at its address, and not be passed to lugcurrant_receive,
- * lugcurrant_load or lugcurrant_free while there is a flow. A flow replaces what an earlier call left in the client. No two calls run on
- * one flow or its client at once. Pointers that are passed are never null, except where a call says so.
+ * lugcurrant_resume, lugcurrant_load or lugcurrant_free while there is a flow. A flow replaces what an earlier call left in the client. No
+ * two calls run on one flow or its client at once. Pointers that are passed are never null, except where a call says so.
  *
  * Out of memory. A call that returns LUGCURRANT_MEMORY has changed nothing that another call shows: call it again with the same arguments,
  * or pass lugcurrant_flow_lost and connect anew. What a flow reserves for a message is bounded by its length.

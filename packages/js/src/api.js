@@ -34,6 +34,9 @@ export const NUMBERS = Object.freeze({
   VALUE_TOO_DEEP: 44,
   NOT_A_CLIENT: 45,
   INCONSISTENT: 46,
+  NOT_AN_EDIT: 47,
+  NOT_OWN: 48,
+  GAP: 49,
   TOOK: 50,
   OLD: 51,
   AHEAD: 52,
@@ -72,6 +75,9 @@ export const FAULTS = Object.freeze({
   44: ['ValueTooDeep', 'lists stand at most 16 deep in one another'],
   45: ['NotAClient', 'this is no saved client'],
   46: ['Inconsistent', 'no client waits with these edits'],
+  47: ['NotAnEdit', 'this message is no edit'],
+  48: ['NotOwn', 'this edit is another client\'s'],
+  49: ['Gap', 'an edit before this one is missing'],
 });
 export const HEARD = Object.freeze({
   50: 'took',

@@ -4,7 +4,7 @@ import { FAULTS, HEARD, KINDS, NUMBERS, VERSION } from './api.js';
 import { NO_CHILDREN, Signals } from './signals.js';
 
 export const ROOT = '0:0';
-const { DONE, NOT_SHOWN, MEMORY, NONE, NO } = NUMBERS;
+const { DONE, NOT_SHOWN, MEMORY, NONE, OLD, NO } = NUMBERS;
 const HANDLE_BYTES = 16, ID_BYTES = 8, FIRST_ROOM = 1024;
 
 // Why a call did nothing: `code` is the name, and the message says it in words.
@@ -208,6 +208,19 @@ export class Client {
     if (!what) throw new ClientError(answer);
     if (what === 'took') { this.#touchTold(); this.#tell('took', message); }
     return { what };
+  }
+
+  // Makes an edit of this client's again by its message, as `editMessage` gave it: whether it is the last edit now. False where the client had made one
+  // of this number already. Throws a ClientError if it can't be the next edit, and nothing has changed.
+  resume(message) {
+    const bytes = bytesOf(message), [at, length] = this.#write(bytes), answer = this.#calls.lugcurrant_resume(this.#handle, at, length) >>> 0;
+    if (answer === OLD) return false;
+    this.#need(answer);
+    this.#savedTo = this.lastEdit;
+    const [, client, counter] = /^\["edit",\d+,\d+,\["[a-z]+",\[(\d+),(\d+)\]/.exec(fromUtf8.decode(bytes.subarray(0, 120))) ?? [];
+    if (client) this.#shown.touch(idOf([client, counter])); else this.#shown.touchAll();
+    this.#tell('edit', null);
+    return true;
   }
 
   // Notes the objects that the module has told to be changed, or any, where it says so or there is no memory to be told.

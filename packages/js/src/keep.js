@@ -2,10 +2,9 @@
 // what it did since: each edit, and each message that it took. So an edit is kept by its own bytes, however large the document is. The lock that
 // no other program goes on with the same client is taken here.
 import { Client, ClientError, textOfBytes } from './client.js';
-import { changeOf, remake } from './remake.js';
 
-const EDIT = 1, TOOK = 2;
-const LEAST_JOURNAL = 65536;                                   // bytes of a journal before all is kept anew
+const EDIT = 1, TOOK = 2, COPY = 0x63;                          // the third byte of ["copy"; of ["welcome" and ["entry" it is another
+const LEAST_JOURNAL = 65536;                                   // bytes of a journal that may be longer than all of the client
 
 // What was kept doesn't come to the client that kept it. Of what was kept, counted from 0 for the whole client, number `index` is `kept`, and here it
 // was `made` another edit, or none for the reason `code`. `left` is this and what follows: { what: 'all' | 'edit' | 'took', message }.
@@ -43,16 +42,24 @@ export class Kept {
     this.#unwatch?.();
     this.#client = client;
     this.#isWhole = false;
-    this.#unwatch = client.watch((what, bytes) => {
-      if (!this.#shelf) return;
-      if (what === 'anew') { this.#isWhole = false; this.#parts = []; return; }
-      if (!this.#isWhole) return;
-      const part = what === 'edit' ? client.editMessage(client.waiting) : typeof bytes === 'string' ? new TextEncoder().encode(bytes) : bytes, noted = new Uint8Array(part.length + 1);
-      noted[0] = what === 'edit' ? EDIT : TOOK;
-      noted.set(part, 1);
-      this.#parts.push(noted);
+    this.#unwatch = client.watch((what, message) => {
+      if (!this.#shelf || !this.#isWhole) return;
+      if (what === 'anew') this.#keepAll();
+      else if (what === 'edit') this.#note(EDIT, client.editMessage(client.waiting));
+      else this.#note(TOOK, typeof message === 'string' ? new TextEncoder().encode(message) : message);
     });
   }
+
+  // Notes a part of the journal, which is kept with the next flush. After a copy, and once the journal is longer than all of the client, all is kept.
+  #note(kind, message) {
+    this.#size += message.length + 1;
+    if ((kind === TOOK && message[2] === COPY) || this.#size > Math.max(LEAST_JOURNAL, this.#allSize)) { this.#keepAll(); return; }
+    const part = new Uint8Array(message.length + 1);
+    part[0] = kind;
+    part.set(message, 1);
+    this.#parts.push(part);
+  }
+  #keepAll() { this.#isWhole = false; this.#parts = []; }
 
   get isKeeping() { return Boolean(this.#shelf); }
 
@@ -67,8 +74,7 @@ export class Kept {
     if (!this.#shelf || !this.#client) return;
     const parts = this.#parts;
     this.#parts = [];
-    this.#size += parts.reduce((sum, part) => sum + part.length, 0);
-    if (this.#isWhole && this.#size <= Math.max(LEAST_JOURNAL, 2 * this.#allSize)) { if (parts.length) await this.#shelf.add(parts); return; }
+    if (this.#isWhole) { if (parts.length) await this.#shelf.add(parts); return; }
     const all = this.#client.save();
     this.#isWhole = true;
     this.#size = 0;
@@ -89,9 +95,10 @@ function leftOf(all, journal, index) {
   return index ? left : [{ what: 'all', message: textOfBytes(all) }, ...left];
 }
 
-// The client of which all was kept, with what it did since, or a new one.
+// The client of which all was kept, with what it did since, or a new one if nothing was kept. A journal is of no use without the whole client.
 async function replayed(module, all, journal) {
-  if (!all) return Client.load(module);
+  if (!all && !journal.length) return Client.load(module);
+  if (!all) throw new ReplayError(0, 'NotAClient', null, leftOf(new Uint8Array(), journal, 0));
   let client;
   try { client = await Client.load(module, all); } catch (fault) {
     if (!(fault instanceof ClientError)) throw fault;
@@ -104,17 +111,16 @@ async function replayed(module, all, journal) {
   return client;
 }
 
-// Does again what the client did: the edit that it has made then, or the message that it took; or the code for which it can't.
+// Does again what the client did: the edit that it made then, or the message that it took; or the code for which it can't.
 function doAgain(client, kind, message) {
   try {
     if (kind === TOOK) { const { what } = client.receive(message); return what === 'took' ? { code: null, made: message } : { code: what, made: null }; }
     if (kind !== EDIT) return { code: 'unknown', made: null };
-    const code = remake(client, changeOf(message));
-    return { code, made: code ? null : textOfBytes(client.editMessage(client.waiting)) };
+    if (!client.resume(message)) return { code: 'old', made: null };
+    return { code: null, made: textOfBytes(client.editMessage(client.waiting)) };
   } catch (fault) {
-    if (fault instanceof ClientError) return { code: fault.code, made: null };
-    if (fault instanceof SyntaxError || fault instanceof TypeError) return { code: 'NotAMessage', made: null };         // changeOf and remake read it
-    throw fault;
+    if (!(fault instanceof ClientError)) throw fault;
+    return { code: fault.code, made: null };
   }
 }
 

@@ -84,13 +84,27 @@ const last = parts.length - 1, isEdit = (k) => parts[k][0] === 1;
 assert.deepEqual(parts.map((_, k) => isEdit(k)).slice(1), [false, true, true, false, false, false, true, true, true]);
 await changed(0, (it) => it.slice(0, -9), 'NotJson');
 await changed(1, (it) => it.replace('welcome', 'welcomes'), 'NotAMessage');
-await changed(2, (it) => it.replace('[1,1]', '[1,7]'), null);                              // another id
-await changed(3, (it) => it.replace('[1,1]', '[1,2]'), 'NotShown');
+await changed(2, (it) => it.replace('[1,1]', '[1,7]'), 'Inconsistent');                    // not the next id
+await changed(2, (it) => it.replace('"edit",1,1', '"edit",2,1'), 'NotOwn');
+await changed(2, (it) => it.replace('"edit",1,1', '"edit",1,2'), 'Gap');
+await changed(3, (it) => it.replace('"edit",1,2', '"edit",1,1'), 'old');
+await changed(3, (it) => it.replace('["edit",', '["edit", '), null);                       // the same edit, not as the client sends it
 await changed(4, (it) => it.replace('"entry",1', '"entry",2'), 'ahead');
 await changed(5, (it) => it.replace('page', 'text'), 'not for me');                        // not its own edit
-await changed(last - 2, (it) => it.replace('"edit",1,3', '"edit",1,4'), null);             // another number
-await changed(last - 1, (it) => it.replace('frame', 'page'), 'BadParent');
-await changed(last, (it) => it.slice(0, -4), 'NotAMessage');
+await changed(5, (it) => `\u0001${it.slice(1)}`, 'NotAnEdit');
+await changed(last - 2, (it) => it.replace('"edit",1,3', '"edit",1,4'), 'Gap');
+await changed(last - 2, (it) => it.replace('["edit",1,3', '["ask",1,3'), 'NotAMessage');
+await changed(last, (it) => it.slice(0, -4), 'NotJson');
 await changed(last, (it) => `\u0007${it.slice(1)}`, 'unknown');
+
+// An edit that was changed into another one of the client's own is that one, whatever the client shows: the server judges it.
+for (const [index, change] of [[last - 1, (it) => it.replace('frame', 'page')], [last, (it) => it.replace('[1,2]', '[1,9]')], [last, (it) => it.replace('Last', 'Final')]]) {
+  const wrong = parts.map((part, k) => (k === index ? Buffer.from(change(text(part))) : part)), { kept, client, fault } = await load(fileOf(wrong));
+  assert.deepEqual([fault, Number(client.waiting)], [null, 3]);
+  assert.equal(text(client.editMessage(3 - last + index)), text(wrong[index].subarray(1)));
+  assert(!wrong[index].equals(parts[index]));
+  await kept.close();
+  tried += 1;
+}
 rmSync(folder, { recursive: true });
 console.log(`${tried} kept files, each as it should be`);

@@ -104,6 +104,17 @@ class Model {
   }
   take(message, ids) { this.plain.receive(message); this.changed(); return { answer: N.TOOK, ids }; }
 
+  // An edit is made again by its message.
+  resume([what, id, number, change]) {
+    const { plain } = this, last = plain.acknowledged + plain.waiting.length;
+    if (what !== 'edit') return N.NOT_AN_EDIT;
+    if (id !== plain.id) return N.NOT_OWN;
+    if (number !== last + 1) return number > last ? N.GAP : N.OLD;
+    if (change[0] === 'create' && !isSame(change[1], [id, this.counter + 1])) return N.INCONSISTENT;
+    if (change[0] === 'create') this.counter += 1;
+    return this.edit(change);
+  }
+
   // In the form of docs/embedding.md; but the rows are those of the server's document, without what waits.
   save() { const { id, version, acknowledged, waiting, base } = this.plain; return JSON.stringify(['client', [id, this.counter, version, acknowledged], waiting, rowsOf(base)]); }
   static load(words) {
@@ -142,14 +153,16 @@ export function standIn() {
     if (answer === N.DONE) id.forEach((it, k) => new DataView(memory.buffer, Number(at), 8).setUint32(4 * k, it, true));
     return answer;
   };
-  const receive = (handle, at, length) => {
+  const onMessage = (act) => (handle, at, length) => {
     let message;
     try { message = JSON.parse(read(at, length)); } catch { return N.NOT_JSON; }
-    if (!Array.isArray(message)) return N.NOT_A_MESSAGE;
+    return Array.isArray(message) ? act(handle, message) : N.NOT_A_MESSAGE;
+  };
+  const receive = onMessage((handle, message) => {
     const { answer, ids } = modelAt(handle).receive(message);
     leave(handle, JSON.stringify(ids));
     return answer;
-  };
+  });
   const set = (handle, change, fault) => fault || modelAt(handle).change(change);
   const id = (client, counter) => [client >>> 0, counter >>> 0], name = (...numbers) => word(id(...numbers));
   const calls = {
@@ -161,6 +174,7 @@ export function standIn() {
     acknowledged: (handle) => BigInt(modelAt(handle).plain.acknowledged),
     waiting: (handle) => BigInt(modelAt(handle).plain.waiting.length),
     receive, receive_and_tell: receive,
+    resume: onMessage((handle, message) => modelAt(handle).resume(message)),
     create: (handle, kind, c, n, ac, an, out) => made(out, modelAt(handle).create(kindOf(kind), name(c, n), { after: name(ac, an) })),
     create_at: (handle, kind, c, n, at, length, out) => made(out, modelAt(handle).create(kindOf(kind), name(c, n), { at: read(at, length) })),
     create_last: (handle, kind, c, n, out) => made(out, modelAt(handle).create(kindOf(kind), name(c, n), { end: 'last' })),

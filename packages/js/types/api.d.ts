@@ -39,6 +39,9 @@ export type FaultCode =
   | 'ValueTooDeep'
   | 'NotAClient'
   | 'Inconsistent'
+  | 'NotAnEdit'
+  | 'NotOwn'
+  | 'Gap'
   | 'Unknown';
 /** What a client did with a message, or which end of an answer it was. */
 export type HeardWhat =

@@ -68,7 +68,10 @@ export declare class Client {
   constructor(exports: WebAssembly.Exports, saved?: Uint8Array | string | null);
   /** Ends the client, with all that waits. */
   free(): void;
-  /** The client as bytes: to be kept before an edit is sent, and loaded for the same document alone. `Kept` does so by itself. */
+  /**
+   * The client as bytes: to be kept before an edit is sent, and loaded for the same document alone. In its place a line may be kept for each edit made
+   * and each message taken since the last save, to be played by `resume` and `receive`. `Kept` does so by itself.
+   */
   save(): Uint8Array;
   /** Its id, or null while it has none. */
   readonly id: number | null;
@@ -88,6 +91,11 @@ export declare class Client {
   readonly memoryInUse: number;
   /** Receives a message of the server, and tells what came of it. */
   receive(message: Uint8Array | string): Heard;
+  /**
+   * Makes an edit of this client's again by its message, as `editMessage` gave it. False if the client had made one of this number already. Throws a
+   * ClientError (`NotAnEdit`, `NotOwn`, `Gap`, `Inconsistent`, or why it is no message) if it can't be the next edit; nothing has changed then.
+   */
+  resume(message: Uint8Array | string): boolean;
   /** Creates an object in the parent, behind its child `after` or as the first, and answers its id. */
   create(kind: Kind, parent: ObjectId, after?: ObjectId | null): ObjectId;
   /** Behind all children of the parent: there is room for 41 million. */

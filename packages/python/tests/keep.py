@@ -78,18 +78,28 @@ def main() -> None:
         wrong = [
             (0, parts[0][:-9], "NotJson"),
             (1, parts[1].replace(b"welcome", b"welcomes"), "NotAMessage"),
-            (2, parts[2].replace(b"[1,1]", b"[1,7]"), None),  # another id
+            (2, parts[2].replace(b"[1,1]", b"[1,7]"), "Inconsistent"),  # not the next id
+            (2, parts[2].replace(b'"edit",1,1', b'"edit",2,1'), "NotOwn"),
             (3, parts[3].replace(b'"entry",1', b'"entry",2'), "ahead"),
             (4, parts[4].replace(b"page", b"text"), "not for me"),  # not its own edit
-            (5, parts[5].replace(b'"edit",1,2', b'"edit",1,4'), None),  # another number
-            (5, parts[5].replace(b"[1,1]", b"[1,2]"), "NotShown"),
-            (6, parts[6].replace(b"frame", b"page"), "BadParent"),
-            (6, parts[6][:-4], "NotAMessage"),
+            (4, b"\x01" + parts[4][1:], "NotAnEdit"),
+            (5, parts[5].replace(b'"edit",1,2', b'"edit",1,4'), "Gap"),
+            (5, parts[5].replace(b'"edit",1,2', b'"edit",1,1'), "old"),
+            (5, parts[5].replace(b'["edit",', b'["edit", '), None),  # the same edit, not as the client sends it
+            (6, parts[6][:-4], "NotJson"),
             (6, b"\x07" + parts[6][1:], "unknown"),
         ]
         for index, part, code in wrong:
             changed(path, parts, index, part, code)
-        print(f"{2 + len(wrong)} kept files, each as it should be")
+        # An edit that was changed into another one of the client's own is that one, whatever the client shows: the server judges it.
+        others = [(5, parts[5].replace(b"[1,1]", b"[1,2]")), (5, parts[5].replace(b"Plan", b"Place")), (6, parts[6].replace(b"frame", b"page"))]
+        for index, part in others:
+            assert part != parts[index]
+            path.write_bytes(file_of([*parts[:index], part, *parts[index + 1 :]]))
+            kept = Kept(FileShelf(path))
+            assert kept.load().edit_message(index - 4) == part[1:]
+            kept.close()
+        print(f"{2 + len(wrong) + len(others)} kept files, each as it should be")
 
 
 main()

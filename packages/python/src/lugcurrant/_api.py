@@ -40,6 +40,9 @@ OUT_OF_RANGE = 43
 VALUE_TOO_DEEP = 44
 NOT_A_CLIENT = 45
 INCONSISTENT = 46
+NOT_AN_EDIT = 47
+NOT_OWN = 48
+GAP = 49
 TOOK = 50
 OLD = 51
 AHEAD = 52
@@ -78,6 +81,9 @@ FAULTS: dict[int, tuple[str, str]] = {
     44: ("ValueTooDeep", "lists stand at most 16 deep in one another"),
     45: ("NotAClient", "this is no saved client"),
     46: ("Inconsistent", "no client waits with these edits"),
+    47: ("NotAnEdit", "this message is no edit"),
+    48: ("NotOwn", "this edit is another client's"),
+    49: ("Gap", "an edit before this one is missing"),
 }
 """By its number why a call did nothing: a code, and a sentence."""
 
@@ -190,6 +196,7 @@ CALLS: dict[str, tuple[Any, list[Any]]] = {
     "waiting": (_L, []),
     "receive": (_N, [_B, _S]),
     "receive_and_tell": (_N, [_B, _S]),
+    "resume": (_N, [_B, _S]),
     "create": (_N, [_N, _N, _N, _N, _N, _M]),
     "create_at": (_N, [_N, _N, _N, _B, _S, _M]),
     "create_last": (_N, [_N, _N, _N, _M]),

@@ -87,7 +87,8 @@ class Client:
         return cls(saved)
 
     def save(self) -> bytes:
-        """The client as bytes, of which `load` makes it again: to be kept before an edit is sent."""
+        """The client as bytes, of which `load` makes it again: to be kept before an edit is sent. In its place a line may be kept for each edit made
+        and each message taken since the last save, to be played by `resume` and `receive`. `Kept` does so by itself."""
         saved = self._text(self._calls("save", self._handle))
         self._saved_to = self.last_edit
         return saved
@@ -248,6 +249,23 @@ class Client:
             self._touch_told()
             self._tell("took", message)
         return Heard(What(number))
+
+    def resume(self, message: bytes) -> bool:
+        """Makes an edit of this client's again by its message, as `edit_message` gave it. False if the client had made one of this number already.
+        Raises ClientError (`NotAnEdit`, `NotOwn`, `Gap`, `Inconsistent`, or why it is no message) if it can't be the next edit; nothing has changed
+        then."""
+        number = self._calls("resume", self._handle, message, len(message))
+        if number == calls.OLD:
+            return False
+        self._need(number)
+        self._saved_to = self.last_edit
+        named = re.match(rb'\["edit",\d+,\d+,\["[a-z]+",\[(\d+),(\d+)\]', message)
+        if named:
+            self._shown.touch([ObjectId(int(named.group(1)), int(named.group(2)))])
+        else:
+            self._shown.touch_all()
+        self._tell("edit")
+        return True
 
     def _touch_told(self) -> None:
         """Notes the objects that the library has told to be changed, or any where it says so."""

@@ -8,7 +8,6 @@ from typing import BinaryIO, Protocol
 
 from .client import Client
 from .library import ClientError
-from .remake import change_of, remake
 
 _EDIT, _TOOK = b"\x01", b"\x02"
 _LEAST_JOURNAL = 65536
@@ -139,16 +138,30 @@ class Kept:
         self._client = client
         self._whole = False
 
-        def note(what: str, message: bytes | None) -> None:
+        def told(what: str, message: bytes | None) -> None:
+            if not self._shelf or not self._whole:
+                return
             if what == "anew":
-                self._whole = False
-                self._parts.clear()
-            elif self._whole and self._shelf:
-                part = client.edit_message(client.waiting) if what == "edit" else message
-                assert part is not None
-                self._parts.append((_EDIT if what == "edit" else _TOOK) + part)
+                self._keep_all()
+            elif what == "edit":
+                self._note(_EDIT, client.edit_message(client.waiting))
+            else:
+                self._note(_TOOK, message)
 
-        client.watch(note)
+        client.watch(told)
+
+    def _note(self, kind: bytes, message: bytes | None) -> None:
+        """Notes a part, which is kept with the next flush. After a copy, and once the parts are longer than all of the client, all is kept."""
+        assert message is not None
+        self._size += len(message) + 1
+        if (kind == _TOOK and message.startswith(b'["copy"')) or self._size > max(_LEAST_JOURNAL, self._whole_size):
+            self._keep_all()
+        else:
+            self._parts.append(kind + message)
+
+    def _keep_all(self) -> None:
+        self._whole = False
+        self._parts.clear()
 
     @property
     def is_keeping(self) -> bool:
@@ -160,9 +173,8 @@ class Kept:
         if not self._shelf or not self._client:
             return
         parts, self._parts = self._parts, []
-        self._size += sum(map(len, parts))
         try:
-            if self._whole and self._size <= max(_LEAST_JOURNAL, 2 * self._whole_size):
+            if self._whole:
                 if parts:
                     self._shelf.add(parts)
                 return
@@ -207,16 +219,13 @@ def _replayed(parts: list[bytes]) -> Client:
 
 
 def _do_again(client: Client, kind: bytes, message: bytes) -> tuple[str | None, bytes | None]:
-    """Does again what the client did: the edit that it has made then, or the message that it took; or the code for which it can't."""
+    """Does again what the client did: the edit that it made then, or the message that it took; or the code for which it can't."""
     try:
         if kind == _TOOK:
             heard = client.receive(message)
             return (None, message) if heard.took else (heard.what.name.lower().replace("_", " "), None)
         if kind != _EDIT:
             return "unknown", None
-        code = remake(client, change_of(message))
-        return code, None if code else client.edit_message(client.waiting)
+        return (None, client.edit_message(client.waiting)) if client.resume(message) else ("old", None)
     except ClientError as fault:
         return fault.code, None
-    except (ValueError, IndexError, TypeError):  # change_of and remake read it
-        return "NotAMessage", None
