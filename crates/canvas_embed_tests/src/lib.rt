@@ -1,5 +1,5 @@
 //! Tests of `canvas_embed`: bytes that are values or none, messages that are heard, edits of each kind with the text that they leave, a
-//! tree that is as deep as it may be, clients that are saved and loaded, and what a message changed.
+//! tree that is as deep as it may be, clients that are saved and loaded, edits that are made again, and what a message changed.
 #![tactic(auto)]
 
 #[cfg(test)]
@@ -12,6 +12,8 @@ mod lists;
 mod messages;
 #[cfg(test)]
 mod places;
+#[cfg(test)]
+mod resumes;
 #[cfg(test)]
 mod saves;
 #[cfg(test)]

@@ -3,6 +3,7 @@ use crate::edits::{Edit, does_edit};
 use crate::ids::{FRAME, PAGE};
 use crate::messages::{Hearing, does_hear};
 use crate::places::{Placed, does_place};
+use crate::resumes::{Resuming, does_resume};
 use crate::shows::{Shown, does_show};
 use canvas_client::Client;
 use canvas_doc::ObjId;
@@ -24,6 +25,8 @@ pub enum Step {
     Edit(Edit),
     /// An edit is made at a place that is named, or at an end.
     Place(Placed),
+    /// An edit is made again by its message.
+    Resume(Resuming),
     /// The client shows something.
     Show(Shown),
 }
@@ -75,6 +78,7 @@ fn does(alloc: Global, client: &mut Client, step: &Step) -> bool {
         Step::Hear(hearing) => does_hear(alloc, client, hearing),
         Step::Edit(edit) => does_edit(alloc, client, edit),
         Step::Place(placed) => does_place(alloc, client, placed),
+        Step::Resume(resuming) => does_resume(alloc, client, resuming),
         Step::Show(shown) => does_show(alloc, client, shown),
     }
 }
