@@ -54,6 +54,11 @@ impl<C: Call> Bell<C> {
         Ok(())
     }
 
+    /// Returns the highest version that was rung for. What was published up to it is there for all who look from now on.
+    pub fn rung(&self) -> u64 {
+        self.rung.load(Ordering::SeqCst)
+    }
+
     /// This listener waits for a version above this one, until it is called or leaves. Whoever is about to wait looks once more at what is
     /// published behind this call: for what was published before it, nobody may ring any more.
     pub fn wait_at(&self, listener: usize, version: u64) {
