@@ -259,6 +259,7 @@ fn with_limits<'a>(
 ) -> Result<Command<'a>, AllocError> {
     let serve = with_arg(serve, Ok(port(alloc)));
     let serve = with_arg(serve, Ok(clients(alloc)));
+    let serve = with_arg(serve, Ok(workers(alloc)));
     let serve = with_arg(serve, Ok(idle(alloc)));
     with_arg(serve, Ok(message_bytes(alloc)))
 }
@@ -271,8 +272,14 @@ fn port<'a>(alloc: Global) -> Arg<'a> {
 
 // The most clients, as an argument.
 fn clients<'a>(alloc: Global) -> Arg<'a> {
-    let help = "Maximum number of connected clients, 1 to 64";
-    number(alloc, "clients", "N", "64", help).value_parser(value_parser!(u32).range(1..65))
+    let help = "Maximum number of connected clients, 1 to 100000";
+    number(alloc, "clients", "N", "1000", help).value_parser(value_parser!(u32).range(1..100_001))
+}
+
+// The threads, as an argument.
+fn workers<'a>(alloc: Global) -> Arg<'a> {
+    let help = "Threads that serve clients, 1 to 64";
+    number(alloc, "workers", "N", "8", help).value_parser(value_parser!(u32).range(1..65))
 }
 
 // The longest silence, as an argument.
@@ -438,7 +445,8 @@ fn serving_of(alloc: Global, matches: &ArgMatches<'_>) -> Result<Serving, WordsE
     Ok(Serving {
         is_standby: matches.get_flag("standby"),
         port: matches.get_one("port").unwrap_or(7411),
-        clients: matches.get_one("clients").unwrap_or(64),
+        clients: matches.get_one("clients").unwrap_or(1_000),
+        workers: matches.get_one("workers").unwrap_or(8),
         idle_seconds: matches.get_one("idle").unwrap_or(300),
         message_bytes: matches.get_one("message-bytes").unwrap_or(1 << 20),
         hosts,

@@ -105,8 +105,10 @@ pub struct Serving {
     pub is_standby: bool,
     /// The port of the own machine, or 0 for any free one.
     pub port: u16,
-    /// How many clients are served at once: 1 to 64.
+    /// How many clients are served at once.
     pub clients: u32,
+    /// How many workers serve them.
+    pub workers: u32,
     /// After how many seconds of silence a connection ends.
     pub idle_seconds: u64,
     /// The most bytes that the text of an edit may have. A message of more than twice as many ends its connection.
@@ -131,6 +133,7 @@ impl Drop for Serving {
             is_standby: _,
             port: _,
             clients: _,
+            workers: _,
             idle_seconds: _,
             message_bytes: _,
             hosts: _,
@@ -154,6 +157,7 @@ impl Serving {
             is_standby: _,
             port: _,
             clients: _,
+            workers: _,
             idle_seconds: _,
             message_bytes: _,
             hosts,

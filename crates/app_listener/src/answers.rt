@@ -114,7 +114,7 @@ fn identity_line(alloc: Global, site: &Site) -> Result<String, AllocError>
     format!(in alloc; "{identity}\n")
 }
 
-/// The answer to a client for which no seat is free. Errors: out of memory.
+/// The answer to a client for which there is no place. Errors: out of memory.
 pub(crate) fn turn_away(alloc: Global, shared: &Shared) -> Result<Reply, AllocError>
     ensures { IfOk result (λ answer. reply_bytes answer ≡ turned_away (seen_site shared.now.site)) }
 {

@@ -1,9 +1,9 @@
-// The thread of the port: it accepts connections, hands clients to the seats, and answers all other requests by itself.
+// The thread of the port: it accepts connections, hands clients to the workers, and answers all other requests by itself.
 
 use crate::hall::{Hall, Round};
 use crate::options::Shared;
 use crate::tokens::{PORT, connection_of};
-use crossbeam_channel::Sender;
+use crate::workers::Workers;
 use mio::event::Events;
 use mio::unix::SourceFd;
 use mio::{Interest, Poll};
@@ -21,7 +21,7 @@ const MOST_EVENTS: usize = 1_024;
 // How many connections are accepted before the others have their turn.
 const MOST_ACCEPTED: u32 = 256;
 
-// How often a free seat is looked for while a handshake waits for one.
+// How often a free place is looked for while a handshake waits for one.
 const SEAT_LOOK_MILLIS: u64 = 5;
 
 // How long the door rests where no connection can be accepted, as no descriptor is left, say.
@@ -30,7 +30,7 @@ const REST_MILLIS: u64 = 50;
 // The longest wait, where nothing is due.
 const MOST_MILLIS: u64 = 60_000;
 
-/// The port as one thread serves it: every connection that no seat serves, without blocking on any of them.
+/// The port as one thread serves it: every connection that no worker serves, without blocking on any of them.
 #[derive(Drop)]
 pub struct Door {
     poll: Poll,
@@ -83,12 +83,12 @@ impl Door {
             Some(due) => due.saturating_sub(self.now),
             None => most,
         };
-        let seat = if self.hall.has_handshake() {
+        let place = if self.hall.has_handshake() {
             SEAT_LOOK_MILLIS
         } else {
             most
         };
-        Duration::from_millis(most.min(due).min(seat))
+        Duration::from_millis(most.min(due).min(place))
     }
 
     // Reads the clock; if it fails, no time has passed.
@@ -99,7 +99,7 @@ impl Door {
     }
 
     // Waits for events, and goes on with what they are about.
-    fn turn<R>(&mut self, rt: &R, shared: &Shared, seats: &Sender<TcpStream, Global>)
+    fn turn<R>(&mut self, rt: &R, shared: &Shared, workers: &Workers)
     where
         R: Wait + Clock + AllocGlobal,
     {
@@ -111,7 +111,7 @@ impl Door {
         let round = Round {
             rt,
             shared,
-            seats,
+            workers,
             registry: self.poll.registry(),
             now: self.now,
         };
@@ -150,12 +150,12 @@ fn accept<R>(round: &Round<'_, R>, hall: &mut Hall, port: Port) -> Port {
 }
 
 /// Serves the port for as long as the server runs.
-pub fn stand<R>(rt: &R, shared: &Shared, seats: &Sender<TcpStream, Global>, door: &mut Door)
+pub fn stand<R>(rt: &R, shared: &Shared, workers: &Workers, door: &mut Door)
 where
     R: Wait + Clock + AllocGlobal,
 {
     for _ in rt.forever() {
-        door.turn(rt, shared, seats);
+        door.turn(rt, shared, workers);
     }
     unreachable!()
 }

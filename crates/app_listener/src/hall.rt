@@ -1,4 +1,4 @@
-// The connections that no seat serves: whose head isn't whole, that wait for a seat, whose answer leaves, or that have it.
+// The connections that no worker serves: whose head isn't whole, that wait for a place, whose answer leaves, or that have it.
 ghost use Rattle.std.specs.Prelude.{◌≡◌, ◌+◌, ◌<◌, ◌≤◌, ◌⊎◌, ◌++◌, ◌↔◌, [], IfNone, IfSome, IsTrue, None, Some, drop, length, min, option_to_list};
 ghost use Rattle.net_listener.specs.Queues.{waiting_of};
 ghost use Rattle.app_listener.specs.Halls.{HasEmptyQueues, IsBeforeAll, line_of};
@@ -7,7 +7,7 @@ use crate::answers::{answer_to, turn_away};
 use crate::options::Shared;
 use crate::streams::{Answer, Heard, hear, read_out};
 use crate::tokens::Stage;
-use crossbeam_channel::Sender;
+use crate::workers::Workers;
 use mio::unix::SourceFd;
 use mio::{Interest, Registry};
 use net_http::{Endpoint, HttpRequest};
@@ -23,7 +23,7 @@ const MOST_HEADS: usize = 4_096;
 
 const HEAD_MILLIS: u64 = 10_000;
 
-// How many handshakes may wait for a seat that may be given back meanwhile, and how long.
+// How many handshakes may wait for a place that may be given back meanwhile, and how long.
 const MOST_HANDSHAKES: usize = 1_024;
 
 const SEAT_MILLIS: u64 = 200;
@@ -46,7 +46,7 @@ const MADE_ROOM: usize = 64;
 pub(crate) struct Round<'a, R> {
     pub(crate) rt: &'a R,
     pub(crate) shared: &'a Shared,
-    pub(crate) seats: &'a Sender<TcpStream, Global>,
+    pub(crate) workers: &'a Workers,
     pub(crate) registry: &'a Registry,
     pub(crate) now: u64,
 }
@@ -74,12 +74,12 @@ impl<R> Round<'_, R> {
     }
 }
 
-/// The connections that no seat serves. Each is in one queue, under a number that no other has.
+/// The connections that no worker serves. Each is in one queue, under a number that no other has.
 #[derive(Drop)]
 pub(crate) struct Hall {
     // Those without a whole head.
     heads: Queue<TcpStream>,
-    // The handshakes, and the one that is given to a seat next.
+    // The handshakes, and the one that is given to a worker next.
     handshakes: Queue<TcpStream>,
     first: Option<Waiting<TcpStream>>,
     // The answers that leave.
@@ -165,7 +165,7 @@ impl Hall {
         }
     }
 
-    // Has a handshake wait for a seat, and answers every other request.
+    // Has a handshake wait for a place, and answers every other request.
     fn serve<R: AllocGlobal>(
         &mut self,
         round: &Round<'_, R>,
@@ -186,7 +186,7 @@ impl Hall {
         }
     }
 
-    // Tells a client that no seat is free.
+    // Tells a client that there is no place.
     fn turn_away<R: AllocGlobal>(&mut self, round: &Round<'_, R>, waiting: Waiting<TcpStream>) {
         let Waiting {
             number,
@@ -234,7 +234,7 @@ impl Hall {
         }
     }
 
-    /// Gives the handshakes to seats, those that came first first, as far as seats are free.
+    /// Gives the handshakes to workers, those that came first first, as far as there are places.
     pub(crate) fn seat<R: Wait>(&mut self, round: &Round<'_, R>) {
         for _ in 0..MOST_HANDSHAKES {
             let Some(waiting) = self.next_handshake() else {
@@ -245,11 +245,11 @@ impl Hall {
                 until,
                 item,
             } = waiting;
-            if let Err(unsent) = round.seats.try_send(round.rt, item) {
+            if let Some(item) = round.workers.give(round.rt, item) {
                 self.first = Some(Waiting {
                     number,
                     until,
-                    item: unsent.into_inner(),
+                    item,
                 });
                 return;
             }
@@ -267,7 +267,7 @@ impl Hall {
         }
     }
 
-    /// Closes the connections whose time is over, and turns clients away that waited for a seat.
+    /// Closes the connections whose time is over, and turns clients away that waited for a place.
     pub(crate) fn end_due<R: AllocGlobal>(&mut self, round: &Round<'_, R>) {
         self.heads.drop_due(round.now);
         self.answers.drop_due(round.now);
@@ -295,7 +295,7 @@ impl Hall {
         }
     }
 
-    /// Checks whether a handshake waits for a seat.
+    /// Checks whether a handshake waits for a place.
     pub(crate) fn has_handshake(&self) -> bool
         ensures { IsTrue result ↔ (0 < length (line_of self.now)) }
     {

@@ -11,9 +11,11 @@ mod options;
 mod page;
 mod streams;
 mod tokens;
+mod workers;
 
 pub use counters::Figures;
 pub use door::{Door, stand};
 pub use log::{Log, write_lines};
 pub use options::{Limits, Shared};
 pub use page::Page;
+pub use workers::{Load, Worker, Workers};

@@ -40,4 +40,6 @@ pub struct Limits {
     pub idle_seconds: u64,
     /// The most bytes that the text of an edit may have. A message of more than twice as many ends the connection.
     pub message_bytes: usize,
+    /// How many clients are served at once.
+    pub clients: usize,
 }

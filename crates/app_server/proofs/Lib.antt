@@ -1,3 +1,4 @@
 pub mod Sends
 mod Faults
 mod Live
+mod Heres

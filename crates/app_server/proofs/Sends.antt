@@ -20,14 +20,16 @@ use Rattle.bytes.proofs.shared.Bytes.TheSendSync as bytes
 use Rattle.crossbeam_channel.specs.contracts.channel.Receiver as Receiver
 use Rattle.canvas_bell.proofs.Bell.TheSendSync as bell
 use Rattle.app_listener.proofs.options.Shared.TheSendSync as shared
+use Rattle.app_listener.proofs.workers.Load.TheSendSync as load
 use Rattle.app_server.proofs.glancing.Seen.TheSendSync as seen
 use Rattle.app_server.proofs.budget.Budget.TheSendSync as budget
 use Rattle.app_server.proofs.polling.Caller.TheSendSync as caller
 use Rattle.app_server.proofs.polling.Post.TheSendSync as post
+use Rattle.app_server.proofs.presence.Presence.TheSendSync as presence
 use Rattle.app_server.specs.contracts.copies.Copies as Copies
 use Rattle.app_server.specs.contracts.copies.Held as Held
 use Rattle.app_server.specs.contracts.glancing.GlanceTask as GlanceTask
-use Rattle.app_server.specs.contracts.tasks.SeatTask as SeatTask
+use Rattle.app_server.specs.contracts.tasks.WorkerTask as WorkerTask
 
 -- what a bell and those who hear it are made of
 ruleset rings = (
@@ -41,7 +43,7 @@ ruleset rings = (
   caller.the_field_sync,
 )
 
--- the connections that a seat is given
+-- the connections that a worker is given
 pub Connections-send : IsSend (Receiver.the_row Stream.the_row Heap.the_row ghosts)
 Connections-send = search (leaves, sendable, crosses) depth 40 fits 4000
 
@@ -58,11 +60,11 @@ Copies-send N g n = let h = Held-send N g n in declared_send (Copies.the_type N 
 pub Copies-sync : (N : RattleType) (g : Ghosts N.Denot) → IsSend N → IsSync (Copies.the_row N g)
 Copies-sync N g n = let h = Held-send N g n in declared_sync (Copies.the_type N g) (search (h, sendable, crosses) depth 40 fits 4000, tt)
 
--- what the thread of a seat is given
-pub SeatTask-send : (N D R : RattleType) (g : Ghosts N.Denot) → IsSend N → IsSend (Seat.the_row N D g) → IsSend R → IsSend (SeatTask.the_row N D R g)
-SeatTask-send N D R g n s r =
-    recorded_send (SeatTask.the_field N D R g).row _ _ (SeatTask.the_type N D R g).to_one
-    (struct_send (shape (SeatTask.the_type N D R g)) (r, (s, (Arc-send _ shared.the_send shared.the_sync, (Arc-send _ (Copies-send N g n) (Copies-sync N g n), (Arc-send _ budget.the_send budget.the_sync, (Connections-send, (post.the_field_send, (search (rings, sendable, crosses) depth 40 fits 4000, tt)))))))))
+-- what the thread of a worker is given
+pub WorkerTask-send : (N D R : RattleType) (g : Ghosts N.Denot) → IsSend N → IsSend (Seat.the_row N D g) → IsSend R → IsSend (WorkerTask.the_row N D R g)
+WorkerTask-send N D R g n s r =
+    recorded_send (WorkerTask.the_field N D R g).row _ _ (WorkerTask.the_type N D R g).to_one
+    (struct_send (shape (WorkerTask.the_type N D R g)) (r, (s, (Arc-send _ shared.the_send shared.the_sync, (Arc-send _ (Copies-send N g n) (Copies-sync N g n), (Arc-send _ budget.the_send budget.the_sync, (Connections-send, (Arc-send _ load.the_send load.the_sync, (post.the_field_send, (search (rings, sendable, crosses) depth 40 fits 4000, (Arc-send _ presence.the_send presence.the_sync, tt)))))))))))
 
 module _ (K N R : RattleType) (k : keeper.Ghosts K.Denot) (g : Ghosts N.Denot) where
   -- a room

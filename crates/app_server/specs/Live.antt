@@ -1,9 +1,12 @@
 -- What a seat says to a client that is told unasked.
-use Rattle.std.specs.Prelude.{◌≡◌, ◌⊎◌, ℕ, List, [], ◌∷◌, Option, None, Some}
+use Rattle.std.specs.Prelude.{◌≡◌, ◌⊎◌, ℕ, ◌<◌, ◌≤◌, List, [], ◌∷◌, Option, None, Some}
+use Rattle.serde_json.specs.Data.{Data}
 use Rattle.canvas_model.specs.Messages.{Message, Idle}
+use Rattle.canvas_judge.specs.declared.message.NoReason.{NoReason}
 use Rattle.canvas_judge.specs.declared.message.NoReason.TheVariants as no
 use Rattle.canvas_board.specs.Marks.{Mark, Opening, board}
 use Rattle.canvas_board.specs.News.{HasReached}
+use Rattle.canvas_live.specs.Presence.{SpellsHere, TellsHere}
 use Rattle.canvas_live.specs.Word.{SpellsLive}
 use Rattle.canvas_live.specs.declared.place.Place.{Place}
 use Rattle.canvas_nodes.specs.Answers.{AreMessageTexts, IsUnasked, SpellsAsked, refusal_alone}
@@ -41,13 +44,39 @@ GivesLive o old m answer new = SeatGives o old.seat m answer new.seat × (new.pl
 abbrev pub GivesLiveInTexts : Opening → LiveValue → Message → List (List ℕ) → LiveValue → Type 0
 GivesLiveInTexts o old m texts new = (answer : List Message) × GivesLive o old m answer new × AreMessageTexts texts answer
 
+-- a client of this id is told unasked
+abbrev pub IsTold : Option Place → ℕ → Type 0
+IsTold place client = (p : Place) × (place ≡ Some p) × (p.client ≡ client)
+
+-- why what a client tells of itself is refused, if its value has so many bytes: it isn't told unasked under this id, or the value is too long
+abbrev pub RefusesHere : LiveValue → ℕ → ℕ → NoReason → Type 0
+RefusesHere old client bytes reason =
+    ((IsTold old.place client → ⊥) × (reason ≡ no.Stranger)) ⊎ (IsTold old.place client × (1024 < bytes) × (reason ≡ no.TooLarge))
+
+-- what is replied to a text by which a client tells the others something of itself: Idle, or why it is refused. Whatever is told by it, what the
+-- seat has seen and its client's place stay
+abbrev pub RepliesToHere : LiveValue → List ℕ → List Message → LiveValue → Type 0
+RepliesToHere old bytes answer new =
+    (client : ℕ) × (value : Data) × (text : List ℕ) × (n : ℕ) × SpellsHere bytes client value × TellsHere text client value n × (new ≡ old)
+    × ((IsTold old.place client × (n ≤ 1024) × (answer ≡ Idle ∷ [])) ⊎ ((reason : NoReason) × RefusesHere old client n reason × (answer ≡ refusal_alone reason)))
+
+-- bytes that are no such text are refused as NotRead
+abbrev pub IsNoHere : List ℕ → NoReason → Type 0
+IsNoHere bytes reason = ((client : ℕ) (value : Data) → SpellsHere bytes client value → ⊥) × (reason ≡ no.NotRead)
+
+-- a text by which somebody tells something of itself
+abbrev pub TellsSomeHere : List ℕ → Type 0
+TellsSomeHere text = (client : ℕ) × (n : ℕ) × ∥ ((value : Data) × TellsHere text client value n) ∥₁
+
 -- what is replied to other bytes: NotRead, and nothing has changed
 abbrev pub RefusesBytes : LiveValue → List ℕ → List Message → LiveValue → Type 0
-RefusesBytes old bytes answer new = ((place : Place) → SpellsLive bytes place → ⊥) × (answer ≡ refusal_alone no.NotRead) × (new ≡ old)
+RefusesBytes old bytes answer new =
+    ((place : Place) → SpellsLive bytes place → ⊥) × ((client : ℕ) (value : Data) → SpellsHere bytes client value → ⊥) × (answer ≡ refusal_alone no.NotRead) × (new ≡ old)
 
 -- what is replied to bytes that are no message; want of memory can be met at any
 abbrev pub RepliesToWord : Opening → LiveValue → List ℕ → List Message → LiveValue → Type 0
-RepliesToWord o old bytes answer new = RepliesToLive o old bytes answer new ⊎ RefusesBytes old bytes answer new ⊎ (answer ≡ refusal_alone no.Memory)
+RepliesToWord o old bytes answer new =
+    RepliesToLive o old bytes answer new ⊎ RepliesToHere old bytes answer new ⊎ RefusesBytes old bytes answer new ⊎ (answer ≡ refusal_alone no.Memory)
 
 -- what a seat replies to bytes: to a message that a client sends, and to others; want of memory can be met at any
 abbrev pub LiveReplies : Opening → LiveValue → List ℕ → List Message → LiveValue → Type 0
@@ -73,3 +102,7 @@ moved (Some place) version = Some (record { client = place.client; version = ver
 -- its client was told all up to this version
 abbrev pub LiveGoesTo : LiveValue → ℕ → LiveValue → Type 0
 LiveGoesTo old version new = (new.seat ≡ old.seat) × (new.place ≡ moved old.place version)
+
+-- it has served others, for which what its seat has seen may have grown: its client's place stays
+abbrev pub LiveServesOthers : LiveValue → LiveValue → Type 0
+LiveServesOthers old new = new.place ≡ old.place

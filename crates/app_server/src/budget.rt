@@ -4,24 +4,12 @@ ghost use Rattle.std.specs.Prelude.{◌<◌};
 use canvas_judge::Message;
 use net_outbox::{MUCH_WAITS, Text};
 use room_handler::Told;
-use std::sync::Wait;
 use std::sync::atomic::{AtomicU64, Ordering};
-use std::thread::sleep;
-use std::time::{Clock, Duration};
 
 // The bytes that may wait for all connections together, besides those that each may have: 64 MiB.
 const MOST_BYTES: u64 = 64 * 1024 * 1024;
 
-// The number of connections that may wait for room for an answer at once.
-const MOST_WAITING: u64 = 4;
-
-// How often a connection that waits for room checks for it.
-const LOOK_MILLIS: u64 = 20;
-
-/// The number of checks in 30 seconds.
-pub(crate) const MOST_LOOKS: u32 = 1_500;
-
-// The bytes that a slow peer must take in 8 seconds: 4 kB a second, and 256 kB a second while a connection waits for room.
+// The bytes that a slow peer must take in 8 seconds: 4 kB a second, and 256 kB a second while a connection needs room.
 const LEAST_TAKEN: u64 = 32_000;
 
 const LEAST_TAKEN_WHEN_SHORT: u64 = 2_048_000;
@@ -29,13 +17,12 @@ const LEAST_TAKEN_WHEN_SHORT: u64 = 2_048_000;
 /// The bytes that wait to be sent for all connections together, besides the 512 KiB that each connection may have.
 ///
 /// An answer of more than 256 KiB is counted until it is sent. So is the text of an earlier copy of the document, while a client is sent it.
-/// A connection that finds no room waits for it. While one waits, slow peers are ended.
+/// While a connection needs room that isn't there, slow peers are ended sooner.
 #[derive(Drop)]
 pub(crate) struct Budget {
     used: AtomicU64,
-    // How many connections need room, for an answer or a push, and how many wait for it with an answer.
+    // How many connections need room.
     wanted: AtomicU64,
-    waiting: AtomicU64,
 }
 
 impl Budget {
@@ -44,7 +31,6 @@ impl Budget {
         Budget {
             used: AtomicU64::new(0),
             wanted: AtomicU64::new(0),
-            waiting: AtomicU64::new(0),
         }
     }
 
@@ -82,39 +68,6 @@ impl Budget {
         self.wanted.fetch_sub(1, Ordering::SeqCst);
     }
 
-    /// Takes these bytes, once there is room. Returns whether there was within 30 seconds; it doesn't wait if four answers wait already.
-    pub(crate) fn take_later<R: Wait + Clock>(&self, rt: &R, bytes: u64) -> bool {
-        if self.take(bytes) {
-            return true;
-        }
-        let has_taken = self.begin_waiting() && self.takes(rt, bytes);
-        self.end_waiting();
-        has_taken
-    }
-
-    /// Counts one more answer that waits for room. Returns whether it may: fewer than four did before. `end_waiting` is called in either case.
-    pub(crate) fn begin_waiting(&self) -> bool {
-        self.want();
-        self.waiting.fetch_add(1, Ordering::SeqCst) < MOST_WAITING
-    }
-
-    /// Counts one answer less that waits for room.
-    pub(crate) fn end_waiting(&self) {
-        self.waiting.fetch_sub(1, Ordering::SeqCst);
-        self.want_no_more();
-    }
-
-    // Takes these bytes, once there is room. Returns whether there was within 30 seconds.
-    fn takes<R: Wait + Clock>(&self, rt: &R, bytes: u64) -> bool {
-        for _look in 0..MOST_LOOKS {
-            rest(rt);
-            if self.take(bytes) {
-                return true;
-            }
-        }
-        false
-    }
-
     /// Returns how many bytes a slow peer must take in 8 seconds.
     pub(crate) fn least_taken(&self) -> u64 {
         if self.wanted.load(Ordering::SeqCst) > 0 {
@@ -123,11 +76,6 @@ impl Budget {
             LEAST_TAKEN
         }
     }
-}
-
-/// Sleeps until the next check for room.
-pub(crate) fn rest<R: Wait + Clock>(rt: &R) {
-    sleep(rt, Duration::from_millis(LOOK_MILLIS));
 }
 
 // Checks whether these bytes fit besides those that are counted.

@@ -1,79 +1,65 @@
-// A seat's thread: it serves one connection after the other.
+// The connections of a worker.
+ghost use Rattle.std.specs.Prelude.{None};
+ghost use Rattle.canvas_turns.specs.Served.{ConnectionSteps};
+ghost use Rattle.app_server.specs.Live.{LiveGoesTo, LiveReplies, LiveTells, TellsSomeHere};
 
-use crate::budget::Budget;
 use crate::live_seat::LiveSeat;
-use crate::polling::{Caller, Post, Watch};
+use crate::seat_terms::SeatFlags;
+use crate::streams::{Incoming, Outgoing, Socket};
+use crate::timing::{Moment, Watch};
 use app_listener::{Limits, Shared};
-use canvas_bell::Bell;
 use canvas_board::RoomName;
 use canvas_journal::Keeper;
+use canvas_live::Place;
 use canvas_room::Lock;
-use canvas_turns::{Handler, LineEnd, serve_turns};
-use crossbeam_channel::Receiver;
+use canvas_turns::{Connection, LineEnd, Step, Waits};
 use http::{HeaderName, HeaderValue, Request, Response};
-use net_inbox::{Inbox, Recorded};
 use room_handler::Terms;
-use std::alloc::Global;
-use std::io;
+use std::alloc::{AllocError, Global};
+use std::io::{self, Read, Write};
 use std::net::TcpStream;
+use std::rc::Rc;
 use std::sync::Wait;
-use std::time::{Clock, Duration};
+use std::time::Clock;
 use tungstenite::handshake::server::ErrorResponse;
 use tungstenite::{Callback, WebSocketConfig};
 
-/// Serves each connection that comes at a seat, one after the other. Ends once no more can come.
-pub(crate) fn serve_each<K, N, L, R, T>(
-    rt: &R,
-    shared: &Shared,
-    seat: &mut LiveSeat<'_, N, Lock<K, N, L>, R, T>,
-    post: &mut Post,
-    bell: &Bell<Caller>,
-    budget: &Budget,
-    inbox: &Inbox,
-    connections: &Receiver<TcpStream, Global>,
-)
-where
-    K: Keeper + Drop,
-    N: RoomName,
-    L: Wait + Drop,
-    R: Wait + Clock + AllocGlobal + Clone + Drop,
-    T: Terms<N> + Drop,
-{
-    for _ in rt.forever() {
-        let Ok(stream) = connections.recv(rt) else {
-            return;
-        };
-        let number = shared.figures.begin();
-        tell(rt, shared, number, "begins");
-        let end = serve(rt, shared, seat, post, bell, budget, inbox, &stream);
-        seat.leave();
-        shared.figures.end();
-        tell(rt, shared, number, end.words());
-    }
-    unreachable!()
+// How many bytes a connection takes at once of those that were read.
+const READ_BYTES: usize = 4 * 1024;
+
+/// A connection of a worker, and what is known of it.
+#[derive(Drop)]
+pub(crate) struct Peer {
+    /// Its sockets; `None` while it takes a step.
+    pub(crate) connection: Option<Connection<Incoming, Outgoing>>,
+    /// From where its client is told unasked, if it is.
+    pub(crate) place: Option<Place>,
+    /// What its seat keeps of it from one step to the next.
+    pub(crate) flags: SeatFlags,
+    /// When it goes on.
+    pub(crate) watch: Watch,
+    pub(crate) socket: Rc<Socket, Global>,
+    /// The number by which it is logged.
+    pub(crate) number: u64,
+    /// Whether it is in the list of those that go on now, and of those that listen.
+    pub(crate) is_ready: bool,
+    pub(crate) is_listed: bool,
+    /// Whether its peer has sent something since its last step.
+    pub(crate) has_come: bool,
 }
 
-// Logs what became of a connection.
-fn tell<R: Wait + AllocGlobal>(rt: &R, shared: &Shared, number: u64, what: &str) {
-    if shared.quiet {
-        return;
-    }
-    if let Ok(line) = format!(in rt.alloc(); "connection {number} {what}") {
-        shared.log.tell(rt, line);
-    }
-}
-
-// How a connection has ended.
+/// Why a connection isn't served.
 #[derive(Clone, Copy, Debug, PartialEq, Eq)]
-enum End {
+pub(crate) enum End {
     SocketFailed,
     NoHandshake,
+    Memory,
     Served(LineEnd),
 }
 
 impl End {
-    // What is told of it.
-    fn words(self) -> &'static str {
+    /// What is logged of it.
+    pub(crate) fn words(self) -> &'static str {
         match self {
             End::SocketFailed | End::Served(LineEnd::Failed) => "has ended: the socket failed",
             End::NoHandshake => "has ended: the handshake failed",
@@ -81,7 +67,7 @@ impl End {
             End::Served(LineEnd::TooLarge) => "has ended: a message was too large",
             End::Served(LineEnd::Silent) => "has ended: it was silent too long",
             End::Served(LineEnd::Slow) => "has ended: it took too little of what waited for it",
-            End::Served(LineEnd::Memory) => "has ended: out of memory",
+            End::Memory | End::Served(LineEnd::Memory) => "has ended: out of memory",
             End::Served(LineEnd::Broken) => {
                 "has ended: the client broke the protocol, or went without a word"
             }
@@ -89,70 +75,98 @@ impl End {
     }
 }
 
-// Serves a connection until it ends, and says how it ended.
-fn serve<H: Handler, R: Clock + AllocGlobal>(
+/// Makes the handshake of a connection whose request has come whole, and returns the connection.
+pub(crate) fn begin<R: Clock + AllocGlobal>(
     rt: &R,
     shared: &Shared,
-    handler: &mut H,
-    post: &mut Post,
-    bell: &Bell<Caller>,
-    budget: &Budget,
-    inbox: &Inbox,
-    stream: &TcpStream,
-) -> End {
-    if limit(stream, shared.limits).is_err() {
-        return End::SocketFailed;
+    stream: TcpStream,
+    number: u64,
+    moment: Moment,
+) -> Result<Peer, End> {
+    if set_up(&stream).is_err() {
+        return Err(End::SocketFailed);
     }
+    let config = handshake(rt.alloc(), shared, &stream)?;
+    match peer_of(rt.alloc(), shared.limits, stream, config, number, moment) {
+        Ok(peer) => Ok(peer),
+        Err(_) => Err(End::Memory),
+    }
+}
+
+// From now on no call blocks, and each answer leaves at once; without that some would wait for an acknowledgement.
+fn set_up(stream: &TcpStream) -> io::Result<()> {
+    stream.set_nonblocking(true)?;
+    stream.set_nodelay(true)
+}
+
+// Makes a handshake. Returns how long its messages may be.
+fn handshake(alloc: Global, shared: &Shared, stream: &TcpStream) -> Result<WebSocketConfig, End> {
     let naming = Naming {
-        alloc: rt.alloc(),
+        alloc,
         document: shared.site.identity.as_str(),
     };
-    let Ok(accepted) = tungstenite::accept_hdr(rt.alloc(), stream, naming) else {
-        return End::NoHandshake;
+    let Ok(accepted) = tungstenite::accept_hdr(alloc, stream, naming) else {
+        return Err(End::NoHandshake);
     };
     let most = Some(shared.limits.message_bytes.saturating_mul(2));
-    let config = accepted
-        .get_config()
-        .max_message_size(most)
-        .max_frame_size(most);
-    if post.begin(stream).is_err() {
-        return End::SocketFailed;
-    }
-    let end = match Watch::new(rt, post, bell, budget, shared.limits.idle_seconds) {
-        Ok(mut watch) => serve_accepted(rt.alloc(), handler, &mut watch, inbox, stream, config),
-        Err(_) => End::SocketFailed,
-    };
-    post.end(stream);
-    end
+    Ok(
+        accepted
+            .get_config()
+            .read_buffer_size(READ_BYTES)
+            .max_message_size(most)
+            .max_frame_size(most),
+    )
 }
 
-// Serves a connection whose handshake is done until it ends, by a thread that waits for it between its turns.
-fn serve_accepted<H: Handler, R: Clock>(
+// Returns the connection of this socket.
+fn peer_of(
     alloc: Global,
-    handler: &mut H,
-    watch: &mut Watch<'_, R>,
-    inbox: &Inbox,
-    stream: &TcpStream,
+    limits: Limits,
+    stream: TcpStream,
     config: WebSocketConfig,
-) -> End {
-    let input = Recorded::new(stream, inbox);
-    let end = serve_turns(alloc, handler, input, stream, config, watch);
-    watch.leave();
-    End::Served(end)
+    number: u64,
+    moment: Moment,
+) -> Result<Peer, AllocError> {
+    let socket = Rc::new(alloc, Socket::new(alloc, stream))?;
+    let incoming = Incoming {
+        socket: socket.clone()?,
+    };
+    let outgoing = Outgoing {
+        socket: socket.clone()?,
+    };
+    Ok(Peer {
+        connection: Some(Connection::new(alloc, incoming, outgoing, config)),
+        place: None,
+        flags: SeatFlags::new(),
+        watch: Watch::new(moment, limits.idle_seconds),
+        socket,
+        number,
+        is_ready: true,
+        is_listed: false,
+        has_come: false,
+    })
 }
 
-// How long one write of a handshake may wait.
-const MOST_UNREAD_SECONDS: u64 = 8;
-
-// Has calls block again, and bounds how long a handshake may be silent, and how long its answer may be left unread.
-fn limit(stream: &TcpStream, limits: Limits) -> io::Result<()> {
-    let idle = Some(Duration::from_secs(limits.idle_seconds));
-    let unread = Some(Duration::from_secs(limits.idle_seconds.min(MOST_UNREAD_SECONDS)));
-    stream.set_nonblocking(false)?;
-    // Each answer leaves at once; without this some would wait for an acknowledgement.
-    stream.set_nodelay(true)?;
-    stream.set_read_timeout(idle)?;
-    stream.set_write_timeout(unread)
+/// Takes a step of a connection whose client is told from this place on, if it is. Returns the step, and from where its client is told then.
+pub(crate) fn step_at<K, N, L, R, T, W>(
+    alloc: Global,
+    seat: &mut LiveSeat<'_, N, Lock<K, N, L>, R, T>,
+    connection: Connection<Incoming, Outgoing>,
+    place: Option<Place>,
+    watch: &mut W,
+) -> (Step<Incoming, Outgoing>, Option<Place>)
+where
+    K: Keeper + Drop,
+    N: RoomName,
+    L: Wait + Drop,
+    R: Wait + Clock + Drop,
+    T: Terms<N> + Drop,
+    W: Waits,
+    ensures { ConnectionSteps (LiveReplies N.opening) (LiveTells N.opening) LiveGoesTo TellsSomeHere ⟦<Incoming as Read>⟧.remaining ⟦<Outgoing as Write>⟧.contents result.0 (record seat.old { place = place }) connection (record seat.new { place = result.1 }) }
+{
+    seat.go_to_place(place);
+    let step = connection.step(alloc, seat, watch);
+    (step, seat.own_place())
 }
 
 // Names the document in the answer to a handshake.

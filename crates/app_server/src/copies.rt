@@ -6,7 +6,7 @@ ghost use Rattle.canvas_board.specs.Marks.{board};
 ghost use Rattle.canvas_nodes.specs.Answers.{GivesTexts};
 ghost use Rattle.room_handler.specs.Table.{Gives, SeesOn, TellsCopyAt};
 
-use crate::budget::{Budget, MOST_LOOKS, rest};
+use crate::budget::Budget;
 use bytes::Bytes;
 use canvas_board::RoomName;
 use canvas_room::Seat;
@@ -14,7 +14,6 @@ use net_outbox::Text;
 use room_handler::{SharedCopy, ask_texts, copy_for};
 use std::alloc::{AllocError, Global};
 use std::sync::{Mutex, Wait};
-use std::time::Clock;
 
 // The last copy that was made, and the texts of earlier ones that clients are still sent. The budget counts the latter.
 struct Held<N: RoomName> {
@@ -153,43 +152,6 @@ impl<N: RoomName> Copies<N> {
         let mut held = self.held.lock(rt);
         held.tidy(budget);
         held.makes_room(budget, least, client, version)
-    }
-
-    /// Makes room for a copy of version `least` or later, for a client at this version, once there is some. Returns whether there was within
-    /// 30 seconds; it doesn't wait if four answers wait already.
-    pub(crate) fn makes_room_later<R: Wait + Clock>(
-        &self,
-        rt: &R,
-        budget: &Budget,
-        least: u64,
-        client: u32,
-        version: u64,
-    ) -> bool {
-        if self.makes_room(rt, budget, least, client, version) {
-            return true;
-        }
-        let has_room = budget.begin_waiting() && self.gets_room(rt, budget, least, client, version);
-        budget.end_waiting();
-        has_room
-    }
-
-    // Makes room for a copy of version `least` or later, for a client at this version, once there is some. Returns whether there was within
-    // 30 seconds.
-    fn gets_room<R: Wait + Clock>(
-        &self,
-        rt: &R,
-        budget: &Budget,
-        least: u64,
-        client: u32,
-        version: u64,
-    ) -> bool {
-        for _look in 0..MOST_LOOKS {
-            rest(rt);
-            if self.makes_room(rt, budget, least, client, version) {
-                return true;
-            }
-        }
-        false
     }
 
     /// The texts of what a client is answered that asks from this version, by a copy of version `least` at least, where one is due. Fails

@@ -47,12 +47,12 @@ where
         + Drop
         + 'static,
     ensures named { IfOk result (λ taken. IsIdentity (string_bytes taken.1.identity)) }
-    ensures faults { IfErr result (λ fault. IsPreparingFault serving.now.clients fault ⊎ IsThreadFault fault ⊎ IsStopFault stop.now.path fault) }
+    ensures faults { IfErr result (λ fault. IsPreparingFault serving.now.workers fault ⊎ IsThreadFault fault ⊎ IsStopFault stop.now.path fault) }
 {
     let listener = listen(rt, serving.port)?;
     let store = store_of(rt, address)?;
     let progress = Progress::begin(rt, &address.name, serving.quiet, stop, store.lease()?, log)?;
-    let taken = take_room(rt, files, store, serving.clients as usize);
+    let taken = take_room(rt, files, store, serving.workers as usize);
     progress.end();
     if stop.has_come() {
         if let Ok((_, _, tenure)) = &taken {

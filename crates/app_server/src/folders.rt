@@ -20,10 +20,10 @@ pub(crate) fn take_folder<R>(
 where
     R: Net<Listener = TcpListener, Stream = TcpStream>,
     ensures named { IfOk result (λ taken. IsIdentity (string_bytes taken.1.identity)) }
-    ensures faults { IfErr result (IsPreparingFault serving.now.clients) }
+    ensures faults { IfErr result (IsPreparingFault serving.now.workers) }
 {
     let listener = listen(rt, serving.port)?;
-    let seats = serving.clients as usize;
+    let seats = serving.workers as usize;
     let OpenFolder {
         opened,
         removed,

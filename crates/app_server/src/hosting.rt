@@ -1,4 +1,4 @@
-// What `lugcurrant serve` does: a room over the journal of a document, whose seats serve clients for as long as it runs.
+// What `lugcurrant serve` does: a room over the journal of a document, whose workers serve clients for as long as it runs.
 ghost use Rattle.std.specs.Prelude.{◌≡◌, ◌⊎◌, IfErr, IfOk, string_bytes};
 ghost use Rattle.net_http.specs.Identities.{IsIdentity};
 ghost use Rattle.app_storage.specs.Faults.{IsPageFault, IsPreparingFault, IsRunningFault, MayEndServer, IsStopFault, IsThreadFault};
@@ -11,21 +11,23 @@ use crate::glancing::{GlanceTask, Seen};
 use crate::opening::opened;
 use crate::own_document::{OwnDocument, OwnRoom};
 use crate::polling::{Caller, Post};
+use crate::presence::Presence;
 use crate::standby::await_document;
 use crate::stopping::StopFile;
-use crate::tasks::{DoorTask, LogTask, SeatTask};
+use crate::tasks::{DoorTask, LogTask, WorkerTask};
 use crate::watching::{Ends, watch};
 use app_args::{DocumentPlace, Options, Serving};
 use app_faults::Fault;
 use app_identity::Address;
-use app_listener::{Door, Figures, Limits, Log, Page, Shared};
+use app_listener::{Door, Figures, Limits, Load, Log, Page, Shared, Worker, Workers};
 use app_storage::begin_task;
 use canvas_bell::Bell;
 use canvas_board::RoomName;
 use canvas_folder::Removed;
 use canvas_journal::Keeper;
 use canvas_room::{BlankRoom, Lock, Room, Seat};
-use crossbeam_channel::{Receiver, Sender, bounded};
+use crossbeam_channel::unbounded;
+use mio::Waker;
 use net_http::Site;
 use std::alloc::Global;
 use std::collections::VecDeque;
@@ -40,8 +42,8 @@ use std::time::Clock;
 
 /// Serves a document to clients over WebSockets, for as long as nothing fails, and answers what ended it.
 ///
-/// It listens at the own machine alone, at the port of the options. So many clients as they say are served at once; a seat whose
-/// connection has ended serves the next one. A client more is turned away, and other requests are answered as `net_http` says.
+/// It listens at the own machine alone, at the port of the options. So many clients as they say are served at once, by so many workers. A
+/// client more is turned away, and other requests are answered as `net_http` says.
 /// A folder is made where it is missing, and nobody else can open it to write meanwhile. A document in an etcd is taken over, under a
 /// lease that a thread keeps alive from then on; a standby waits until nobody has it, and doesn't listen before. A `kill` at any moment is
 /// safe. Once the file of `stop_file` is there, nothing more is judged, the lease is released, and the server ends: `Stopped`. A document
@@ -49,7 +51,7 @@ use std::time::Clock;
 ///
 /// The faults: `StopFile`, if that file is there before, and then nothing was touched; `NoPage`, where the options name the folder of a
 /// page and no file `index.html` can be read in it, and `PortInUse`, `PortDenied` and `NoPort`, where the port can't be had, and then the
-/// document is left alone; `ClientCount`, only for fewer clients than 1 or more than 64; `Denied`, `AboveDenied`, `NoDescriptor`, `NoRoom`,
+/// document is left alone; `ClientCount`, only for fewer workers than 1 or more than 64; `Denied`, `AboveDenied`, `NoDescriptor`, `NoRoom`,
 /// `Device`, `ChangedIdentity`, `Lost`, `NotKept` and `NoSpace` of a folder, `NoStore` of a document in an etcd, and `InUse`, `Identity`,
 /// `Damaged` and `TooLarge` of both, where it isn't opened; `NoThread`, where not all threads can be made; `Memory`; and later
 /// `JournalFailed`, once the device of the journal has failed, or `StoreFailed` and `LeaseEnded` of an etcd.
@@ -67,7 +69,7 @@ where
         + Sync
         + Drop
         + 'static,
-    ensures { MayEndServer options.serving.clients options.serving.stop_file result }
+    ensures { MayEndServer options.serving.workers options.serving.stop_file result }
 {
     let (place, mut serving) = options.apart();
     let path = serving.stop_file.take();
@@ -161,7 +163,7 @@ where
         + Sync
         + Drop
         + 'static,
-    ensures { MayEndServer serving.clients stop.path result }
+    ensures { MayEndServer serving.workers stop.path result }
 {
     match take_folder(rt, files, dir, &serving) {
         Ok((room, document)) => serve_taken(rt, room, document, serving, stop, supplies, dir),
@@ -190,7 +192,7 @@ where
         + Sync
         + Drop
         + 'static,
-    ensures { MayEndServer serving.clients stop.path result }
+    ensures { MayEndServer serving.workers stop.path result }
 {
     match take_or_await(rt, files, address, &serving, &stop, &supplies.log) {
         Ok((room, document)) => serve_taken(
@@ -227,7 +229,7 @@ where
         + Drop
         + 'static,
     ensures named { IfOk result (λ taken. IsIdentity (string_bytes taken.1.identity)) }
-    ensures faults { IfErr result (λ fault. IsPreparingFault serving.now.clients fault ⊎ IsThreadFault fault ⊎ IsStopFault stop.now.path fault) }
+    ensures faults { IfErr result (λ fault. IsPreparingFault serving.now.workers fault ⊎ IsThreadFault fault ⊎ IsStopFault stop.now.path fault) }
 {
     if serving.is_standby {
         await_document(rt, files, address, serving, stop, log)
@@ -292,6 +294,7 @@ where
     let limits = Limits {
         idle_seconds: serving.idle_seconds,
         message_bytes: serving.message_bytes,
+        clients: serving.clients as usize,
     };
     let quiet = serving.quiet;
     let (hosts, origins, folder) = serving.into_pages();
@@ -337,7 +340,7 @@ where
     }
 }
 
-// Gives each seat and the door their threads, and one to who looks at the room.
+// Gives each worker and the door their threads, and one to who looks at the room.
 fn begin<N, K, R>(
     rt: &R,
     room: BlankRoom<K>,
@@ -352,11 +355,10 @@ where
     ensures { IfErr result IsThreadFault }
 {
     let (room, seats) = opened::<N, K, R>(rt, room)?;
-    let (seated, connections) = bounded(rt.alloc(), 0)?;
     let version = room.desk(rt).version();
-    begin_seats(rt, seats, shared, &connections)?;
+    let workers = begin_workers(rt, seats, shared)?;
     let seen = begin_glances(rt, room, shared)?;
-    begin_door(rt, shared, seated)?;
+    begin_door(rt, shared, workers)?;
     announce(rt, shared, version);
     Ok(seen)
 }
@@ -384,13 +386,12 @@ where
     Ok(seen)
 }
 
-// Gives each seat its thread.
-fn begin_seats<N, K, R>(
+// Gives each seat the thread of a worker.
+fn begin_workers<N, K, R>(
     rt: &R,
     seats: Vec<Seat<N, Lock<K, N, R>>>,
     shared: &Arc<Shared, Global>,
-    connections: &Receiver<TcpStream, Global>,
-) -> Result<(), Fault>
+) -> Result<Workers, Fault>
 where
     N: RoomName + Send + Sync + 'static,
     K: Keeper + Drop + Send + 'static,
@@ -399,52 +400,68 @@ where
 {
     let copies = Arc::new(rt.alloc(), Copies::new(rt.alloc()))?;
     let budget = Arc::new(rt.alloc(), Budget::new())?;
-    let (mut posts, bell) = begin_posts(rt, seats.len())?;
+    let (mut posts, bell, wakers) = begin_posts(rt, seats.len())?;
     let bell = Arc::new(rt.alloc(), bell)?;
+    let presence = Arc::new(rt.alloc(), Presence::new(rt.alloc(), wakers)?)?;
+    let mut workers = Vec::with_capacity(rt.alloc(), seats.len())?;
     for seat in seats {
-        let Some(post) = posts.pop_front() else {
+        let Some(BlankWorker { post, waker }) = posts.pop_front() else {
             return Err(Fault::NoThread);
         };
-        let task = SeatTask {
+        let (given, connections) = unbounded(rt.alloc())?;
+        let load = Arc::new(rt.alloc(), Load::new())?;
+        let task = WorkerTask {
             rt: rt.clone()?,
             seat,
             shared: Arc::try_clone(shared)?,
             copies: Arc::try_clone(&copies)?,
             budget: Arc::try_clone(&budget)?,
-            connections: connections.clone()?,
+            connections,
+            load: Arc::try_clone(&load)?,
             post,
             bell: Arc::try_clone(&bell)?,
+            presence: Arc::try_clone(&presence)?,
         };
+        workers.push(Worker {
+            connections: given,
+            waker,
+            load,
+        })?;
         begin_task(rt, task)?;
     }
-    Ok(())
+    Ok(Workers::new(workers, shared.limits.clients))
 }
 
-// So many posts, and the bell that is heard at each.
+// What a worker waits with, and what ends its wait.
+#[derive(Drop)]
+struct BlankWorker {
+    post: Post,
+    waker: Arc<Waker, Global>,
+}
+
+// What so many workers wait with, the bell that is heard by each, and what ends their waits.
 fn begin_posts<R: Net + AllocGlobal>(
     rt: &R,
     count: usize,
-) -> Result<(VecDeque<Post>, Bell<Caller>), Fault>
+) -> Result<(VecDeque<BlankWorker>, Bell<Caller>, Vec<Arc<Waker, Global>>), Fault>
     ensures { IfErr result IsThreadFault }
 {
     let mut bell = Bell::new(rt.alloc());
     let mut posts = VecDeque::with_capacity(rt.alloc(), count)?;
+    let mut wakers = Vec::with_capacity(rt.alloc(), count)?;
     for number in 0..count {
-        let Ok((post, caller)) = Post::new(rt, number) else {
+        let Ok((post, waker)) = Post::new(rt, number) else {
             return Err(Fault::NoThread);
         };
-        bell.add(caller)?;
-        posts.push_back(post)?;
+        bell.add(Caller::new(Arc::try_clone(&waker)?))?;
+        wakers.push(Arc::try_clone(&waker)?)?;
+        posts.push_back(BlankWorker { post, waker })?;
     }
-    Ok((posts, bell))
+    Ok((posts, bell, wakers))
 }
 
 // Gives the door its thread.
-fn begin_door<R>(
-    rt: &R,
-    shared: &Arc<Shared, Global>,
-    seats: Sender<TcpStream, Global>,
-) -> Result<(), Fault>
+fn begin_door<R>(rt: &R, shared: &Arc<Shared, Global>, workers: Workers) -> Result<(), Fault>
 where
     R: Net + Threads + Wait + Clock + AllocGlobal + Clone + Send + Drop + 'static,
     ensures { IfErr result IsThreadFault }
@@ -455,7 +472,7 @@ where
     let task = DoorTask {
         rt: rt.clone()?,
         shared: Arc::try_clone(shared)?,
-        seats,
+        workers,
         door,
     };
     begin_task(rt, task)

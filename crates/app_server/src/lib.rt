@@ -12,11 +12,15 @@ mod live_seat;
 mod opening;
 mod own_document;
 mod polling;
+mod presence;
 mod progress;
 mod seat_terms;
 mod standby;
 mod stopping;
+mod streams;
 mod tasks;
+mod timing;
 mod watching;
+mod worker;
 
 pub use hosting::serve;

@@ -1,5 +1,5 @@
-// A seat as a connection has it: it answers messages, and tells what is published unasked.
-ghost use Rattle.std.specs.Prelude.{◌≡◌, ◌⊎◌, ◌∷◌, [], None, IfErr, IfOk, MatchResult, map};
+// A seat as the connections of a worker have it: it answers messages, and tells what is published unasked.
+ghost use Rattle.std.specs.Prelude.{◌≡◌, ◌↔◌, ◌≤◌, ◌⊎◌, ◌∷◌, [], None, IfErr, IfOk, IsTrue, MatchResult, map};
 ghost use Rattle.canvas_model.specs.Messages.{Idle};
 ghost use Rattle.canvas_judge.specs.Seen.{seen_message};
 ghost use Rattle.canvas_nodes.specs.Answers.{AreMessageTexts, refusal_alone};
@@ -8,30 +8,33 @@ ghost use Rattle.canvas_turns.specs.Told.{version_told};
 ghost use Rattle.room_handler.specs.Seats.{SeatSeesOn};
 ghost use Rattle.room_handler.specs.Told.{seen_told};
 ghost use Rattle.canvas_sockets.specs.Turned.{RepliesInTexts};
-ghost use Rattle.app_server.specs.Live.{BeginsAt, GivesLiveInTexts, LiveReplies, RefusesPlace, RepliesToWord, TellsUnasked};
+ghost use Rattle.app_server.specs.Live.{BeginsAt, GivesLiveInTexts, IsNoHere, IsTold, LiveReplies, RefusesHere, RefusesPlace, RepliesToHere, RepliesToWord, TellsUnasked};
 
 use crate::budget::pushed;
 use crate::polling::Caller;
 use crate::seat_terms::SeatTerms;
+use crate::streams::Socket;
 use app_listener::Shared;
 use canvas_bell::Bell;
 use canvas_board::RoomName;
 use canvas_journal::Keeper;
 use canvas_judge::{Message, NoReason};
-use canvas_live::{Place, place_in};
+use canvas_live::{Here, Place, here_in, place_in};
 use canvas_nodes::{asked, texts_of};
 use canvas_room::Lock;
 use canvas_sockets::Replier;
 use canvas_turns::{Handler, Push};
-use net_inbox::Inbox;
 use net_outbox::{Text, own_texts};
 use room_handler::{SeatAnswerer, Terms, Told, told_texts};
 use std::alloc::{AllocError, Global};
+use std::collections::BTreeMap;
 use std::marker::Model;
+use std::rc::Rc;
 use std::sync::Wait;
 use std::time::Clock;
 
-/// A connection's seat: it replies to messages, and pushes what is published to a live client. Contracts see the seat, and the client's place.
+/// The seat of a worker's connections, of which it serves one at a time: it replies to messages, and pushes what is published to a live client.
+/// Contracts see the seat, and the place of the client that it serves.
 /// `T` are the terms of its answerer.
 pub(crate) struct LiveSeat<'a, N: RoomName, D: Drop, W: Drop, T: Terms<N> + Drop> {
     answerer: SeatAnswerer<N, D, W, T>,
@@ -39,7 +42,10 @@ pub(crate) struct LiveSeat<'a, N: RoomName, D: Drop, W: Drop, T: Terms<N> + Drop
     place: Option<Place>,
     shared: &'a Shared,
     bell: &'a Bell<Caller>,
-    inbox: &'a Inbox,
+    // The socket of the connection that it serves now.
+    socket: Option<Rc<Socket, Global>>,
+    // The number up to which it is whispered now what others tell of themselves.
+    until: u64,
 }
 
 impl<N: RoomName, D: Drop, W: Drop, T: Terms<N> + Drop> Drop for LiveSeat<'_, N, D, W, T> {
@@ -50,7 +56,8 @@ impl<N: RoomName, D: Drop, W: Drop, T: Terms<N> + Drop> Drop for LiveSeat<'_, N,
             place: _,
             shared: _,
             bell: _,
-            inbox: _,
+            socket: _,
+            until: _,
         } = self;
     }
 }
@@ -74,13 +81,12 @@ impl<'a, N: RoomName, D: Drop, W: Wait + Clock + Drop, T: Terms<N> + Drop> LiveS
     W,
     T,
 > {
-    /// Returns a connection's seat, whose client isn't live. The terms are those of the answerer, and the inbox records its connections.
+    /// Returns the seat of connections, which serves none. The terms are those of the answerer.
     pub(crate) fn new(
         answerer: SeatAnswerer<N, D, W, T>,
         terms: SeatTerms<'a, N, W>,
         shared: &'a Shared,
         bell: &'a Bell<Caller>,
-        inbox: &'a Inbox,
     ) -> LiveSeat<'a, N, D, W, T>
         ensures { result ≡ record { seat = answerer; place = None } }
     {
@@ -90,16 +96,40 @@ impl<'a, N: RoomName, D: Drop, W: Wait + Clock + Drop, T: Terms<N> + Drop> LiveS
             place: None,
             shared,
             bell,
-            inbox,
+            socket: None,
+            until: 0,
         }
+    }
+
+    /// Serves the connection of this socket from now on, to which it is whispered what others have told of themselves up to this number.
+    pub(crate) fn begin_step(&mut self, socket: Rc<Socket, Global>, until: u64)
+        ensures { self.new ≡ self.old }
+    {
+        self.socket = Some(socket);
+        self.until = until;
+    }
+
+    /// From now on its client is told from this place on, if it is told unasked.
+    pub(crate) fn go_to_place(&mut self, place: Option<Place>)
+        ensures { self.new ≡ record self.old { place = place } }
+    {
+        self.place = place;
+    }
+
+    /// From where its client is told unasked, if it is.
+    pub(crate) fn own_place(&self) -> Option<Place>
+        ensures { result ≡ self.now.place }
+    {
+        self.place
     }
 
     /// Its connection has ended.
     pub(crate) fn leave(&mut self)
         ensures { self.new ≡ record self.old { place = None } }
     {
-        if self.place.is_some() {
+        if let Some(place) = self.place {
             self.shared.figures.end_live();
+            self.terms.end_here(place.client);
         }
         self.place = None;
         self.terms.leave();
@@ -132,8 +162,55 @@ impl<'a, N: RoomName, D: Drop, W: Wait + Clock + Drop, T: Terms<N> + Drop> LiveS
     {
         match place_in(alloc, bytes) {
             Ok(Some(place)) => self.begin(alloc, place),
+            Ok(None) => self.reply_to_here(alloc, bytes),
+            Err(_) => Err(NoReason::Memory),
+        }
+    }
+
+    // The reply to bytes that are no message and not that word: they may be what a client tells of itself.
+    fn reply_to_here(&mut self, alloc: Global, bytes: &[u8]) -> Result<Vec<Text>, NoReason>
+        ensures replies { IfOk result (λ ts. RepliesInTexts RepliesToHere self.old bytes.now (map text_bytes ts.items) self.new) }
+        ensures refuses { IfErr result (λ reason. RepliesToHere self.old bytes.now (refusal_alone reason) self.new ⊎ IsNoHere bytes.now reason ⊎ (reason ≡ NoReason.Memory)) }
+        ensures stays { self.new ≡ self.old }
+    {
+        match here_in(alloc, bytes) {
+            Ok(Some(here)) => self.hear(alloc, here),
             Ok(None) => Err(NoReason::NotRead),
             Err(_) => Err(NoReason::Memory),
+        }
+    }
+
+    // Tells the others what its client tells of itself.
+    fn hear(&mut self, alloc: Global, here: Here) -> Result<Vec<Text>, NoReason>
+        ensures stays { self.new ≡ self.old }
+        ensures hears { IfOk result (λ ts. AreMessageTexts (map text_bytes ts.items) (Idle ∷ []) × IsTold self.old.place here.client × (here.value_bytes ≤ 1024)) }
+        ensures refuses { IfErr result (λ reason. (reason ≡ NoReason.Memory) ⊎ RefusesHere self.old here.client here.value_bytes reason) }
+    {
+        if !self.is_told(here.client) {
+            return Err(self.terms.refuse(NoReason::Stranger));
+        }
+        if here.is_too_large() {
+            return Err(self.terms.refuse(NoReason::TooLarge));
+        }
+        let Ok(texts) = idle_alone(alloc) else {
+            return Err(NoReason::Memory);
+        };
+        match self.terms.tell_here(here) {
+            Ok(()) => {
+                self.terms.answer();
+                Ok(texts)
+            }
+            Err(_) => Err(self.terms.refuse(NoReason::Memory)),
+        }
+    }
+
+    // Checks whether its client is this one, and told unasked.
+    fn is_told(&self, client: u32) -> bool
+        ensures { IsTrue result ↔ IsTold self.now.place client }
+    {
+        match self.place {
+            Some(place) => place.client == client,
+            None => false,
         }
     }
 
@@ -148,8 +225,11 @@ impl<'a, N: RoomName, D: Drop, W: Wait + Clock + Drop, T: Terms<N> + Drop> LiveS
         match self.answerer.has_reached(place.client, place.version) {
             Ok(true) => {
                 self.terms.answer();
-                if self.place.is_none() {
-                    self.shared.figures.begin_live();
+                match self.place {
+                    Some(before) => if before.client != place.client {
+                        self.terms.end_here(before.client);
+                    },
+                    None => self.shared.figures.begin_live(),
                 }
                 self.place = Some(place);
                 Ok(texts)
@@ -172,11 +252,21 @@ where
     fn judge_ahead(&mut self, alloc: Global, bytes: &[u8])
         ensures { self.new ≡ self.old }
     {
-        let texts = self.inbox.take_run(bytes, EDIT);
+        let Some(socket) = &self.socket else {
+            return;
+        };
+        let texts = socket.inbox().take_run(bytes, EDIT);
+        self.judge_all(alloc, &texts);
+    }
+
+    /// Gets edits judged together that have come on connections of the worker, before each is handed out.
+    pub(crate) fn judge_all(&mut self, alloc: Global, texts: &[Vec<u8>])
+        ensures { self.new ≡ self.old }
+    {
         if texts.len() < 2 {
             return;
         }
-        if let Ok(edits) = edits_of(alloc, &texts) {
+        if let Ok(edits) = edits_of(alloc, texts) {
             self.answerer.judge_ahead(edits);
         }
     }
@@ -236,11 +326,15 @@ where
     W: Wait + Clock + Drop,
     T: Terms<N> + Drop,
 {
-    ghost use Rattle.app_server.specs.Live.{LiveGoesTo, LiveTells};
+    ghost use Rattle.app_server.specs.Live.{LiveGoesTo, LiveServesOthers, LiveTells, TellsSomeHere};
 
     ghost tells = { LiveTells N.opening };
 
     ghost goes_to = { LiveGoesTo };
+
+    ghost whispers = { TellsSomeHere };
+
+    ghost between = { LiveServesOthers };
 
     fn place(&self) -> Option<u64> {
         let place = self.place?;
@@ -276,6 +370,14 @@ where
         })
     }
 
+    fn whisper(&mut self, alloc: Global) -> Result<Vec<Text>, AllocError> {
+        if self.place.is_none() {
+            return Ok(Vec::new(alloc));
+        }
+        let texts = self.terms.whispers(alloc, self.until)?;
+        own_texts(alloc, texts)
+    }
+
     fn go_to(&mut self, version: u64) {
         self.shared.figures.push();
         if let Some(place) = self.place {
@@ -291,26 +393,37 @@ where
     }
 }
 
-// What the text of an edit begins with, as clients write it.
-const EDIT: &[u8] = b"[\"edit\",";
+/// What the text of an edit begins with, as clients write it.
+pub(crate) const EDIT: &[u8] = b"[\"edit\",";
 
-// Returns the edits of which these are the texts, up to the first that isn't one, or isn't the next of the same client: if one that was judged before is
-// refused, none after it may have been taken. Errors: out of memory.
+// Returns the edits of which these are the texts, up to the first that isn't one, or isn't the next of its client behind those before: if one that
+// was judged before is refused, none of its client after it may have been taken. Errors: out of memory.
 fn edits_of(alloc: Global, texts: &[Vec<u8>]) -> Result<Vec<Message>, AllocError> {
     let mut edits = Vec::with_capacity(alloc, texts.len())?;
-    let mut last = None;
+    let mut last = BTreeMap::new(alloc);
     for text in texts {
         let Ok(message) = asked(alloc, text.as_slice()) else {
             break;
         };
-        let number = number_of(&message);
-        if number.is_none() || !is_behind(last, number) {
+        let Some((client, number)) = number_of(&message) else {
+            break;
+        };
+        let is_next = match last.get(&client) {
+            Some(before) => number_after(*before) == number,
+            None => true,
+        };
+        if !is_next {
             break;
         }
+        last.insert(client, number)?;
         edits.push(message)?;
-        last = number;
     }
     Ok(edits)
+}
+
+// Returns the number after this one.
+fn number_after(number: u64) -> u64 {
+    number.saturating_add(1)
 }
 
 // Returns the client and the number of an edit.
@@ -318,14 +431,6 @@ fn number_of(message: &Message) -> Option<(u32, u64)> {
     match message {
         Message::Edit { client, seq, .. } => Some((*client, *seq)),
         _ => None,
-    }
-}
-
-// Checks whether an edit of this client and number is the next one after the last, if there is one.
-fn is_behind(last: Option<(u32, u64)>, next: Option<(u32, u64)>) -> bool {
-    match (last, next) {
-        (Some((client, number)), Some(next)) => next == (client, number.saturating_add(1)),
-        (None, _) | (_, None) => true,
     }
 }
 

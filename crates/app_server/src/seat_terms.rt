@@ -5,13 +5,17 @@ ghost use Rattle.canvas_board.specs.Marks.{board};
 ghost use Rattle.canvas_nodes.specs.Answers.{GivesTexts};
 ghost use Rattle.net_outbox.specs.Texts.{text_bytes};
 ghost use Rattle.room_handler.specs.Table.{Gives, SeesOn, TellsCopyAt};
+ghost use Rattle.canvas_turns.specs.Told.{AreAll};
+ghost use Rattle.app_server.specs.Live.{TellsSomeHere};
 
 use crate::budget::{Budget, bytes_of_answer, bytes_of_push};
 use crate::copies::Copies;
+use crate::presence::Presence;
 use app_listener::Shared;
 use canvas_board::RoomName;
 use canvas_desk::TailLimit;
 use canvas_judge::{Message, NoReason};
+use canvas_live::Here;
 use canvas_room::{Pace, Seat};
 use net_outbox::Text;
 use room_handler::{Terms, Told, is_too_large};
@@ -20,7 +24,7 @@ use std::cell::Cell;
 use std::sync::{Arc, Wait};
 use std::time::Clock;
 
-/// What a seat of a server keeps from one message to the next, in one thread.
+/// What a seat of a server keeps of a connection from one message to the next.
 #[derive(Drop)]
 pub(crate) struct SeatFlags {
     // True if it was given a copy since all was sent.
@@ -32,6 +36,11 @@ pub(crate) struct SeatFlags {
     has_answered: Cell<bool>,
     // The version of a published entry of this seat, until the bell is rung.
     published: Cell<Option<u64>>,
+    // True if there was no room for its last long answer.
+    is_refused: Cell<bool>,
+    // The number of what was whispered last to its client, and whether that has told something of itself.
+    heard: Cell<u64>,
+    has_told: Cell<bool>,
 }
 
 impl SeatFlags {
@@ -43,21 +52,37 @@ impl SeatFlags {
             wanted: Cell::new(None),
             has_answered: Cell::new(false),
             published: Cell::new(None),
+            is_refused: Cell::new(false),
+            heard: Cell::new(0),
+            has_told: Cell::new(false),
         }
+    }
+
+    /// Exchanges what these keep with what those keep.
+    pub(crate) fn swap(&self, others: &SeatFlags) {
+        self.has_copy.swap(&others.has_copy);
+        self.taken.swap(&others.taken);
+        self.wanted.swap(&others.wanted);
+        self.has_answered.swap(&others.has_answered);
+        self.published.swap(&others.published);
+        self.is_refused.swap(&others.is_refused);
+        self.heard.swap(&others.heard);
+        self.has_told.swap(&others.has_told);
     }
 }
 
 /// The terms of a server's seat. Its options limit edits, and its figures set the pace of checkpoints. A client below the floor is sent the copy
 /// that is written for all. Noes are counted.
 ///
-/// A long answer is counted in the budget of all connections until all is sent or the connection ends. If the budget has no room, the reply
-/// waits. Once all is sent, it closes a file that the folder has removed, if there is one.
+/// A long answer is counted in the budget of all connections until all is sent or the connection ends. If the budget has no room, it is a No
+/// for Memory. Once all is sent, it closes a file that the folder has removed, if there is one.
 pub(crate) struct SeatTerms<'a, N: RoomName, W> {
     rt: &'a W,
     shared: &'a Shared,
     copies: Arc<Copies<N>, Global>,
     budget: &'a Budget,
     flags: &'a SeatFlags,
+    presence: &'a Presence,
 }
 
 impl<N: RoomName, W> Drop for SeatTerms<'_, N, W> {
@@ -68,6 +93,7 @@ impl<N: RoomName, W> Drop for SeatTerms<'_, N, W> {
             copies: _,
             budget: _,
             flags: _,
+            presence: _,
         } = self;
     }
 }
@@ -80,6 +106,7 @@ impl<'a, N: RoomName, W: Wait + Clock> SeatTerms<'a, N, W> {
         copies: Arc<Copies<N>, Global>,
         budget: &'a Budget,
         flags: &'a SeatFlags,
+        presence: &'a Presence,
     ) -> SeatTerms<'a, N, W> {
         SeatTerms {
             rt,
@@ -87,6 +114,34 @@ impl<'a, N: RoomName, W: Wait + Clock> SeatTerms<'a, N, W> {
             copies,
             budget,
             flags,
+            presence,
+        }
+    }
+
+    /// Tells the others what its client tells of itself. Errors: out of memory.
+    pub(crate) fn tell_here(&self, here: Here) -> Result<(), AllocError> {
+        self.flags.has_told.set(true);
+        self.presence.tell(self.rt, here)
+    }
+
+    /// Returns the texts of what was told of themselves by others up to this number and isn't whispered yet: the first of them. Errors: out of
+    /// memory.
+    pub(crate) fn whispers(&self, alloc: Global, until: u64) -> Result<Vec<Vec<u8>>, AllocError>
+        ensures { IfOk result (λ texts. AreAll TellsSomeHere (map (λ t. t.items) texts.items)) }
+    {
+        let after = self.flags.heard.get();
+        if after >= until {
+            return Ok(Vec::new(alloc));
+        }
+        let (texts, heard) = self.presence.news(self.rt, after, until)?;
+        self.flags.heard.set(heard);
+        Ok(texts)
+    }
+
+    /// Tells the others that this client has gone, if it told something of itself.
+    pub(crate) fn end_here(&self, client: u32) {
+        if self.flags.has_told.replace(false) {
+            self.presence.end(self.rt, client);
         }
     }
 
@@ -94,6 +149,7 @@ impl<'a, N: RoomName, W: Wait + Clock> SeatTerms<'a, N, W> {
     pub(crate) fn leave(&self) {
         self.flags.has_answered.set(false);
         self.want_no_more();
+        self.allow();
         self.end_copy();
     }
 
@@ -178,6 +234,20 @@ impl<'a, N: RoomName, W: Wait + Clock> SeatTerms<'a, N, W> {
         has_room
     }
 
+    // Records that there was no room for an answer: until there is, or its connection ends, slow peers are ended sooner.
+    fn deny(&self) {
+        if !self.flags.is_refused.replace(true) {
+            self.budget.want();
+        }
+    }
+
+    // Records that there was room for an answer.
+    fn allow(&self) {
+        if self.flags.is_refused.replace(false) {
+            self.budget.want_no_more();
+        }
+    }
+
     // Makes room for a copy for a client at this version. Returns whether there is room.
     fn makes_room_for_copy(&self, client: u32, version: u64) -> bool {
         let least = self.shared.figures.least_copy();
@@ -198,16 +268,19 @@ impl<'a, N: RoomName, W: Wait + Clock> SeatTerms<'a, N, W> {
         has_room
     }
 
-    // Takes the bytes that an answer of these messages needs of the budget, once there is room. Returns whether there was, within 30 seconds.
-    fn takes_later(&self, told: &[Told]) -> bool {
+    // Takes the bytes that an answer of these messages needs of the budget. Returns whether there was room.
+    fn takes_answer(&self, told: &[Told]) -> bool {
         let bytes = bytes_of_answer(told, self.shared.figures.checkpoint_bytes());
         if bytes == 0 {
             return true;
         }
         self.give_back();
-        let has_room = self.budget.take_later(self.rt, bytes);
+        let has_room = self.budget.take(bytes);
         if has_room {
             self.flags.taken.set(bytes);
+            self.allow();
+        } else {
+            self.deny();
         }
         has_room
     }
@@ -217,7 +290,7 @@ impl<'a, N: RoomName, W: Wait + Clock> SeatTerms<'a, N, W> {
         version < self.shared.figures.floor()
     }
 
-    // Returns the texts of the answer to an Ask that needs a copy. Errors: no room for another copy within 30 seconds, or out of memory.
+    // Returns the texts of the answer to an Ask that needs a copy. Errors: no room for another copy, or out of memory.
     fn copied<D: Drop>(
         &self,
         alloc: Global,
@@ -229,12 +302,11 @@ impl<'a, N: RoomName, W: Wait + Clock> SeatTerms<'a, N, W> {
         ensures sees { SeesOn N.opening seat.old seat.new }
     {
         let least = self.shared.figures.least_copy();
-        if !self
-            .copies
-            .makes_room_later(self.rt, self.budget, least, client, version)
-        {
+        if !self.makes_room_for_copy(client, version) {
+            self.deny();
             return Err(AllocError);
         }
+        self.allow();
         self.flags.has_copy.set(true);
         self.copies
             .texts(self.rt, alloc, self.budget, seat, least, client, version)
@@ -299,7 +371,7 @@ impl<N: RoomName, W: Wait + Clock> Terms<N> for SeatTerms<'_, N, W> {
     }
 
     fn may_send(&self, told: &[Told]) -> bool {
-        let has_room = self.takes_later(told);
+        let has_room = self.takes_answer(told);
         if !has_room {
             self.refuse(NoReason::Memory);
         }

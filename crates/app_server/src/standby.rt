@@ -68,7 +68,7 @@ where
         + Drop
         + 'static,
     ensures named { IfOk result (λ taken. IsIdentity (string_bytes taken.1.identity)) }
-    ensures faults { IfErr result (λ fault. IsPreparingFault serving.now.clients fault ⊎ IsThreadFault fault ⊎ IsStopFault stop.now.path fault) }
+    ensures faults { IfErr result (λ fault. IsPreparingFault serving.now.workers fault ⊎ IsThreadFault fault ⊎ IsStopFault stop.now.path fault) }
 {
     let mut store = store_of(rt, address)?;
     let mut told = None;
@@ -110,7 +110,7 @@ where
         + Drop
         + 'static,
     ensures named { IfOk result (λ tried. IfOk tried (λ taken. IsIdentity (string_bytes taken.1.identity))) }
-    ensures faults { IfErr result (λ fault. IsPreparingFault serving.now.clients fault ⊎ IsThreadFault fault ⊎ IsStopFault stop.now.path fault) }
+    ensures faults { IfErr result (λ fault. IsPreparingFault serving.now.workers fault ⊎ IsThreadFault fault ⊎ IsStopFault stop.now.path fault) }
 {
     match store.is_owned() {
         Ok(true) => return Ok(Err(Obstacle::Owner)),

@@ -1,19 +1,19 @@
 // What the threads of a server do, each for as long as the server runs.
 
 use crate::budget::Budget;
-use crate::connections::serve_each;
 use crate::copies::Copies;
 use crate::live_seat::LiveSeat;
 use crate::polling::{Caller, Post};
+use crate::presence::Presence;
 use crate::seat_terms::{SeatFlags, SeatTerms};
-use app_listener::{Door, Log, Shared, stand, write_lines};
+use crate::worker::{Means, Round, work};
+use app_listener::{Door, Load, Log, Shared, Workers, stand, write_lines};
 use app_storage::Task;
 use canvas_bell::Bell;
 use canvas_board::RoomName;
 use canvas_journal::Keeper;
 use canvas_room::{Lock, Seat};
-use crossbeam_channel::{Receiver, Sender};
-use net_inbox::Inbox;
+use crossbeam_channel::Receiver;
 use room_handler::SeatAnswerer;
 use std::alloc::Global;
 use std::io::Eprint;
@@ -21,51 +21,57 @@ use std::net::TcpStream;
 use std::sync::{Arc, Wait};
 use std::time::Clock;
 
-/// A seat, and the connections that it is given.
-pub(crate) struct SeatTask<N: RoomName, D: Drop, R: Drop> {
+/// A worker: a seat, and where it is given connections.
+pub(crate) struct WorkerTask<N: RoomName, D: Drop, R: Drop> {
     pub(crate) rt: R,
     pub(crate) seat: Seat<N, D>,
     pub(crate) shared: Arc<Shared, Global>,
     pub(crate) copies: Arc<Copies<N>, Global>,
     pub(crate) budget: Arc<Budget, Global>,
     pub(crate) connections: Receiver<TcpStream, Global>,
+    pub(crate) load: Arc<Load, Global>,
     pub(crate) post: Post,
     pub(crate) bell: Arc<Bell<Caller>, Global>,
+    pub(crate) presence: Arc<Presence, Global>,
 }
 
-impl<N: RoomName, D: Drop, R: Drop> Drop for SeatTask<N, D, R> {
+impl<N: RoomName, D: Drop, R: Drop> Drop for WorkerTask<N, D, R> {
     fn drop(self) {
-        let SeatTask {
+        let WorkerTask {
             rt: _,
             seat: _,
             shared: _,
             copies: _,
             budget: _,
             connections: _,
+            load: _,
             post: _,
             bell: _,
+            presence: _,
         } = self;
     }
 }
 
-impl<K, N, L, R> Task for SeatTask<N, Lock<K, N, L>, R>
+impl<K, N, L, R> Task for WorkerTask<N, Lock<K, N, L>, R>
 where
     K: Keeper + Drop,
     N: RoomName,
     L: Wait + Drop,
     R: Wait + Clock + AllocGlobal + Clone + Drop,
 {
-    // Serves one connection after the other. If memory runs out at its beginning, the seat stays empty.
+    // Serves the connections that it is given. If memory runs out at its beginning, it serves none.
     fn run(self) {
-        let SeatTask {
+        let WorkerTask {
             rt,
             seat,
             shared,
             copies,
             budget,
             connections,
-            mut post,
+            load,
+            post,
             bell,
+            presence,
         } = self;
         let Ok(own) = rt.clone() else {
             return;
@@ -73,31 +79,33 @@ where
         let Ok(shown) = Arc::try_clone(&copies) else {
             return;
         };
+        let Ok(mut round) = Round::new(&rt, post) else {
+            return;
+        };
         let flags = SeatFlags::new();
-        let terms = SeatTerms::new(&rt, &shared, shown, &budget, &flags);
+        let terms = SeatTerms::new(&rt, &shared, shown, &budget, &flags, &presence);
         let answerer = SeatAnswerer::new(rt.alloc(), own, seat, terms);
-        let terms = SeatTerms::new(&rt, &shared, copies, &budget, &flags);
-        let inbox = Inbox::new(rt.alloc());
-        let mut seat = LiveSeat::new(answerer, terms, &shared, &bell, &inbox);
-        serve_each(
-            &rt,
-            &shared,
-            &mut seat,
-            &mut post,
-            &bell,
-            &budget,
-            &inbox,
-            &connections,
-        );
+        let terms = SeatTerms::new(&rt, &shared, copies, &budget, &flags, &presence);
+        let mut seat = LiveSeat::new(answerer, terms, &shared, &bell);
+        let means = Means {
+            shared: &shared,
+            flags: &flags,
+            budget: &budget,
+            bell: &bell,
+            presence: &presence,
+            connections: &connections,
+            load: &load,
+        };
+        work(&rt, &means, &mut round, &mut seat);
     }
 }
 
-/// The door, and the way to the seats.
+/// The door, and the workers to which it gives connections.
 #[derive(Drop)]
 pub(crate) struct DoorTask<R: Drop> {
     pub(crate) rt: R,
     pub(crate) shared: Arc<Shared, Global>,
-    pub(crate) seats: Sender<TcpStream, Global>,
+    pub(crate) workers: Workers,
     pub(crate) door: Door,
 }
 
@@ -105,15 +113,15 @@ impl<R> Task for DoorTask<R>
 where
     R: Wait + Clock + AllocGlobal + Drop,
 {
-    // Serves all connections that no seat does.
+    // Serves all connections that no worker does.
     fn run(self) {
         let DoorTask {
             rt,
             shared,
-            seats,
+            workers,
             mut door,
         } = self;
-        stand(&rt, &shared, &seats, &mut door);
+        stand(&rt, &shared, &workers, &mut door);
     }
 }
 

@@ -14,9 +14,9 @@ use Rattle.canvas_sockets.specs.declared.turning.TurnEnd.TheVariants as turn
 use Rattle.net_outbox.specs.Outboxes.{contents_of, waiting_bytes}
 use Rattle.net_outbox.specs.declared.outbox.Outbox.{Outbox}
 use Rattle.canvas_turns.specs.Lines.{Inlet, IsNextLine, OpenLine}
-use Rattle.canvas_turns.specs.Told.{LeavesSome, MayTell, Pings, TellsSome}
-use Rattle.canvas_turns.specs.Served.{StepsOn, StepsTimes}
-use Rattle.canvas_turns.specs.Said.{Event, Heard, Published, Quiet, NoByteIsLost, Says, SaysEach, frame_of, frames_of, joined}
+use Rattle.canvas_turns.specs.Told.{LeavesSome, MayTell, MayWhisper, Pings, TellsSome}
+use Rattle.canvas_turns.specs.Served.{StepsAndTells, StepsOn, StepsTimes}
+use Rattle.canvas_turns.specs.Said.{Event, Elsewhere, Heard, Published, Quiet, Whispered, NoByteIsLost, Says, SaysEach, frame_of, frames_of, joined}
 use Rattle.canvas_turns.proofs.Joined.{Grows, flush_joins, frame_joins, grows_on, stays, texts_join}
 
 -- the frames of the one, and then of the other
@@ -24,13 +24,14 @@ frames_append : (xs ys : List Content) → frames_of (xs ++ ys) ≡ frames_of xs
 frames_append [] ys = refl
 frames_append (x ∷ xs) ys = ap (λ l. frame_of x ++ l) (frames_append xs ys) ∙ sym (append_assoc (frame_of x) (frames_of xs) (frames_of ys))
 
-module _ {A : Type 0} (Replies : A → List ℕ → List Message → A → Type 0) (Tells : A → List Message → A → Type 0) (GoesTo : A → ℕ → A → Type 0) where
+module _ {A : Type 0} (Replies : A → List ℕ → List Message → A → Type 0) (Tells : A → List Message → A → Type 0) (GoesTo : A → ℕ → A → Type 0) (Whispers : List ℕ → Type 0)
+    (Between : A → A → Type 0) where
   -- what events have said, and then what more have
-  says_more : (es fs : List Event) (old mid new : A) (xs ys : List Content) → SaysEach Replies Tells GoesTo es old xs mid → SaysEach Replies Tells GoesTo fs mid ys new
-      → SaysEach Replies Tells GoesTo (es ++ fs) old (xs ++ ys) new
+  says_more : (es fs : List Event) (old mid new : A) (xs ys : List Content) → SaysEach Replies Tells GoesTo Whispers Between es old xs mid → SaysEach Replies Tells GoesTo Whispers Between fs mid ys new
+      → SaysEach Replies Tells GoesTo Whispers Between (es ++ fs) old (xs ++ ys) new
   says_more [] fs old mid new xs ys first second =
-      subst (λ (l : List Content). SaysEach Replies Tells GoesTo fs old (l ++ ys) new) (sym first.0)
-      (subst (λ (a : A). SaysEach Replies Tells GoesTo fs a ys new) first.1 second)
+      subst (λ (l : List Content). SaysEach Replies Tells GoesTo Whispers Between fs old (l ++ ys) new) (sym first.0)
+      (subst (λ (a : A). SaysEach Replies Tells GoesTo Whispers Between fs a ys new) first.1 second)
   says_more (e ∷ es) fs old mid new xs ys first second = (
     first.0,
     first.1,
@@ -45,7 +46,7 @@ module _ {A : Type 0} (Replies : A → List ℕ → List Message → A → Type 
     pub record Went (old : A) (before : Socket S) (new : A) (after : Socket S) : Type 0 where
       pub events : List Event
       pub said : List Content
-      pub says : SaysEach Replies Tells GoesTo events old said new
+      pub says : SaysEach Replies Tells GoesTo Whispers Between events old said new
       pub grows : Grows contents before after (frames_of said)
 
     -- the same of a server's socket
@@ -61,13 +62,13 @@ module _ {A : Type 0} (Replies : A → List ℕ → List Message → A → Type 
         subst (λ (a : A). Goes old before a after) (sym same) (subst (λ (s : Socket S). Goes old before old s) (sym still) (goes_quiet old before before (λ server. stays contents before server)))
 
     -- one event said this
-    pub goes_once : (e : Event) (said : List Content) (old : A) (before : Socket S) (new : A) (after : Socket S) → Says Replies Tells GoesTo e old said new
+    pub goes_once : (e : Event) (said : List Content) (old : A) (before : Socket S) (new : A) (after : Socket S) → Says Replies Tells GoesTo Whispers Between e old said new
         → (before.conn.role ≡ Server → Grows contents before after (frames_of said)) → Goes old before new after
     goes_once e said old before new after says grows =
         λ server. record { events = e ∷ []; said = said; says = (new, said, [], sym (append-nil said), says, (refl, refl)); grows = grows server }
 
     -- one event said this frame
-    pub goes_by_frame : (e : Event) (c : Content) (old : A) (before : Socket S) (new : A) (after : Socket S) → Says Replies Tells GoesTo e old (c ∷ []) new
+    pub goes_by_frame : (e : Event) (c : Content) (old : A) (before : Socket S) (new : A) (after : Socket S) → Says Replies Tells GoesTo Whispers Between e old (c ∷ []) new
         → (before.conn.role ≡ Server → Grows contents before after (frame_of c)) → Goes old before new after
     goes_by_frame e c old before new after says grows =
         goes_once e (c ∷ []) old before new after says (λ server. subst (λ (bs : List ℕ). Grows contents before after bs) (sym (append-nil (frame_of c))) (grows server))
@@ -140,6 +141,14 @@ module _ {A : Type 0} (Replies : A → List ℕ → List Message → A → Type 
         goes_on (contents_of contents) old before.writer new mid.writer new after.writer (told_goes old before new mid tells) (leaves_go new mid after leaves)
     may_tell_goes false old before new after (still, looked) = nothing_goes old before new after still looked
 
+    -- what was whispered, and what the peer took of it
+    pub may_whisper_goes : (a : A) (before after : OpenLine I O) → MayWhisper Whispers contents before after → Goes (contents_of contents) a before.writer a after.writer
+    may_whisper_goes a before after (inl still) = goes_nowhere (contents_of contents) a before.writer a after.writer refl (ap (λ (l : OpenLine I O). l.writer) still)
+    may_whisper_goes a before after (inr (mid, (texts, are, wrote, same), leaves)) =
+        goes_on (contents_of contents) a before.writer a mid.writer a after.writer
+        (goes_once (contents_of contents) Whispered (map binary texts) a before.writer a mid.writer (refl, (texts, are, refl)) (λ server. texts_join (contents_of contents) before.writer mid.writer texts server wrote))
+        (leaves_go a mid after leaves)
+
     -- the sockets that go on
     pub next_goes : (a : A) (before after : OpenLine I O) → (after ≡ before) ⊎ IsNextLine before after ⊎ Pings contents before after → Goes (contents_of contents) a before.writer a after.writer
     next_goes a before after (inl still) = goes_nowhere (contents_of contents) a before.writer a after.writer refl (ap (λ (l : OpenLine I O). l.writer) still)
@@ -155,24 +164,34 @@ module _ {A : Type 0} (Replies : A → List ℕ → List Message → A → Type 
         goes_by_frame (contents_of contents) Quiet (ping []) a before.writer a after.writer (refl, refl) (λ server. frame_joins (contents_of contents) before.writer after.writer (ping []) server pings.0)
 
   module _ {I O : Type 0} (remaining : I → Option (List ℕ)) (contents : O → Option (List ℕ)) where
-    step_goes : (old : A) (before : OpenLine I O) (new : A) (after : OpenLine I O) → StepsOn Replies Tells GoesTo remaining contents old before new after → Goes (contents_of contents) old before.writer new after.writer
-    step_goes old before new after (mid, (t, a, l, opened, (turned, takes, leaves), (has, tells)), next) =
-        goes_on (contents_of contents) old before.writer new mid.writer new after.writer
-        (goes_on (contents_of contents) old before.writer a l.writer new mid.writer
+    tells_go : (old : A) (before : OpenLine I O) (new : A) (after : OpenLine I O) → StepsAndTells Replies Tells GoesTo Whispers remaining contents old before new after → Goes (contents_of contents) old before.writer new after.writer
+    tells_go old before new after (t, a, l, opened, (turned, takes, leaves), (has, tells)) =
+        goes_on (contents_of contents) old before.writer a l.writer new after.writer
         (goes_on (contents_of contents) old before.writer a turned.writer a l.writer
         (turn_goes (contents_of contents) (λ (d : Inlet I). remaining d.reader.stream) (λ (o : Outbox O). length (waiting_bytes o)) 262144 64 t old before a turned takes)
         (leaves_go contents a turned l leaves))
-        (may_tell_goes contents has a l new mid tells))
+        (may_tell_goes contents has a l new after tells)
+
+    step_goes : (old : A) (before : OpenLine I O) (new : A) (after : OpenLine I O) → StepsOn Replies Tells GoesTo Whispers remaining contents old before new after → Goes (contents_of contents) old before.writer new after.writer
+    step_goes old before new after (mid, (l, tells, whispers), next) =
+        goes_on (contents_of contents) old before.writer new mid.writer new after.writer
+        (goes_on (contents_of contents) old before.writer new l.writer new mid.writer (tells_go old before new l tells) (may_whisper_goes contents new l mid whispers))
         (next_goes contents new mid after next)
 
-    steps_go : (n : ℕ) (old : A) (before : OpenLine I O) (new : A) (after : OpenLine I O) → StepsTimes Replies Tells GoesTo remaining contents n old before new after
+    -- what its handler did for others
+    elsewhere_goes : (a b : A) (l : OpenLine I O) → Between a b → Goes (contents_of contents) a l.writer b l.writer
+    elsewhere_goes a b l between = goes_once (contents_of contents) Elsewhere [] a l.writer b l.writer (refl, between) (λ server. stays (contents_of contents) l.writer server)
+
+    steps_go : (n : ℕ) (old : A) (before : OpenLine I O) (new : A) (after : OpenLine I O) → StepsTimes Replies Tells GoesTo Whispers remaining contents Between n old before new after
         → Goes (contents_of contents) old before.writer new after.writer
     steps_go zero old before new after (same, still) = goes_nowhere (contents_of contents) old before.writer new after.writer same (ap (λ (l : OpenLine I O). l.writer) still)
-    steps_go (suc n) old before new after (a, l, steps, on) =
-        goes_on (contents_of contents) old before.writer a l.writer new after.writer (steps_go n old before a l steps) (step_goes a l new after on)
+    steps_go (suc n) old before new after (a, b, l, steps, between, on) =
+        goes_on (contents_of contents) old before.writer b l.writer new after.writer
+        (goes_on (contents_of contents) old before.writer a l.writer b l.writer (steps_go n old before a l steps) (elsewhere_goes a b l between))
+        (step_goes b l new after on)
 
     -- after any steps
-    pub no_byte_is_lost : NoByteIsLost Replies Tells GoesTo remaining contents
+    pub no_byte_is_lost : NoByteIsLost Replies Tells GoesTo Whispers Between remaining contents
     no_byte_is_lost n old new before after server steps =
         let w = steps_go n old before new after steps server in
         (w.events, w.said, w.says, w.grows.1)

@@ -10,7 +10,7 @@ use Rattle.tungstenite.specs.declared.error.Error.{Error}
 use Rattle.canvas_sockets.specs.Served.{StopsWriting, WritesEach}
 use Rattle.net_outbox.specs.Outboxes.{contents_of}
 use Rattle.canvas_turns.specs.Lines.{OpenLine}
-use Rattle.canvas_turns.specs.Told.{TellsInTexts, TellsSome, version_told}
+use Rattle.canvas_turns.specs.Told.{AreAll, TellsInTexts, TellsSome, version_told}
 
 -- a front of the texts is the texts of a front
 texts_front : (n : ℕ) (ts : List (List ℕ)) (ms : List Message) → AreMessageTexts ts ms → AreMessageTexts (take n ts) (take n ms)
@@ -40,6 +40,21 @@ get_front zero place xs x is = absurd (none-some x is)
 get_front (suc k) place [] x is = is
 get_front (suc k) zero (y ∷ xs) x is = is
 get_front (suc k) (suc place) (y ∷ xs) x is = get_front k place xs x is
+
+-- what a borrower sees of such texts
+pub borrowed_all : {V : Type 0} (Whispers : List ℕ → Type 0) (text_of : V → List ℕ) (vs lent : List V) → AreAll Whispers (map text_of vs) → lent ≡ vs → AreAll Whispers (map text_of lent)
+borrowed_all {V = V} Whispers text_of vs lent are borrowed = subst (λ (l : List V). AreAll Whispers (map text_of l)) (sym borrowed) are
+
+-- a front of such texts is of such texts
+front_of_all : {V : Type 0} (Whispers : List ℕ → Type 0) (text_of : V → List ℕ) (n : ℕ) (vs : List V) → AreAll Whispers (map text_of vs) → AreAll Whispers (map text_of (take n vs))
+front_of_all Whispers text_of zero vs are = tt
+front_of_all Whispers text_of (suc n) [] are = tt
+front_of_all Whispers text_of (suc n) (v ∷ vs) are = (are.0, front_of_all Whispers text_of n vs are.1)
+
+-- a front of what a borrower sees of such texts is of such texts
+pub front_all : {V : Type 0} (Whispers : List ℕ → Type 0) (text_of : V → List ℕ) (n : ℕ) (vs lent : List V) → AreAll Whispers (map text_of vs) → lent ≡ vs → AreAll Whispers (map text_of (take n lent))
+front_all {V = V} Whispers text_of n vs lent are borrowed =
+    subst (λ (l : List V). AreAll Whispers (map text_of (take n l))) (sym borrowed) (front_of_all Whispers text_of n vs are)
 
 -- the message at a place
 told_at : (told : List Message) (place : ℕ) → place < length told → (last : Message) × (slice_get told place ≡ Some last)

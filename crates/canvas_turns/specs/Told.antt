@@ -1,5 +1,5 @@
 -- What a connection tells unasked.
-use Rattle.std.specs.Prelude.{◌≡◌, ◌⊎◌, ℕ, ◌+◌, ◌<◌, Bool, true, false, List, [], Option, Some, map, slice_get, take}
+use Rattle.std.specs.Prelude.{◌≡◌, ◌⊎◌, ℕ, ◌+◌, ◌<◌, Bool, true, false, List, [], ◌∷◌, Option, Some, map, slice_get, take}
 use Rattle.tungstenite.specs.Content.{ping}
 use Rattle.tungstenite.specs.Failure.{IsIo}
 use Rattle.tungstenite.specs.Socket.{Flushed}
@@ -24,6 +24,11 @@ abbrev pub TellsInTexts : {A : Type 0} → (A → List Message → A → Type 0)
 TellsInTexts Tells old texts versions new =
     (told : List Message) × (n : ℕ) × (0 < n) × Tells old told new × AreMessageTexts texts (take n told) × (versions ≡ map version_told (take n told))
 
+-- each of these texts is such a one
+abbrev pub AreAll : (List ℕ → Type 0) → List (List ℕ) → Type 0
+AreAll Is [] = Unit {0}
+AreAll Is (t ∷ ts) = Is t × AreAll Is ts
+
 module _ {O : Type 0} (contents : O → Option (List ℕ)) where
   -- the peer took some of what was written, and the rest waits in the outbox
   abbrev pub LeavesSome : {I : Type 0} → OpenLine I O → OpenLine I O → Type 0
@@ -32,6 +37,22 @@ module _ {O : Type 0} (contents : O → Option (List ℕ)) where
   -- a ping without bytes joined the output
   abbrev pub Pings : {I : Type 0} → OpenLine I O → OpenLine I O → Type 0
   Pings before after = PutsFrame (contents_of contents) before.writer (ping []) after.writer × (after.reader ≡ before.reader)
+
+module _ {I O : Type 0} (Whispers : List ℕ → Type 0) (contents : O → Option (List ℕ)) where
+  -- such texts joined the output
+  abbrev pub WhispersSome : OpenLine I O → OpenLine I O → Type 0
+  WhispersSome before after = (texts : List (List ℕ)) × AreAll Whispers texts × WritesEach (contents_of contents) before.writer texts after.writer × (after.reader ≡ before.reader)
+
+  -- something was whispered, and the peer took some of what was written; or nothing was
+  abbrev pub MayWhisper : OpenLine I O → OpenLine I O → Type 0
+  MayWhisper before after = (after ≡ before) ⊎ ((mid : OpenLine I O) × WhispersSome before mid × LeavesSome contents mid after)
+
+  -- what is whispered didn't join the output, or didn't leave: memory was refused for it, or the socket failed
+  abbrev pub StopsWhispering : Error → OpenLine I O → OpenLine I O → Type 0
+  StopsWhispering e before after =
+      ((e ≡ OutOfMemory) × (after ≡ before))
+      ⊎ ((texts : List (List ℕ)) × AreAll Whispers texts × StopsWriting (contents_of contents) before.writer texts e after.writer)
+      ⊎ ((mid : OpenLine I O) × WhispersSome before mid × Flushed (contents_of contents) mid.writer after.writer × IsIo e)
 
 module _ {A I O : Type 0} (Tells : A → List Message → A → Type 0) (GoesTo : A → ℕ → A → Type 0) (contents : O → Option (List ℕ)) where
   -- Of what there is to tell, the messages up to this one joined the output, and its client was told all up to the version that this one leads to.

@@ -17,18 +17,24 @@ pub struct Push {
     pub is_held: bool,
 }
 
-/// What serves a connection turn by turn: it replies to messages, tells what is published to a client that wants to be told unasked, and learns
-/// once all that was said has left.
+/// What serves a connection step by step: it replies to messages, tells what is published to a client that wants to be told unasked, and learns
+/// once all that was said has left. Between the steps of one connection it may serve others.
 pub trait Handler: Replier {
     ghost use Rattle.std.specs.Prelude.{ℕ, List};
     ghost use Rattle.canvas_model.specs.Messages as messages;
-    ghost use Rattle.canvas_turns.specs.Told.{TellsInTexts};
+    ghost use Rattle.canvas_turns.specs.Told.{AreAll, TellsInTexts};
 
     /// What it may tell unasked, in this order, and how it stands that has looked for it.
     ghost tells: { Self → List messages.Message → Self → Type 0 };
 
     /// How it stands once its client was told all up to this version.
     ghost goes_to: { Self → ℕ → Self → Type 0 };
+
+    /// Which texts it may whisper: such of what isn't kept, as where the others point.
+    ghost whispers: { List ℕ → Type 0 };
+
+    /// How it may stand, where a connection goes on, that stood so behind its last step.
+    ghost between: { Self → Self → Type 0 };
 
     /// The version up to which its client was told all; `None` if that isn't told unasked.
     fn place(&self) -> Option<u64>;
@@ -41,6 +47,12 @@ pub trait Handler: Replier {
     /// Its client was told all up to this version.
     fn go_to(&mut self, version: u64)
         ensures { goes_to self.old version self.new };
+
+    /// The texts that are whispered now: told unasked, of what isn't kept. None is whispered to a client that isn't told unasked. Errors: out of
+    /// memory.
+    fn whisper(&mut self, alloc: Global) -> Result<Vec<Text>, AllocError>
+        ensures texts { IfOk result (λ texts. AreAll whispers (map text_bytes texts.items)) }
+        ensures stays { self.new ≡ self.old };
 
     /// Called if nothing waits to leave. It is for what a handler keeps that contracts don't see, as bytes of a budget.
     fn rest(&mut self)

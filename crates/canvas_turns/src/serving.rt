@@ -1,11 +1,11 @@
-// A connection, turn by turn, to its end.
-ghost use Rattle.std.specs.Prelude.{◌≡◌, ◌↔◌, IfErr, IfOk, IsTrue, OnOk};
+// A step of a connection.
+ghost use Rattle.std.specs.Prelude.{◌≡◌, ◌↔◌, IfErr, IfOk, IsTrue, OnOk, false};
 ghost use Rattle.canvas_sockets.specs.declared.turning.TurnEnd.TheVariants as turn;
 ghost use Rattle.canvas_turns.specs.Lines.{end_of};
-ghost use Rattle.canvas_turns.specs.Served.{IsAfterTurn, IsStep, IsWaited, ServedInTurns};
-ghost use Rattle.canvas_turns.specs.Told.{MayTell, Pings, StopsTelling};
+ghost use Rattle.canvas_turns.specs.Served.{IsAfterTurn, IsRest, IsStep};
+ghost use Rattle.canvas_turns.specs.Told.{MayTell, MayWhisper, Pings, StopsTelling, StopsWhispering};
 
-use crate::sides::{Inlet, line_over, next_line};
+use crate::sides::Inlet;
 use crate::{Handler, LineEnd, Waits, Woken};
 use bytes::Bytes;
 use canvas_sockets::{Line, TurnEnd, take_turn, write_some};
@@ -13,82 +13,55 @@ use net_idle::MUCH;
 use net_outbox::{Backlog, MUCH_WAITS, Outbox};
 use std::alloc::Global;
 use std::io::{Read, Write};
-use tungstenite::{CloseCode, CloseFrame, Error, Message as Frame, Utf8Bytes, WebSocketConfig};
+use tungstenite::{CloseCode, CloseFrame, Error, Message as Frame, Utf8Bytes};
 
 // How many messages are read before what was written leaves.
 const MOST_READ: u32 = 64;
 
 // What a connection does next.
 #[derive(Clone, Copy, Debug, PartialEq, Eq)]
-enum Next {
+pub(crate) enum Next {
     // It takes a turn.
     Goes,
     // It takes a turn by new sockets.
     Renews,
     // It pings the peer, and takes a turn.
     Pings,
+    // It rests.
+    Rests,
+    // It takes no turn any more, and ends so once all has left.
+    Leaves(LineEnd),
     // It has ended so.
     Ends(LineEnd),
 }
 
-/// Serves a connection of a server, whose handshake is done, until it ends: reads from the one stream, and lets the other take what is written.
-/// Says how it ended.
-///
-/// In each turn it reads messages that have come, at most 64, and none while 256 KiB or more wait to leave. Then the peer takes what it takes
-/// now. Where nothing waits any more, a client that wants to be told unasked is told what is published, until 256 KiB wait. If no more has come,
-/// or too much waits, the peer is waited for. After a closing frame nothing is read, and it ends once all has left, or the peer takes too
-/// little. Once much has passed, new sockets go on, so that none keeps what a large message took.
-pub fn serve_turns<H: Handler, I: Read + Drop, O: Read + Write + Drop, W: Waits>(
-    alloc: Global,
-    handler: &mut H,
-    input: I,
-    output: O,
-    config: WebSocketConfig,
-    waits: &mut W,
-) -> LineEnd
-    ensures { ServedInTurns H.replies H.tells H.goes_to I.remaining O.contents 18446744073709551615 input output result handler.old handler.new }
-{
-    let mut line = line_over(alloc, input, output, config);
-    let mut since = 0;
-    for _turn in 0..u64::MAX {
-        match step(alloc, handler, &mut line, since, waits) {
-            Next::Goes => {}
-            Next::Renews => {
-                since = line.writer.get_ref().taken();
-                line = next_line(alloc, line, config);
-            }
-            Next::Pings => if let Err(error) = ping(alloc, &mut line) {
-                return end_of(&error);
-            },
-            Next::Ends(end) => return end,
-        }
-    }
-    LineEnd::Left
-}
-
-// Takes a turn, lets leave what the peer takes now, and tells what is published. Then it waits, if there is nothing to do now.
-fn step<H: Handler, I: Read + Drop, O: Read + Write + Drop, W: Waits>(
+/// Takes a turn, lets leave what the peer takes now, and tells what is published. Says what the connection does next.
+pub(crate) fn take_step<H: Handler, I: Read + Drop, O: Read + Write + Drop, W: Waits>(
     alloc: Global,
     handler: &mut H,
     line: &mut Line<Inlet<I>, Outbox<O>>,
     since: u64,
     waits: &mut W,
 ) -> Next
-    ensures { IsStep H.replies H.tells H.goes_to I.remaining O.contents result handler.old line.old handler.new line.new }
+    ensures { IsStep H.replies H.tells H.goes_to H.whispers I.remaining O.contents result handler.old line.old handler.new line.new }
 {
     let end = match take_turn(alloc, handler, line, MOST_READ, MUCH_WAITS) {
         Ok(end) => end,
-        Err(error) => return Next::Ends(failed(line, waits, &error)),
+        Err(error) => return Next::Leaves(failed(line, &error)),
     };
     let has_said = line.writer.get_ref().waiting() > 0;
     if let Err(error) = line.writer.flush() {
         return Next::Ends(end_of(&error));
     }
     if has_closed(end) {
-        leave(line, waits);
-        return Next::Ends(LineEnd::Left);
+        return Next::Leaves(LineEnd::Left);
     }
     match tell(alloc, handler, line, waits, has_said) {
+        Ok(true) => return Next::Goes,
+        Ok(false) => {}
+        Err(error) => return Next::Ends(end_of(&error)),
+    }
+    match whisper(alloc, handler, line) {
         Ok(true) => Next::Goes,
         Ok(false) => after_turn(line, waits, end, since),
         Err(error) => Next::Ends(end_of(&error)),
@@ -136,7 +109,30 @@ fn tell<H: Handler, I: Drop, O: Read + Write + Drop, W: Waits>(
     Ok(true)
 }
 
-// What is done after a turn that ended so, behind which nothing was told: the peer is waited for, if there is nothing to do now.
+// Whispers what is whispered now, if nothing waits to leave. Returns whether it whispered something.
+fn whisper<H: Handler, I: Drop, O: Read + Write + Drop>(
+    alloc: Global,
+    handler: &mut H,
+    line: &mut Line<Inlet<I>, Outbox<O>>,
+) -> Result<bool, Error>
+    ensures whispers { IfOk result (λ has. MayWhisper H.whispers O.contents line.old line.new) }
+    ensures nothing { IfOk result (λ has. has ≡ false → line.new ≡ line.old) }
+    ensures stops { IfErr result (λ e. StopsWhispering H.whispers O.contents e line.old line.new) }
+    ensures stays { handler.new ≡ handler.old }
+{
+    if line.writer.get_ref().waiting() > 0 {
+        return Ok(false);
+    }
+    let texts = handler.whisper(alloc)?;
+    if texts.is_empty() {
+        return Ok(false);
+    }
+    write_some(&mut line.writer, &texts, MUCH_WAITS)?;
+    line.writer.flush()?;
+    Ok(true)
+}
+
+// What is done after a turn that ended so, behind which nothing was told: it rests, if there is nothing to do now.
 fn after_turn<I: Drop, O: Drop, W: Waits>(
     line: &Line<Inlet<I>, Outbox<O>>,
     waits: &mut W,
@@ -153,8 +149,8 @@ fn after_turn<I: Drop, O: Drop, W: Waits>(
     }
 }
 
-// Pings the peer.
-fn ping<I: Drop, O: Read + Write + Drop>(
+/// Pings the peer.
+pub(crate) fn ping<I: Drop, O: Read + Write + Drop>(
     alloc: Global,
     line: &mut Line<Inlet<I>, Outbox<O>>,
 ) -> Result<(), Error>
@@ -171,36 +167,26 @@ fn is_renewed<I: Drop, O: Drop>(line: &Line<Inlet<I>, Outbox<O>>, since: u64) ->
     line.reader.get_ref().reader.has_paused() || (outbox.waiting() == 0 && left >= MUCH as u64)
 }
 
-// Waits until the peer may have sent more, or may take more of what waits.
-fn rest<I: Drop, O: Drop, W: Waits>(line: &Line<Inlet<I>, Outbox<O>>, waits: &mut W) -> Next
-    ensures { IsWaited result }
+/// What a connection does that has nothing to do now.
+pub(crate) fn rest<I: Drop, O: Drop, W: Waits>(
+    line: &Line<Inlet<I>, Outbox<O>>,
+    waits: &mut W,
+) -> Next
+    ensures { IsRest result }
 {
     let outbox = line.writer.get_ref();
     match waits.wait(outbox.taken(), outbox.waiting()) {
         Woken::Goes => Next::Goes,
         Woken::Pings => Next::Pings,
+        Woken::Rests => Next::Rests,
         Woken::Silent => Next::Ends(LineEnd::Silent),
         Woken::Slow => Next::Ends(LineEnd::Slow),
     }
 }
 
-// Lets leave what waits, for as long as the peer takes it.
-fn leave<I: Drop, O: Read + Write + Drop, W: Waits>(
+// How a connection ends that failed. A client whose message is too large is told.
+fn failed<I: Drop, O: Read + Write + Drop>(
     line: &mut Line<Inlet<I>, Outbox<O>>,
-    waits: &mut W,
-) {
-    for _turn in 0..u64::MAX {
-        let is_over = line.writer.flush().is_err() || line.writer.get_ref().waiting() == 0;
-        if is_over || matches!(rest(line, waits), Next::Ends(_)) {
-            return;
-        }
-    }
-}
-
-// How a connection ended that failed. A client whose message is too large is told, and what was answered before leaves.
-fn failed<I: Drop, O: Read + Write + Drop, W: Waits>(
-    line: &mut Line<Inlet<I>, Outbox<O>>,
-    waits: &mut W,
     error: &Error,
 ) -> LineEnd
     ensures { result ≡ end_of error.now }
@@ -208,12 +194,11 @@ fn failed<I: Drop, O: Read + Write + Drop, W: Waits>(
     if let Error::Capacity(_) = error {
         let _ = line.writer.write(Frame::Close(Some(too_big())));
     }
-    leave(line, waits);
     end_of(error)
 }
 
-// How a connection ended by this error.
-fn end_of(error: &Error) -> LineEnd
+/// How a connection ended by this error.
+pub(crate) fn end_of(error: &Error) -> LineEnd
     ensures { result ≡ end_of error.now }
 {
     match error {

@@ -7,6 +7,8 @@ pub enum Woken {
     Goes,
     /// It is time to see whether the peer is still there.
     Pings,
+    /// It has nothing to do for now.
+    Rests,
     /// It has sent nothing for too long.
     Silent,
     /// It takes too little of what waits for it.
@@ -32,13 +34,13 @@ pub enum LineEnd {
     Broken,
 }
 
-/// What waits between the turns of a connection. Nothing is promised of it: what it waits for no contract sees.
+/// Who knows when a connection goes on. Nothing is promised of it: when that is no contract says.
 pub trait Waits {
-    /// Waits until the peer may have sent more, or, if bytes wait, may take more. So many bytes have left by now, and so many wait.
+    /// Says what a connection does that has nothing to do now, without waiting for it. So many bytes have left by now, and so many wait.
     fn wait(&mut self, taken: u64, waiting: usize) -> Woken;
 
-    /// Returns whether it is time to tell a client unasked what is published after this version; if it is, something that is published from now
-    /// on ends the next wait. It isn't a moment after it was told something, unless something was just said to it.
+    /// Returns whether it is time to tell a client unasked what is published after this version; if it is, the connection goes on once something
+    /// is published from now on. It isn't a moment after it was told something, unless something was just said to it.
     fn listens(&mut self, version: u64, has_said: bool) -> bool;
 
     /// So many messages were told unasked; none, if there are some that can't be told now, and are to be asked for in a moment.

@@ -50,7 +50,7 @@ WritesChecked (Document address) written after = WritesShelf written after
 -- at, and writes no output. Only an import reads its input.
 abbrev pub CarriesOut : Invocation → ℕ → (read left written after faults told : Option (List ℕ)) → Type 0
 CarriesOut (Serve options) status read left written after faults told =
-    (left ≡ read) × (after ≡ written) × IsServedUntilFault (served_of options.place) (place_bytes options.place) options.serving.port options.serving.clients options.serving.stop_file status faults told
+    (left ≡ read) × (after ≡ written) × IsServedUntilFault (served_of options.place) (place_bytes options.place) options.serving.port options.serving.workers options.serving.stop_file status faults told
 CarriesOut (Show place layout) status read left written after faults told =
     (left ≡ read) × Shows place layout status written after faults told
 CarriesOut (Import place) status read left written after faults told =

@@ -309,7 +309,7 @@ where
         + 'static,
     F: Write,
     ensures { IsServedUntilFault (served_of options.place) (place_bytes options.place)
-        options.serving.port options.serving.clients options.serving.stop_file
+        options.serving.port options.serving.workers options.serving.stop_file
         result (F.contents faults.old) (F.contents faults.new) }
 {
     let port = options.serving.port;

@@ -4,15 +4,11 @@
 //! says, and no reply may depend on it.
 #![tactic(auto)]
 
-ghost use Rattle.std.specs.Io.KnownBytes.{ReadConsumes};
-ghost use Rattle.std.specs.Io.{ReadsAtMost};
-
 mod messages;
 
 use messages::Messages;
 use std::alloc::Global;
 use std::cell::{Cell, RefCell};
-use std::io::{self, Read};
 
 /// The binary messages that have come on a connection, from the oldest one that wasn't handed out yet. It keeps no more of them than the last
 /// read of the stream gave, and none of more than 16 KiB.
@@ -34,16 +30,8 @@ impl Inbox {
         }
     }
 
-    /// Empties it for a new connection.
-    pub fn clear(&self) {
-        self.taken.set(0);
-        if let Ok(mut messages) = self.messages.try_borrow_mut() {
-            *messages = Messages::new(self.alloc);
-        }
-    }
-
-    // Records bytes that were read from the stream.
-    fn pass(&self, bytes: &[u8]) {
+    /// Records bytes that were read from the stream. Whoever hands its messages out has handed out all that came before them.
+    pub fn pass(&self, bytes: &[u8]) {
         self.taken.set(0);
         if let Ok(mut messages) = self.messages.try_borrow_mut() {
             messages.pass(bytes);
@@ -65,32 +53,17 @@ impl Inbox {
         self.taken.set(run.len().saturating_sub(1));
         run
     }
-}
 
-/// A stream after its handshake, whose inbox records what is read from it.
-#[derive(Drop)]
-pub struct Recorded<'a, S> {
-    stream: S,
-    inbox: &'a Inbox,
-}
-
-impl<'a, S> Recorded<'a, S> {
-    /// Returns a stream that this inbox records. Nothing was read from it since the handshake.
-    pub fn new(stream: S, inbox: &'a Inbox) -> Recorded<'a, S> {
-        inbox.clear();
-        Recorded { stream, inbox }
-    }
-}
-
-impl<S: Read> Read for Recorded<'_, S> {
-    ghost remaining = { λ r. S.remaining r.stream };
-
-    fn read(&mut self, buf: &mut [u8]) -> io::Result<usize>
-        ensures bound { ReadsAtMost result buf.new }
-        ensures bytes { ReadConsumes (S.remaining self.old.stream) (S.remaining self.new.stream) result buf.new }
-    {
-        let count = self.stream.read(buf)?;
-        self.inbox.pass(&buf[..count]);
-        Ok(count)
+    /// Takes the messages that came last, before one of them is handed out: at most so many, as far as all begin with `start`.
+    pub fn take_ahead(&self, start: &[u8], most: usize) -> Vec<Vec<u8>> {
+        if self.taken.get() > 0 {
+            return Vec::new(self.alloc);
+        }
+        let Ok(mut messages) = self.messages.try_borrow_mut() else {
+            return Vec::new(self.alloc);
+        };
+        let run = messages.take_front(start, most);
+        self.taken.set(run.len());
+        run
     }
 }

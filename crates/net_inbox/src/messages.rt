@@ -144,12 +144,20 @@ impl Messages {
     /// Takes this message, if it is the oldest, and those after it, at most 64 together, as far as all begin with `start`. If it isn't the
     /// oldest, all are dropped.
     pub(crate) fn take_run(&mut self, message: &[u8], start: &[u8]) -> Vec<Vec<u8>> {
-        let mut run = Vec::new(self.alloc);
         if !self.is_first(message) {
             self.whole.clear();
-            return run;
         }
-        for _count in 0..MOST_RUN {
+        let run = self.take_front(start, MOST_RUN);
+        if run.is_empty() {
+            let _ = self.whole.pop_front();
+        }
+        run
+    }
+
+    /// Takes the oldest messages, at most so many, as far as all begin with `start`.
+    pub(crate) fn take_front(&mut self, start: &[u8], most: usize) -> Vec<Vec<u8>> {
+        let mut run = Vec::new(self.alloc);
+        for _count in 0..most {
             if !self.is_next(start) {
                 break;
             }
@@ -159,9 +167,6 @@ impl Messages {
             if run.push(text).is_err() {
                 break;
             }
-        }
-        if run.is_empty() {
-            let _ = self.whole.pop_front();
         }
         run
     }

@@ -1,5 +1,5 @@
 //! An inbox: which messages it has come together, for streams that give few bytes at a time.
-use net_inbox::{Inbox, Recorded};
+use net_inbox::Inbox;
 use std::alloc::Global;
 use std::io::{self, ErrorKind, Read};
 use std::test::Fail;
@@ -29,11 +29,12 @@ impl MaskKeys for Keys {
     }
 }
 
-// Bytes to read, at most `most` at a time. At their end a read would wait.
+// Bytes to read, at most `most` at a time, which an inbox records. At their end a read would wait.
 #[derive(Drop)]
 struct Pieces<'a> {
     bytes: &'a [u8],
     most: usize,
+    inbox: &'a Inbox,
 }
 
 impl Read for Pieces<'_> {
@@ -42,7 +43,9 @@ impl Read for Pieces<'_> {
             return Err(io::Error::from(ErrorKind::WouldBlock));
         }
         let most = buf.len().min(self.most);
-        self.bytes.read(&mut buf[..most])
+        let count = self.bytes.read(&mut buf[..most])?;
+        self.inbox.pass(&buf[..count]);
+        Ok(count)
     }
 }
 
@@ -64,20 +67,20 @@ fn sent(alloc: Global, long: usize) -> Result<Vec<u8>, Fail> {
     Ok(client.into_inner().writer)
 }
 
-// How many messages each message has come together with, up to the first that this stream doesn't have.
-fn runs_of<S: Read + Drop>(
-    alloc: Global,
-    inbox: &Inbox,
-    stream: Recorded<'_, S>,
-    most: usize,
-) -> Result<Vec<usize>, Fail> {
+// How many messages each message has come together with, if `most` bytes come at a time.
+fn runs(alloc: Global, bytes: &[u8], most: usize) -> Result<Vec<usize>, Fail> {
+    let inbox = Inbox::new(alloc);
     let stream = Duplex {
-        reader: stream,
+        reader: Pieces {
+            bytes,
+            most,
+            inbox: &inbox,
+        },
         writer: io::sink(),
     };
     let mut server = WebSocket::from_raw_socket(alloc, stream, NoMask, Role::Server, None);
     let mut runs = Vec::new(alloc);
-    for _message in 0..most {
+    for _message in 0..bytes.len() {
         let Ok(message) = server.read() else {
             return Ok(runs);
         };
@@ -87,18 +90,6 @@ fn runs_of<S: Read + Drop>(
         }
     }
     Ok(runs)
-}
-
-// The same, if `most` bytes come at a time.
-fn runs(alloc: Global, bytes: &[u8], most: usize) -> Result<Vec<usize>, Fail> {
-    let inbox = Inbox::new(alloc);
-    runs_in(alloc, &inbox, bytes, most)
-}
-
-// The same, with this inbox.
-fn runs_in(alloc: Global, inbox: &Inbox, bytes: &[u8], most: usize) -> Result<Vec<usize>, Fail> {
-    let stream = Recorded::new(Pieces { bytes, most }, inbox);
-    runs_of(alloc, inbox, stream, bytes.len())
 }
 
 // Checks whether the messages come together so, if `most` bytes come at a time.
@@ -141,5 +132,32 @@ fn pieces_of_each_size(rt: HostRuntime) -> Result<(), Fail> {
     for most in 1..200 {
         assert!(rt; has_each_once(rt.alloc(), most)?, "{most}");
     }
+    Ok(())
+}
+
+// Checks whether the edits that come first are taken ahead, at most so many, and none of them again once it is handed out.
+fn are_taken_ahead(alloc: Global, most: usize, wanted: usize) -> Result<bool, Fail> {
+    let inbox = Inbox::new(alloc);
+    let bytes = sent(alloc, 0)?;
+    inbox.pass(&bytes);
+    let none = inbox.take_ahead(EDIT, most);
+    let join = inbox.take_run(b"join", EDIT);
+    let run = inbox.take_ahead(EDIT, most);
+    let again = inbox.take_ahead(EDIT, most);
+    let first = inbox.take_run(b"edit 1", EDIT);
+    Ok(
+        none.is_empty()
+            && join.is_empty()
+            && run.len() == wanted
+            && again.is_empty()
+            && first.is_empty(),
+    )
+}
+
+#[test]
+fn taken_ahead(rt: HostRuntime) -> Result<(), Fail> {
+    assert!(rt; are_taken_ahead(rt.alloc(), 64, 3)?);
+    assert!(rt; are_taken_ahead(rt.alloc(), 2, 2)?);
+    assert!(rt; are_taken_ahead(rt.alloc(), 1, 1)?);
     Ok(())
 }

@@ -1,7 +1,7 @@
-//! A connection that is served turn by turn, over streams that give and take few bytes at a time.
+//! A connection that is served step by step, over streams that give and take few bytes at a time.
 use crate::rooms::Room;
 use crate::sockets::lines_to;
-use canvas_turns::{LineEnd, Waits, Woken, serve_turns};
+use canvas_turns::{Connection, Handler, LineEnd, Step, Waits, Woken};
 use memory_sockets::{heard, sent};
 use std::alloc::Global;
 use std::io::{self, ErrorKind, Read, Write};
@@ -13,6 +13,9 @@ const LINES: &str = "[\"join\",2]\n[\"ask\",1,0]\n[\"asks\"]\n[\"ask\",1,1]";
 
 // How often the peer is waited for.
 const WAITS: u32 = 1000;
+
+// How many steps are taken, at most.
+const MOST_STEPS: u32 = 10_000;
 
 // Bytes to read, seven at a time. At every other call it would wait.
 #[derive(Drop)]
@@ -83,7 +86,7 @@ impl Waits for Peer {
     fn told(&mut self, _count: usize) {}
 }
 
-// What a new server sends turn by turn to a client that sends these bytes and is silent then, and how that ends.
+// What a new server sends step by step to a client that sends these bytes and is silent then, and how that ends.
 fn turned(alloc: Global, bytes: &[u8]) -> Result<(Vec<u8>, LineEnd), Fail> {
     let mut room = Room::new(alloc)?;
     let mut told = Vec::new(alloc);
@@ -96,12 +99,29 @@ fn turned(alloc: Global, bytes: &[u8]) -> Result<(Vec<u8>, LineEnd), Fail> {
         takes: false,
     };
     let config = WebSocketConfig::default();
-    let mut peer = Peer { left: WAITS };
-    let end = serve_turns(alloc, &mut room, input, output, config, &mut peer);
+    let connection = Connection::new(alloc, input, output, config);
+    let end = served(alloc, &mut room, connection);
     Ok((heard(alloc, &told)?, end))
 }
 
-// Checks whether turn by turn the same is sent as otherwise.
+// Serves a connection step by step, and says how it ends. It is left after so many steps.
+fn served<H: Handler, I: Read + Drop, O: Read + Write + Drop>(
+    alloc: Global,
+    handler: &mut H,
+    connection: Connection<I, O>,
+) -> LineEnd {
+    let mut peer = Peer { left: WAITS };
+    let mut open = connection;
+    for _step in 0..MOST_STEPS {
+        match open.step(alloc, handler, &mut peer) {
+            Step::Goes(next) | Step::Rests(next) => open = next,
+            Step::Ends(end) => return end,
+        }
+    }
+    LineEnd::Left
+}
+
+// Checks whether step by step the same is sent as otherwise.
 fn says_the_same(alloc: Global, lines: &str) -> Result<bool, Fail> {
     let bytes = sent(alloc, lines, Role::Client)?;
     let (told, end) = turned(alloc, &bytes)?;

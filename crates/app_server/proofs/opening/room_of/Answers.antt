@@ -1,4 +1,4 @@
-use Rattle.std.proofs.Common.{◌≡◌, ◌∙◌, IsTrue, ap, rules, subst, sym}
+use Rattle.std.proofs.Common.{IsTrue, rules, subst}
 use Rattle.canvas_journal.specs.Meaning.{IsCountedByEntries}
 use Rattle.app_server.proofs.opening.room_of.Goals as goal
 
