@@ -2,7 +2,7 @@
 """run.py LUGCURRANT [SECONDS [KILLS [CHECKS [STARTS]]]] [GROUP..]: tries `lugcurrant serve` as its users and its attackers would, each group on a folder of its
 own; only the named groups, where some are named.
 
-- reuse: 1,000 clients one after the other over 4 seats; each joins, edits and is answered.
+- reuse: 1,000 clients one after the other, where 4 may be served at once; each joins, edits and is answered.
 - full: 64 clients at once, and the 65th is answered 503; once one has left, the next is served.
 - quiet: a peer that says nothing, one that sends half a head, one that sends it byte by byte, and one that closes its half: none
   keeps a seat or the port. A client that is silent past --idle gives its seat back.
@@ -126,11 +126,11 @@ def reuse(room):
     metrics = server.get("/metrics")[2].decode()
     require("lugcurrant_connections_total 1000\n" in metrics, metrics)
     server.kill()
-    return "1000 clients over 4 seats"
+    return "1000 clients, one after the other, where 4 may be served"
 
 
 def full(room):
-    server = Server(room, "--quiet")
+    server = Server(room, "--clients", "64", "--quiet")
     clients = [Client(server.port) for _ in range(64)]
     require(all(client.status == 101 for client in clients), "a client of 64 wasn't served")
     for client in clients:
@@ -141,9 +141,9 @@ def full(room):
     require(status == 200 and b"clients 64\n" in body, "health:", status, body)
     clients.pop().leave()
     after = Client(server.port)
-    require(after.status == 101 and after.join() > 0, "the seat that was left isn't given again")
+    require(after.status == 101 and after.join() > 0, "the place that was left isn't given again")
     server.kill()
-    return "64 at once, 503 for the 65th, and its seat once one has left"
+    return "64 at once, 503 for the 65th, and its place once one has left"
 
 
 def quiet(room):
@@ -1182,7 +1182,9 @@ def sentences(room):
         done = subprocess.run([PROGRAM, "serve", os.path.join(above, "few"), "--port", "0"], capture_output=True, text=True, timeout=60,
                               preexec_fn=lambda: resource.setrlimit(resource.RLIMIT_NOFILE, (most, most)))
         require(done.returncode == 4 and "no more files can be opened" in done.stderr, "with", most, "open files:", done.returncode, done.stderr)
-    fault(2, "--clients", "serve", room, "--clients", "65")
+    fault(2, "--clients", "serve", room, "--clients", "100001")
+    fault(2, "--clients", "serve", room, "--clients", "0")
+    fault(2, "--workers", "serve", room, "--workers", "65")
     fault(2, "--port", "serve", room, "--port", "70000")
     fault(2, "Usage", "serve")
     for origin in ("canvas.example", "https://canvas.example/", "https://Canvas.example", "https://canvas.example/page", "https:canvas.example",

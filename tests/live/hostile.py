@@ -8,7 +8,7 @@ import threading
 import time
 
 import shared
-from peers import BROKEN, LIMIT, MIB, PROGRAM, SILENT, SLOW, TOO_LARGE, Peer, cheap_frame, edit_frame, until, watched
+from peers import BROKEN, LIMIT, MIB, PROGRAM, SILENT, SLOW, TOO_LARGE, Peer, Server, cheap_frame, edit_frame, until, watched
 from shared import framed, require, text_of
 
 # The bounds are kilobytes that the server may take more.
@@ -124,6 +124,88 @@ def counts(room):
         until(lambda: server.metric("clients") == 2, "a seat isn't free again")
         require(server.metric("live_clients") == 2, "after five of seven live clients have gone there are counted", server.metric("live_clients"))
     return "pushes and live clients are counted, also those that go"
+
+
+def hears(peer, wanted):
+    """Waits until this peer is told this last of what clients tell of themselves."""
+    end = time.monotonic() + LIMIT
+    while wanted not in peer.heres:
+        require(time.monotonic() < end, "isn't told", wanted, "but", peer.heres[-3:])
+        peer.read(1)
+
+
+CROWD, EACH = 1000, 25  # clients, and the kilobytes that each may take
+
+
+def crowd(room):
+    notes = []
+    with watched(room, notes, CROWD * EACH) as server:
+        before = server.forget_peak()
+        peers = [Peer(server).begin() for _ in range(CROWD - 2)]
+        require(server.metric("live_clients") == CROWD, "of a crowd are live", server.metric("live_clients"))
+        late = Peer.__new__(Peer)
+        shared.Client.__init__(late, server.port, timeout=LIMIT)
+        require(late.status == 503, "one above --clients is answered", late.head)
+        after = server.peak()
+        peers[0].edit(1, "set", [0, 0], "a", 1)
+        for peer in peers:
+            end = time.monotonic() + LIMIT
+            while not any(message[0] == "entry" and message[2][:2] == [peers[0].name, 1] for message in peer.told):
+                require(time.monotonic() < end, "an edit doesn't reach each of a crowd")
+                peer.read(1)
+        for number, peer in enumerate(peers):
+            (peer.leave if number % 2 else peer.reset)()
+        until(lambda: server.metric("clients") == 2, "a place isn't free again")
+        until(lambda: server.metric("live_clients") == 2, "live clients that have gone are counted")
+    return f"{CROWD} live clients take {(after - before) / CROWD:.1f} kB each, all see an edit, and one more gets 503; {notes[0]}"
+
+
+HERES = 1000
+
+
+def here(room):
+    notes = []
+    with watched(room, notes, SMALL, "--workers", "2") as server:
+        one, two, three, plain = Peer(server).begin(), Peer(server).begin(), Peer(server).begin(), Peer(server)
+        plain.name = plain.join()
+        refused = [(plain, ["here", plain.name, 1], 1), (one, ["here", two.name, 1], 1), (one, ["here", one.name, "x" * 1023], 8), (one, ["here", one.name], 9),
+                   (one, ["here", one.name, 1, 2], 9), (one, ["here", -1, 1], 9), (one, ["here", "1", 1], 9), (one, ["hear", one.name, 1], 9), (one, ["here", 1 << 40, 1], 9)]
+        for peer, words, reason in refused:
+            peer.say(*words)
+            answer = peer.answers(1)
+            require(answer == [["no", reason]], words, "is answered", answer)
+        one.send(b'["here",%d,"%s"]' % (one.name, b"x" * MIB))
+        require(one.answers(1) == [["no", 8]], "a value of 1 MiB isn't refused")
+        for value in (None, True, -1.5e300, "\u00e9\n", [], {"x": [1, {"y": "z"}]}, "x" * 1022):
+            one.say("here", one.name, value)
+            require(one.answers(1) == [["idle"]], value, "isn't taken")
+            for peer in (one, two, three):
+                hears(peer, ["here", one.name, value])
+        two.say("here", two.name, {"at": 1})
+        two.answers(1)
+        late = Peer(server).begin()
+        hears(late, ["here", one.name, "x" * 1022])
+        hears(late, ["here", two.name, {"at": 1}])
+        three.heres.clear()
+        begun = time.monotonic()
+        for number in range(HERES):
+            one.say("here", one.name, number)
+            if number % 10 == 9:
+                one.answers(10)
+                three.read(0)
+        seconds = time.monotonic() - begun
+        hears(three, ["here", one.name, HERES - 1])
+        told = [message[2] for message in three.heres if message[1] == one.name]
+        require(told == sorted(told) and len(told) <= 31 * (seconds + 1), HERES, "in", seconds, "seconds were told", len(told), "times")
+        two.say("live", two.name, two.version)
+        two.answers(1)
+        one.leave()
+        two.reset()
+        hears(three, ["here", one.name, None])
+        hears(three, ["here", two.name, None])
+        require(not plain.read(0.1) and not plain.heres, "a client that isn't live is told", plain.heres)
+        require("here" not in shared.call(PROGRAM, "log", room).decode(), "presence is kept")
+    return f"{HERES} in {seconds:.1f} s were told {len(told)} times, the last one too; {len(refused) + 1} refused; null once its connection has ended; {notes[0]}"
 
 
 WRITES, TOGETHER, SENDERS = 20, 64, 8
@@ -685,4 +767,4 @@ def burst(room):
     return f"of {BURST} clients that ask at once for answers of {size / 1e6:.1f} MB {full} are answered No 7, and the others are disconnected; {notes[0]}"
 
 
-GROUPS = (garbage, words, counts, together, large, silent, deaf, pings, trickle, busy, resets, slow, ninth, resting, hoarders, filled, burst)
+GROUPS = (garbage, words, here, crowd, counts, together, large, silent, deaf, pings, trickle, busy, resets, slow, ninth, resting, hoarders, filled, burst)

@@ -68,12 +68,13 @@ class Server(shared.Server):
 
 
 class Peer(shared.Client):
-    """A client that sends anything. The last messages of answers go to `ends`, entries and copies to `told`."""
+    """A client that sends anything. The last messages of answers go to `ends`, entries and copies to `told`, what others tell of themselves to `heres`."""
 
     def __init__(self, server, room=None, timeout=LIMIT):
         super().__init__(server.port, timeout=timeout, room=room)
         require(self.status == 101, "a client is answered", self.head)
         self.name, self.version, self.done, self.told, self.ends = 0, 0, 0, [], []
+        self.heres = []
 
     def begin(self, version=None):
         """Joins, and becomes a live client from this version on, or from the current one."""
@@ -131,6 +132,8 @@ class Peer(shared.Client):
             message = json.loads(payload)
             if message[0] in shared.LAST:
                 self.ends.append(message)
+            elif message[0] == "here":
+                self.heres.append(message)
             else:
                 self.told.append(message)
                 self.follow(message)

@@ -7,6 +7,8 @@ all groups are run.
   the end all clients show what the folder holds, and each edit is in the log once. `run.py LUGCURRANT 1 SEED storm` repeats a go, but for its timing.
 - garbage: messages that the server can't read are answered by No 9, frames that break the protocol end a connection, after the answers before them.
 - words: spellings of `live`, unknown ids, versions above the server's; thousands of `live` in one write.
+- here: what clients tell of themselves reaches all live ones, the last always, at most 30 a second of each; null at the end; what is refused.
+- crowd: a thousand live clients; each sees an edit; they take at most 25 kB each.
 - counts: the metrics count live clients and pushes.
 - together: edits that come at once share a sync, also those of several clients; other messages between them are answered in their order.
 - large: messages of 2 MiB, and of a byte more, from eight clients at once.
