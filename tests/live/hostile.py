@@ -354,7 +354,9 @@ def silent(room):
             cut += 1
         require(server.ended(BROKEN) == cut, "of", cut, "connections that were closed within a frame ended", server.ended(BROKEN))
         require(server.ended(SILENT) == 0 or time.monotonic() - begun > IDLE, "a silent connection ends too soon")
-        until(lambda: server.ended(SILENT) == len(peers), "not all connections that are silent within a frame end")
+        # What is pushed to a live one that reads nothing may fill its buffers before.
+        until(lambda: server.ended(SILENT) + server.ended(SLOW) == len(peers), "not all connections that are silent within a frame end")
+        require(server.ended(SLOW) <= len(HALVES), "connections that wait for nothing took too little:", server.ended(SLOW))
         seconds = time.monotonic() - begun
         require(server.ended() == len(peers) + cut and server.metric("clients") == 2, "other connections have ended too")
     return f"{len(peers)} connections that are silent within a frame end after {seconds:.0f} s, {cut} that are closed within one end at once; {notes[0]}"
@@ -706,11 +708,17 @@ def big_entries(server):
 
 
 def ask_beside(server, version, found):
-    """A client asks from this version. Adds the end of its answer and the seconds to `found`."""
+    """A client asks from this version until it isn't answered No 7. Adds the seconds of the first answer, whether that was No 7, and the seconds of the
+    last to `found`."""
     peer = Peer(server)
     name, begun = peer.join(), time.monotonic()
-    end = peer.ask("ask", name, version)[-1]
-    found.append((end, time.monotonic() - begun))
+    is_refused = peer.ask("ask", name, version)[-1] == ["no", 7]
+    first = last = time.monotonic() - begun
+    while is_refused and peer.ask("ask", name, version)[-1] != ["idle"]:
+        require(last < LIMIT, "a client is answered No 7 without an end")
+        time.sleep(0.25)
+        last = time.monotonic() - begun
+    found.append((is_refused, first, last))
     peer.leave()
 
 
@@ -726,20 +734,20 @@ def filled(room):
         with sipping(holders, 4096, 0.25):
             time.sleep(SLOW_SPAN + 1)
             require(server.ended(SLOW) == 0, "a client that reads 16 kB a second is disconnected, and no other one waits")
-            more = [threading.Thread(target=ask_beside, args=(server, version, found)) for _ in range(WAITING + 1)]
+            more = [threading.Thread(target=ask_beside, args=(server, version, found)) for _ in range(WAITING)]
             for thread in more:
                 thread.start()
             for thread in more:
                 thread.join(LIMIT)
-        noes, served = ([seconds for end, seconds in found if end == wanted] for wanted in (["no", 7], ["idle"]))
-        require(len(noes) == 1 and len(served) == WAITING, "of", WAITING + 1, "clients for whose answers there is no room, the answers end with", found)
-        require(noes[0] < SOON and max(served) < 3 * SLOW_SPAN, "clients for whose answers there is no room are answered after", noes, served, "s")
+        require(len(found) == WAITING and all(is_refused and first < SOON and last < 3 * SLOW_SPAN for is_refused, first, last in found),
+                "of", WAITING, "clients for whose answers there is no room, the answers come so:", found)
+        served = [last for _, _, last in found]
         require(0 < server.ended(SLOW) <= len(holders), "of", len(holders), "slow readers were disconnected", server.ended(SLOW))
         for peer in holders:
             peer.reset()
         until(lambda: server.metric("clients") == 2, "a seat isn't free again")
-    return (f"{len(holders)} clients that read 16 kB a second hold answers of {size / 1e6:.1f} MB; of {WAITING + 1} more one is answered No 7 after {noes[0]:.2f} s, and the "
-            f"others are served after {min(served):.1f} to {max(served):.1f} s; {notes[0]}")
+    return (f"{len(holders)} clients that read 16 kB a second hold answers of {size / 1e6:.1f} MB; {WAITING} more are answered No 7 at once, and "
+            f"are served after {min(served):.1f} to {max(served):.1f} s; {notes[0]}")
 
 
 BURST = 40

@@ -22,7 +22,7 @@ all groups are run.
 - ninth: eight clients read a byte a second of their copies of 10 MB; a ninth one joins, and has its own copy.
 - resting: twelve clients, one after the other, join, have copies of 10 MB of their own, and stay.
 - hoarders: sixteen clients join, ask for copies of 10 MB, and read nothing.
-- filled: slow readers hold answers of 64 MiB; of five more that ask one is answered No 7, and the others once slow readers are disconnected.
+- filled: slow readers hold answers of 64 MiB; four more that ask are answered No 7 at once, and served once slow readers are disconnected.
 - burst: forty clients ask for answers of 16 MB at once, and read nothing.
 
 All but storm also bound the server's memory, and report the milliseconds after which edits of one other client arrive at another (median, 95th percentile),
