@@ -109,6 +109,13 @@ impl<'a, N: RoomName, D: Drop, W: Wait + Clock + Drop, T: Terms<N> + Drop> LiveS
         self.until = until;
     }
 
+    /// Serves no connection from now on: a socket is closed once nobody has it.
+    pub(crate) fn end_step(&mut self)
+        ensures { self.new ≡ self.old }
+    {
+        self.socket = None;
+    }
+
     /// From now on its client is told from this place on, if it is told unasked.
     pub(crate) fn go_to_place(&mut self, place: Option<Place>)
         ensures { self.new ≡ record self.old { place = place } }

@@ -382,6 +382,7 @@ where
             Stepped::Ends(end)
         }
     };
+    seat.end_step();
     flags.swap(&peer.flags);
     stepped
 }
