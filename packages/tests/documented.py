@@ -20,7 +20,7 @@ import sys
 HERE = pathlib.Path(__file__).resolve().parents[1]
 TYPES = ["js/types/index.d.ts", "js/types/api.d.ts", "react/types/index.d.ts"]
 # Members that other modules of the package for JavaScript call, and no program.
-INTERNAL = {"Flow.reset", "Flow.startedAnew", "Signals.soon", "Signals.wasSet"}
+INTERNAL = {"Flow.reset", "Flow.startedAnew", "Presence.heard", "Presence.lost", "Signals.soon", "Signals.wasSet"}
 DECLARED = re.compile(r"(?:export )?(?:declare )?(class|interface|type|const|function) (\w+)")
 MEMBER = re.compile(r"(?:(?:static|readonly|private|get|set) )*(\w+)")
 

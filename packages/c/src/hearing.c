@@ -532,6 +532,8 @@ static uint32_t hear_answer(lugcurrant_flow *flow, struct sent *head, uint8_t le
 
 static uint32_t hear(lugcurrant_flow *flow, uint8_t letter, lugcurrant_span message, double now)
 {
+    if (letter == HERE) /* what another client shows of itself. It answers nothing */
+        return LUGCURRANT_DONE;
     bool is_part = letter == ENTRY || letter == COPY;
     struct sent *head = flow->fifo.count > 0 ? lugcurrant_list_at(&flow->fifo, 0) : NULL;
     if (is_part && flow->told_id != 0 && (head == NULL || head->what != ASK)) /* unasked. Who begins anew asks for all by itself */

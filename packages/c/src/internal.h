@@ -119,7 +119,7 @@ static const double FIRST_WAIT = 1000; /* milliseconds before what a server coul
 /* The limit if a program sets none: so many edits no client makes. */
 #define ENDLESS UINT64_MAX
 
-enum { ENTRY = 'e', COPY = 'c', IDLE = 'i' }; /* the third byte of ["entry", ["copy", ["idle" */
+enum { ENTRY = 'e', COPY = 'c', IDLE = 'i', HERE = 'h' }; /* the third byte of ["entry", ["copy", ["idle", ["here" */
 
 /* A time that never comes. */
 #define NEVER 1e300

@@ -7,6 +7,9 @@
 //
 // Once an ask has brought all, the server is asked to tell the rest unasked (`live`, docs/clients.md). If it does, the connection is live: entries and
 // copies come between answers, and nothing is asked but whether the server is still there. An older server answers No 9, and asks go on.
+//
+// On a live connection the client shows the others what it was given by `show` (`here`, docs/clients.md), and hears what they show. Only the last value
+// counts, so what comes too soon or before the connection is live waits, and a later value takes its place.
 import { NO_REASONS, REFUSALS, STATES } from './api.js';
 import { ClientError, textOfBytes } from './client.js';
 import { changeOf, isShown, members, remake } from './remake.js';
@@ -17,6 +20,7 @@ const MOST_AHEAD = 4;                             // asks at once where a round 
 const MOST_WAIT = 10000;                          // milliseconds before what a server couldn't keep is sent again
 const PROVEN = 3, PROVEN_AFTER = 2000;            // asks that must miss an edit that was answered, and for how long
 const MISSED_AFTER = 700;                         // milliseconds after which a live connection is asked for an edit that was answered and hasn't come
+const SHOWN_EVERY = 34, MOST_SHOWN = 16;           // milliseconds between two values that are shown: at most 30 a second; and how many may be under way
 const OBSERVER = '["client",[4294967295,0,0,0],[],[[[0,0],"document",null,[]]]]';          // a client of an id that no server gives
 
 export class Flow {
@@ -39,6 +43,7 @@ export class Flow {
     this.dropping = 0;                            // the reason of the No for which an edit must be replaced, or 0
     this.dropped = 0n;                            // the number of that edit
     this.emptied = 0n;                            // the number of the last one that was replaced
+    this.shown = null;                            // the JSON of what the client shows of itself; null if it never did
     this.events = [];
     this.reset();
   }
@@ -68,6 +73,10 @@ export class Flow {
     this.told = null;                             // the id for which it does: another one than the client's until the next `live` is answered
     this.liveAt = 0;                              // when `live` may be sent; never while one is under way, or where the server has no such word
     this.isOlder = false;                         // it has none
+    this.isShowing = false;                       // what is shown is to be sent
+    this.showAt = 0;                              // when it may be
+    this.showing = 0;                             // how many values are under way
+    this.hasHere = null;                          // whether the server has the word for it, once that is known
   }
 
   // A connection is open; it is lost.
@@ -76,6 +85,9 @@ export class Flow {
 
   // Something is to be sent, or heard: no pause is waited out.
   wake(now) { if (this.isOpen && !this.#isTold) { this.askAt = Math.min(this.askAt, now); this.pause = this.leastPause; } }
+
+  // Shows the others this JSON on each live connection from now on.
+  show(json) { this.shown = json; this.isShowing = true; }
 
   // How many edits the server hasn't said to have.
   get unsent() {
@@ -96,6 +108,7 @@ export class Flow {
     else {
       if (!this.anew && !this.isFull && !this.dropping) this.#edits(out, now);
       this.#live(out, now);
+      this.#show(out, now);
       this.#ask(out, now);
     }
     return out;
@@ -110,6 +123,7 @@ export class Flow {
     if (this.#mayAsk()) waits.push(this.askAt - now);
     if (this.holdUntil > now && Number(this.client.waiting)) waits.push(this.holdUntil - now);
     if (this.#mayLive()) waits.push(this.liveAt - now);
+    if (this.#mayShow) waits.push(this.showAt - now);
     return waits.length ? Math.max(0, Math.min(...waits)) : null;
   }
 
@@ -150,6 +164,16 @@ export class Flow {
     this.liveAt = Infinity;
     this.askAt = now + this.beat;
     this.#push(out, 'live', encoder.encode(`["live",${id},${version}]`), { id });
+  }
+
+  get #mayShow() { return this.isShowing && this.isLive && this.hasHere !== false && this.showing < MOST_SHOWN; }
+
+  #show(out, now) {
+    if (!this.#mayShow || now < this.showAt) return;
+    this.isShowing = false;
+    this.showAt = now + SHOWN_EVERY;
+    this.showing += 1;
+    this.#push(out, 'here', encoder.encode(`["here",${this.client.id},${this.shown}]`));
   }
 
   // Whether what is published comes unasked, or will once `live` is answered.
@@ -193,6 +217,7 @@ export class Flow {
   }
 
   #hear(bytes, now) {
+    if (bytes[2] === HERE) return this.#heardHere(bytes);
     const head = this.fifo[0], letter = bytes[2], isPart = letter === ENTRY || letter === COPY;         // of ["welcome", ["entry", ["copy", ["idle"], ["no"
     if (isPart && this.told !== null && head?.what !== 'ask') return this.anew ? undefined : this.#part(null, letter, bytes, now);        // unasked
     if (!head) return this.#fault('an answer came that nobody has asked for');
@@ -205,6 +230,7 @@ export class Flow {
     if (head.what === 'edit') this.#judgedTo(head, now);
     else if (head.what === 'ask') this.#answered(head, now);
     else if (head.what === 'live') this.#goneLive(head, now);
+    else if (head.what === 'here') { this.showing -= 1; this.hasHere = true; }
     else { this.events.push({ type: 'took' }); this.#online(); this.askAt = now; }
     return undefined;
   }
@@ -250,7 +276,27 @@ export class Flow {
   #goneLive({ id }, now) {
     this.told = id;
     this.isLive = id === this.client.id;
+    this.isShowing ||= this.shown !== null && this.shown !== 'null';
     this.#rest(now);
+  }
+
+  // Another client shows this of itself. What comes back of the own is no news, also under the id that was given up.
+  #heardHere(bytes) {
+    let message = null;
+    try { message = JSON.parse(textOfBytes(bytes)); } catch { /* it is no message then */ }
+    const [word, client, value] = Array.isArray(message) ? message : [];
+    if (word !== 'here' || !Number.isInteger(client) || message.length !== 3) return this.#fault('what others show of themselves can not be read');
+    this.hasHere = true;
+    if (client !== this.client.id && client !== this.told) this.events.push({ type: 'here', client, value });
+    return undefined;
+  }
+
+  // The server has no memory for it now, or no such word; or it can't take this value, and keeps the last one.
+  #notShown(reason, now) {
+    if (reason === 9) this.hasHere ??= false;
+    if (reason !== 7) return;
+    this.isShowing = true;
+    this.showAt = now + 1000;
   }
 
   // Where what comes unasked is for the id that was given up, a copy counts that one's edits. All is told again from the next `live` on.
@@ -356,6 +402,7 @@ export class Flow {
     const name = reasonName in STATES ? reasonName : 'fault';     // no server that keeps the protocol sends the others here
     this.#left0(head);
     if (head.what === 'live') return this.#notLive(reason, now);
+    if (head.what === 'here') return this.#notShown(reason, now);
     if (reason === 1) return this.#unknown();
     if (head.what === 'ask') {
       this.askAt = now + 1000;
@@ -395,7 +442,11 @@ export class Flow {
     return undefined;
   }
 
-  #left0(head) { if (head.what === 'edit') this.#left(head); else if (head.isCounted) this.asking -= 1; }
+  #left0(head) {
+    if (head.what === 'edit') this.#left(head);
+    else if (head.what === 'here') this.showing -= 1;
+    else if (head.isCounted) this.asking -= 1;
+  }
 
   #hold(now) { this.holdUntil = now + this.holdFor; this.holdFor = Math.min(2 * this.holdFor, MOST_WAIT); }
 
@@ -574,7 +625,7 @@ export class Flow {
   }
 }
 
-const ENTRY = 0x65, COPY = 0x63, IDLE = 0x69;
+const ENTRY = 0x65, COPY = 0x63, IDLE = 0x69, HERE = 0x68;
 const UNJUDGED = [3, 4, 8, 9];                   // reasons of a No to an edit that wasn't judged
 const encoder = new TextEncoder();
 const askText = (id, version) => encoder.encode(`["ask",${id},${version}]`);

@@ -3,6 +3,7 @@ export { FAULTS, FINAL_STATES, HEARD, KINDS, NO_REASONS, NUMBERS, REFUSALS, STAT
 export { Client, ClientError, Colour, ROOT, compile, readValue, valueText } from './client.js';
 export { Flow } from './flow.js';
 export { Link, warnBeforeClosing } from './link.js';
+export { Presence } from './presence.js';
 export { Signal, Signals } from './signals.js';
 export { Kept, ReplayError, lockOfBrowser, shelfOfBrowser } from './keep.js';
 export { changeOf, isShown, members, remake } from './remake.js';

@@ -2,10 +2,13 @@
 // hears stands in flow.js; here are the sockets, the clock, the guard of the document's identity, and what is told.
 import { FINAL_STATES, STATES } from './api.js';
 import { Flow } from './flow.js';
+import { Presence } from './presence.js';
 
 const PATIENCE = 120000;                                        // milliseconds without a message while an answer is awaited
 // The milliseconds within which a WebSocket must open.
 const OPENING = 10000;
+// Those after which one that the link has closed counts as ended, if the server doesn't end it.
+const CLOSING = 2000;
 const now = () => performance.now();
 
 // The URL with a slash at its path's end, so that what is below it is the server's: a proxy may have it below a path.
@@ -19,7 +22,8 @@ class LinkEvent extends Event { constructor(type, detail) { super(type); this.de
 
 // Events: 'state'; 'change' after the client took something or made an edit; 'refused' { version, number, edit, id, name, words } for an edit that
 // the server refused; 'anew' { made, lost, unsure } where it went on as another client; 'settled' where nothing waits and nothing new is to be had; 'unsent'
-// when their count is another. `on(name, act)` is addEventListener that gives the detail, and answers a function that ends it.
+// when their count is another; 'presence' { client, value } for what another client shows of itself. `on(name, act)` is addEventListener that gives the
+// detail, and answers a function that ends it.
 export class Link extends EventTarget {
   // How a WebSocket is found where none is given: the package's entry for node or browsers says so.
   static findWebSocket = async () => globalThis.WebSocket;
@@ -28,7 +32,7 @@ export class Link extends EventTarget {
   #sleep = null; #keptTo = 0n; #keptTurn = 0; #keeping = false; #isPumping = false; #isSoon = false; #unsent = 0; #ready; #settling = []; #silent = null; #isSettled = false; #fault = null;
 
   // `options`: `document` the identity where it is known, or false to go without the guard; `follow` to begin anew where the server has another one; `kept` what keeps the client; `WebSocket`; `state`,
-  // `changed`, `refused`, `anew` as functions, in place of events; and numbers (index.d.ts).
+  // `changed`, `refused`, `anew`, `presence` as functions, in place of events; and numbers (index.d.ts).
   constructor(client, url, options = {}) {
     super();
     this.client = client;
@@ -43,6 +47,7 @@ export class Link extends EventTarget {
     this.#patience = options.patience ?? PATIENCE;
     this.#pauses = { retry: options.retry ?? 300, most: options.mostRetry ?? 10000 };
     this.#flow = new Flow(client, options);
+    this.presence = new Presence((json) => { this.#flow.show(json); this.#soon(); }, (change) => this.#fire('presence', change));
     if (this.#kept) this.#flow.limit = this.#keptTo;
     this.#ready = deferred();
     this.ready = this.#ready.promise;
@@ -51,6 +56,7 @@ export class Link extends EventTarget {
     if (options.changed) this.on('change', (own) => options.changed(own));
     if (options.refused) this.on('refused', options.refused);
     if (options.anew) this.on('anew', options.anew);
+    if (options.presence) this.on('presence', options.presence);
     this.#unwatch = client.watch((what) => { if (what === 'edit') this.#edited(); });
     this.done = this.#run();
   }
@@ -228,7 +234,7 @@ export class Link extends EventTarget {
   // Talks on this connection until it ends. Whether that went well, so that another one may be tried soon.
   #talk(socket) {
     return new Promise((resolve) => {
-      let isWell = false;
+      let isWell = false, isOver = false;
       this.#flow.state = 'connecting';
       socket.onmessage = ({ data }) => {
         if (this.#socket !== socket) return;
@@ -238,14 +244,29 @@ export class Link extends EventTarget {
         this.#pump();
       };
       socket.onerror = () => {};
-      socket.onclose = () => { if (this.#socket === socket) this.#socket = null; clearTimeout(this.#timer); clearTimeout(this.#silent); this.#flow.lost(); resolve(isWell); };
+      socket.onclose = () => {
+        if (isOver) return;
+        isOver = true;
+        if (this.#socket === socket) this.#socket = null;
+        clearTimeout(this.#timer);
+        clearTimeout(this.#silent);
+        this.#flow.lost();
+        this.presence.lost();
+        resolve(isWell);
+      };
       if (socket.readyState > 1) { this.#socket = null; resolve(false); return; }
       this.#flow.open(now());
       this.#pump();
     });
   }
 
-  #drop() { const socket = this.#socket; this.#socket = null; clearTimeout(this.#timer); socket?.close(); }
+  #drop() {
+    const socket = this.#socket;
+    this.#socket = null;
+    clearTimeout(this.#timer);
+    if (socket) closeSoon(socket);
+    this.presence.lost();
+  }
 
   // ---- sending ----
 
@@ -274,7 +295,7 @@ export class Link extends EventTarget {
       const wait = this.#flow.due(now());
       if (wait !== null) this.#timer = setTimeout(() => this.#pump(), wait);
       clearTimeout(this.#silent);
-      if (this.#flow.fifo.length) this.#silent = setTimeout(() => socket.close(), this.#patience);
+      if (this.#flow.fifo.length) this.#silent = setTimeout(() => closeSoon(socket), this.#patience);
     }
     this.#count();
   }
@@ -315,6 +336,7 @@ export class Link extends EventTarget {
       else if (event.type === 'state') { this.#tell(event.state, event.words); if (event.state === 'fault') this.#drop(); }
       else if (event.type === 'anew') { this.#forgetKept(0n); isChanged = true; this.#fire('anew', event); }
       else if (event.type === 'caught up') this.#caughtUp();
+      else if (event.type === 'here') this.presence.heard(event.client, event.value);
     }
     if (isChanged) this.#fire('change', false);
   }
@@ -327,6 +349,11 @@ export class Link extends EventTarget {
     this.#isSettled = true;
     this.#fire('settled', this);
   }
+}
+
+function closeSoon(socket) {
+  socket.close();
+  setTimeout(() => socket.onclose(), CLOSING).unref?.();
 }
 
 function deferred() {

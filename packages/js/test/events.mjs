@@ -122,6 +122,21 @@ test('`anew` has what was made again, what was lost, and the new ids', async () 
   end();
 });
 
+test('a server that never ends the connection keeps no link', async () => {
+  const server = new FakeServer(), WebSocket = socketsTo(server);
+  WebSocket.prototype.close = function close() { this.readyState = 2; };
+  const { link, client, told } = await linked(server, { WebSocket });
+  await link.ready;
+  link.offline = true;
+  client.set(ROOT, 'a', 1);
+  link.offline = false;
+  for (let k = 0; k < 50 && link.unsent; k += 1) await new Promise((resolve) => { setTimeout(resolve, 100); });
+  assert.deepEqual([link.state, link.unsent, client.text()], ['online', 0, server.text()]);
+  link.close();
+  await link.done;
+  assert.deepEqual(told('state').length, 4);
+});
+
 test('after the end no event comes', async () => {
   const { one: { link, client, events }, page, end } = await furnished();
   end();

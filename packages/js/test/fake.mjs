@@ -83,8 +83,8 @@ export const docOf = (rows) => new Map(rows.map(([id, kind, place, props]) => [w
 export const rowsOf = (doc) => [...doc].map(([id, o]) => [ids(id), o.kind, o.place, [...o.props].sort(([a], [b]) => (a < b ? -1 : 1))]).sort(([a], [b]) => a[0] - b[0] || a[1] - b[1]);
 
 export class FakeServer {
-  constructor({ largest = 1 << 20, dice = Math.random, isLive = false } = {}) {
-    Object.assign(this, { largest, dice, isLive, doc: newDoc(), counters: new Map(), done: new Map(), clients: 0, log: [], floor: 0, trouble: 0, asks: 0, edits: 0, repeats: 0 });
+  constructor({ largest = 1 << 20, dice = Math.random, isLive = false, hasHere = isLive } = {}) {
+    Object.assign(this, { largest, dice, isLive, hasHere, shown: [], doc: newDoc(), counters: new Map(), done: new Map(), clients: 0, log: [], floor: 0, trouble: 0, asks: 0, edits: 0, repeats: 0 });
   }
 
   get version() { return this.log.length; }
@@ -106,7 +106,13 @@ export class FakeServer {
     if (what === 'live') {
       if (this.trouble && this.dice() < 0.3) return ['["no",7]'];
       if (message[2] > this.version) return ['["no",1]'];
-      line.place = { id, version: message[2] };
+      line.place = { id, version: message[2], shown: 0 };
+      return ['["idle"]'];
+    }
+    if (what === 'here') {
+      if (!this.hasHere) return ['["no",9]'];
+      if (line.place?.id !== id) return ['["no",1]'];
+      this.shown.push(message);
       return ['["idle"]'];
     }
     if (what === 'ask') {
@@ -134,9 +140,10 @@ export class FakeServer {
     return this.log.slice(version, version + 64).map((entry, k) => JSON.stringify(['entry', version + k + 1, entry]));
   }
 
-  // What is told next unasked on a connection, if there is news after its place.
+  // What is told next unasked on a connection: news after its place, or what clients show of themselves.
   told({ place }) {
-    if (!place || place.version >= this.version || !this.done.has(place.id)) return [];
+    if (!place || !this.done.has(place.id)) return [];
+    if (place.version >= this.version) return this.shown.slice(place.shown, place.shown = this.shown.length).map((it) => JSON.stringify(it));
     const messages = this.#after(place.id, place.version);
     place.version = JSON.parse(messages.at(-1))[1];
     return messages;

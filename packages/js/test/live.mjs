@@ -205,6 +205,84 @@ async function replaced(hides) {
   assert.deepEqual({ ...one.client.object('0:0').properties }, { a: 1, b: 2, c: 3 });
 }
 
+// A thousand values in a second, and edits between them: at most 30 a second are sent, the last one too, and each answer is counted. Those of the
+// other one are heard, and nothing of the own.
+async function shows() {
+  const server = live(), one = new Line(server, await newClient());
+  one.flow.show('"early"');
+  one.open();
+  const two = await Line.open(server);
+  assert(one.sent.findIndex((message) => message.startsWith('["here"')) > one.sent.findIndex((message) => message.startsWith('["live"')), 'once the connection is live');
+  for (const it of [one, two]) it.pass(500);
+  assert.deepEqual(server.shown.splice(0), [['here', 1, 'early']]);
+  one.told.length = two.told.length = 0;
+  two.place.shown = one.place.shown = 0;
+  one.asks();
+  for (let k = 0; k < 1000; k += 1) {
+    one.flow.show(String(k));
+    if (k % 100 === 0) one.client.set('0:0', 'a', k);
+    one.pass(1);
+  }
+  one.pass(100);
+  two.turn().turn();
+  const values = server.shown.map(([, , value]) => value), heard = two.told.filter(({ type }) => type === 'here');
+  assert(values.length >= 25 && values.length <= 31 && values.at(-1) === 999, `${values.length} are sent, the last one ${values.at(-1)}`);
+  assert.deepEqual(heard.map(({ client, value }) => [client, value]), values.map((value) => [1, value]));
+  assert.deepEqual([one.told.filter(({ type }) => type === 'here'), one.flow.fifo, one.flow.showing, one.flow.isSettled, one.asks()], [[], [], 0, true, 0]);
+  one.flow.lost();
+  one.open();
+  one.pass(500);
+  assert.deepEqual(server.shown.slice(values.length), [['here', 1, 999]], 'it is shown again on the next connection');
+}
+
+// A server that goes live and can't show: it is asked once a connection, and nothing else changes. One that lies ends the flow.
+async function showsNothing() {
+  const server = new FakeServer({ isLive: true, hasHere: false, dice: () => 1 }), one = await Line.open(server);
+  one.pass(500);
+  for (let k = 0; k < 50; k += 1) { one.flow.show(String(k)); one.pass(40); }
+  assert.deepEqual([one.sent.filter((message) => message.startsWith('["here"')).length, one.flow.isLive, one.flow.isSettled, one.flow.state], [1, true, true, 'online']);
+  const old = await Line.open(new FakeServer({ dice: () => 1 }));
+  old.pass(500);
+  for (let k = 0; k < 50; k += 1) { old.flow.show(String(k)); old.pass(40); }
+  assert(!old.sent.some((message) => message.startsWith('["here"')) && old.flow.isSettled, 'a connection that is not live has no presence');
+  for (const lie of ['["here"]', '["here",1]', '["here","1",1]', '["here",1,2,3]', '["hear",1,2]', '["here",1,']) {
+    const two = await Line.open(live());
+    two.pass(500);
+    two.hear([lie]);
+    assert.equal(two.flow.state, 'fault', lie);
+  }
+}
+
+// What can't be shown now is shown later. A value that the server can't take hinders no later one.
+async function showsLater() {
+  const server = live(), one = await Line.open(server), answer = server.answer.bind(server), noes = ['["no",7]', null, '["no",9]', '["no",8]', '["no",1]'];
+  server.answer = (message, line) => { const no = message.startsWith('["here"') ? noes.shift() : null; return no ? [no] : answer(message, line); };
+  one.pass(500);
+  one.flow.show('1');
+  one.pass(900);
+  assert.deepEqual(server.shown, []);
+  one.pass(200);
+  assert.deepEqual(server.shown.splice(0), [['here', 1, 1]]);
+  for (let k = 2; k < 6; k += 1) { one.flow.show(String(k)); one.pass(50); }
+  assert.deepEqual([server.shown, one.flow.state, one.flow.isLive], [[['here', 1, 5]], 'online', true]);
+}
+
+// Answers that don't come hold up the values, and each is counted when it comes, also once the client has become another one.
+async function showsSlowly() {
+  const server = live(), one = await Line.open(server), under = () => one.flow.fifo.filter(({ what }) => what === 'here').length;
+  one.pass(500);
+  for (let k = 0; k < 40; k += 1) { one.now += 40; one.flow.show(String(k)); one.flow.outgoing(one.now); }
+  assert.deepEqual([under(), one.flow.due(one.now) > 100], [16, true]);
+  one.flow.beginAnew('stranger', { scan: true });
+  for (let k = 0; k < 16; k += 1) one.hear(['["idle"]']);
+  assert.equal(one.flow.showing, 0);
+  one.pass(1000);
+  assert.deepEqual([one.flow.isLive, one.client.id, server.shown.at(-1)], [true, 2, ['here', 2, 39]]);
+  one.told.length = 0;
+  one.hear(['["here",2,1]', '["here",3,null]', '["here",3,{"a":[]}]']);
+  assert.deepEqual(one.flow.events.splice(0).map(({ client, value }) => [client, value]), [[3, null], [3, { a: [] }]]);
+}
+
 await goesLive();
 await settles();
 await olderServer();
@@ -216,4 +294,8 @@ await twins(true);
 await copyOfTheOldId();
 await replaced(false);
 await replaced(true);
-console.log(`11 things on a live connection, ${overWhat()}`);
+await shows();
+await showsNothing();
+await showsLater();
+await showsSlowly();
+console.log(`15 things on a live connection, ${overWhat()}`);

@@ -245,6 +245,27 @@ export interface Anew {
   ids: ReadonlyMap<ObjectId, ObjectId>;
 }
 
+/** What another client shows of itself now. */
+export interface PresenceChange {
+  /** Its id. */
+  client: number;
+  /** What it shows: JSON of any form, as another program made it. Null if it shows nothing any more, or is not known to be connected. */
+  value: unknown;
+}
+
+/** What the clients of a document show of themselves while they are connected, as cursors and names: `link.presence`. Nothing of it is kept. */
+export declare class Presence {
+  private constructor();
+  /** What the others show, by the ids of their clients, as a Map that stays as it is. It is empty without a connection, and with an older server. */
+  readonly others: ReadonlyMap<number, unknown>;
+  /**
+   * Shows the others this value, JSON of at most 1,024 bytes, in place of the last one; null for nothing. It is sent once the link has caught up, at most
+   * 30 times a second, the last one always, and again on each later connection. Throws a TypeError if the value is no JSON, and a RangeError if it is too
+   * large, or lists and objects in it are more than 100 deep.
+   */
+  set(value: unknown): void;
+}
+
 /** The events of a link, and what each has in `detail`. */
 export interface LinkEvents {
   /** The state or its words are others. */
@@ -259,6 +280,8 @@ export interface LinkEvents {
   settled: Link;
   /** The number of edits that the server hasn't acknowledged is another one. */
   unsent: number;
+  /** Another client shows something else, or nothing any more. */
+  presence: PresenceChange;
 }
 
 /** An event of a link. */
@@ -309,6 +332,8 @@ export interface LinkOptions extends FlowOptions {
   refused?(refusal: Refusal): void;
   /** Called after the client has become another one. */
   anew?(anew: Anew): void;
+  /** Called if another client shows something else. */
+  presence?(change: PresenceChange): void;
 }
 
 /** A client's connection to a server, made again where it is lost. */
@@ -327,6 +352,8 @@ export declare class Link extends EventTarget {
   readonly words: string;
   /** The identity of the document, once it is known. */
   readonly document: string | null;
+  /** What this client shows the others, and they show. */
+  readonly presence: Presence;
   /** When the client has an id, and has heard what there is. */
   readonly ready: Promise<Link>;
   /** When the link has ended. */
@@ -418,7 +445,7 @@ export declare function lockOfBrowser(name: string, milliseconds?: number): Prom
 /** In node: a shelf in a file, with a lock beside it. */
 export declare function shelfOfFile(path: string): Shelf;
 
-/** What came of a message: `took`, `refused`, `state`, `anew` or `caught up`, and what belongs to it. */
+/** What came of a message: `took`, `refused`, `state`, `anew`, `caught up` or `here`, and what belongs to it. */
 export interface FlowEvent { type: string; [more: string]: unknown }
 /** What a link says and hears, without sockets and clocks. */
 export declare class Flow {
@@ -438,6 +465,8 @@ export declare class Flow {
   lost(): void;
   /** Lets the next ask be sent at once. */
   wake(now: number): void;
+  /** Shows the others this JSON on each live connection from now on. Events of the type `here` have what they show. */
+  show(json: string): void;
   /** Returns the messages to send now, in order. They count as sent. */
   outgoing(now: number): Uint8Array[];
   /** Returns the milliseconds after which `outgoing` may have more, or null: then something must happen first. */

@@ -1,6 +1,6 @@
 // Hooks for React. Each subscribes to a signal or a link of the package lugcurrant, and returns what that shows now: the same object until it changes, so
 // React renders a component again only if what it shows has changed.
-import { createContext, createElement, useContext, useMemo, useSyncExternalStore } from 'react';
+import { createContext, createElement, useCallback, useContext, useMemo, useSyncExternalStore } from 'react';
 
 const ROOT = '0:0';
 const LinkContext = createContext(null);
@@ -33,6 +33,11 @@ export function useChildren(id = ROOT) {
 export function useConnection() {
   const link = useLink(), connection = useMemo(() => new Connection(link), [link]);
   return useSyncExternalStore(connection.subscribe, connection.read, connection.read);
+}
+
+export function usePresence() {
+  const link = useLink(), subscribe = useCallback((act) => link.on('presence', act), [link]), read = () => link.presence.others;
+  return useSyncExternalStore(subscribe, read, read);
 }
 
 function useSignal(signal) {

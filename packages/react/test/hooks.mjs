@@ -34,7 +34,7 @@ for (const [name, value] of Object.entries({ window, document: window.document, 
 }
 const React = require('react'), { createRoot } = require('react-dom/client'), { act } = require('react-dom/test-utils'), { renderToString } = require('react-dom/server');
 const hooks = await import(pathToFileURL(join(installed, 'src/index.js')));
-const { DocumentProvider, useChildren, useClient, useConnection, useDocument, useLink, useObject } = hooks;
+const { DocumentProvider, useChildren, useClient, useConnection, useDocument, useLink, useObject, usePresence } = hooks;
 const { createElement: h, StrictMode, memo, useLayoutEffect, useState } = React;
 console.log(`React ${React.version}, ${overWhat()}`);
 
@@ -205,6 +205,38 @@ test('the whole document is a Map that stays as it is', async () => {
   assert(!maps.at(-1).has(x) && maps[0].has(x));
   await view.unmount();
   end();
+});
+
+test('who is there is a Map that stays as it is until somebody shows something else', async () => {
+  const server = new FakeServer({ isLive: true }), WebSocket = socketsTo(server), links = [];
+  for (let k = 0; k < 3; k += 1) links.push(new Link(await newClient(), 'ws://127.0.0.1:1/', { document: false, WebSocket, retry: 5 }));
+  const [link, ...others] = links, maps = [], told = () => act(async () => { await turn(60); WebSocket.tell(); await turn(); });
+  for (const it of links) await it.ready;
+  const Here = () => { maps.push(usePresence()); return h('p', null, [...maps.at(-1)].map(([id, value]) => `${id} ${value.name}`).join()); };
+  const before = link.on, open = new Set();
+  link.on = (name, listener) => { const stop = before.call(link, name, listener), it = {}; open.add(it); return () => { open.delete(it); stop(); }; };
+  const view = await mount(link, h(Here), true), { length } = maps;
+  assert.deepEqual([view.text(), open.size], ['<p></p>', 1]);
+  others[0].presence.set({ name: 'Ann' });
+  link.presence.set({ name: 'me' });
+  await told();
+  assert.equal(view.text(), '<p>2 Ann</p>');
+  assert.deepEqual([new Set(maps).size, maps[length - 1].size], [2, 0]);
+  others[1].presence.set({ name: 'Bob' });
+  await told();
+  assert.equal(view.text(), '<p>2 Ann,3 Bob</p>');
+  others[0].presence.set(null);
+  await told();
+  assert.equal(view.text(), '<p>3 Bob</p>');
+  const rendered = maps.length;
+  others[0].client.set(ROOT, 'a', 1);
+  await told();
+  assert.equal(maps.length, rendered, 'an edit renders nothing');
+  await act(async () => { link.offline = true; });
+  assert.equal(view.text(), '<p></p>');
+  await view.unmount();
+  assert.equal(open.size, 0);
+  for (const it of links) it.close();
 });
 
 test('editing needs no render; without a provider the sentence says what to do', async () => {

@@ -25,6 +25,12 @@ export declare function useObject(id: ObjectId | null | undefined): CanvasObject
  */
 export declare function useChildren(id?: ObjectId | null): readonly ObjectId[];
 
+/**
+ * Returns what the other clients show of themselves, by their ids, as a Map that stays as it is. The component renders again if that changes. The own
+ * value is set by `useLink().presence.set`.
+ */
+export declare function usePresence(): ReadonlyMap<number, unknown>;
+
 /** What `useConnection` returns. */
 export interface Connection {
   /** The state of the link. */

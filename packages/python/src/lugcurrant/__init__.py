@@ -18,6 +18,7 @@ from .client import Changes, Client, Heard
 from .flow import Event, Flow
 from .keep import FileShelf, Kept, ReplayError, Shelf
 from .library import ClientError, LibraryMissing
+from .presence import Presence
 from .shown import Shown
 from .tree import Node
 from .values import ROOT, Colour, ObjectId, Value
@@ -27,7 +28,7 @@ if TYPE_CHECKING:
 
 __all__ = [
     "Changes", "Client", "ClientError", "Colour", "Event", "FAULTS", "FileShelf", "Flow", "Heard", "Kept", "LibraryMissing", "Link", "LinkEnded",
-    "NO_REASONS", "Node", "ObjectId", "REFUSALS", "ReplayError", "ROOT", "Shelf", "Shown", "State", "Value", "What", "__version__",
+    "NO_REASONS", "Node", "ObjectId", "Presence", "REFUSALS", "ReplayError", "ROOT", "Shelf", "Shown", "State", "Value", "What", "__version__",
 ]  # fmt: skip
 
 

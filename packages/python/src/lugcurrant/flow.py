@@ -20,6 +20,8 @@ MOST_AHEAD = 4  # asks at once where a round trip's news fill more than one answ
 MOST_WAIT = 10  # seconds before what a server couldn't keep is sent again
 PROVEN, PROVEN_AFTER = 3, 2  # asks that must miss an edit that was answered, and for how long
 MISSED_AFTER = 0.7  # seconds after which a live connection is asked for an edit that was answered and hasn't come
+SHOWN_EVERY = 0.034  # seconds between two values that are shown: at most 30 a second
+MOST_SHOWN = 16  # of them may be under way
 OBSERVER = b'["client",[4294967295,0,0,0],[],[[[0,0],"document",null,[]]]]'  # a client of an id that no server gives
 NEVER = float("inf")
 
@@ -29,7 +31,7 @@ _HELD = (State.DISK_FAILED, State.DISK_FAILED_BEFORE, State.NO_MEMORY)
 
 @dataclass
 class Event:
-    """What came of a message: its `type` is "took", "refused", "state", "anew" or "caught up", and `detail` has what belongs to it."""
+    """What came of a message: its `type` is "took", "refused", "state", "anew", "caught up" or "here", and `detail` has what belongs to it."""
 
     type: str
     detail: dict[str, Any] = field(default_factory=dict)
@@ -100,6 +102,7 @@ class Flow:
         self.dropping = 0  # the reason of the No for which an edit must be replaced, or 0
         self.dropped = 0  # the number of that edit
         self.emptied = 0  # the number of the last one that was replaced
+        self.shown: str | None = None  # the JSON of what the client shows of itself; None if it never did
         self.events: list[Event] = []
         self._reset()
 
@@ -124,6 +127,10 @@ class Flow:
         self.told: int | None = None  # the id for which it does: another one than the client's until the next `live` is answered
         self.live_at = 0.0  # when `live` may be sent; never while one is under way, or where the server has no such word
         self.is_older = False  # it has none
+        self.is_showing = False  # what is shown is to be sent
+        self.show_at = 0.0  # when it may be
+        self.showing = 0  # how many values are under way
+        self.has_here: bool | None = None  # whether the server has the word for it, once that is known
 
     def open(self, now: float) -> None:
         """A connection is open."""
@@ -142,6 +149,11 @@ class Flow:
         if self.is_open and not self._is_told():
             self.ask_at = min(self.ask_at, now)
             self.pause = self.least_pause
+
+    def show(self, value: str) -> None:
+        """Shows the others this JSON on each live connection from now on."""
+        self.shown = value
+        self.is_showing = True
 
     @property
     def unsent(self) -> int:
@@ -169,6 +181,7 @@ class Flow:
             if self.anew is None and not self.is_full and not self.dropping:
                 self._send_edits(out, now)
             self._live(out, now)
+            self._show(out, now)
             self._ask(out, now)
         return out
 
@@ -185,6 +198,8 @@ class Flow:
             waits.append(self.hold_until - now)
         if self._may_live():
             waits.append(self.live_at - now)
+        if self._may_show():
+            waits.append(self.show_at - now)
         return max(0.0, min(waits)) if waits else None
 
     def _hearer(self) -> Client:
@@ -223,6 +238,17 @@ class Flow:
         self.live_at = NEVER
         self.ask_at = now + self.beat
         self._push(out, f'["live",{self.client.id},{self.client.version}]'.encode(), _Sent("live", 0, id=self.client.id))
+
+    def _may_show(self) -> bool:
+        return self.is_showing and self.is_live and self.has_here is not False and self.showing < MOST_SHOWN
+
+    def _show(self, out: list[bytes], now: float) -> None:
+        if not self._may_show() or now < self.show_at:
+            return
+        self.is_showing = False
+        self.show_at = now + SHOWN_EVERY * self.second
+        self.showing += 1
+        self._push(out, f'["here",{self.client.id},{self.shown}]'.encode(), _Sent("here", 0))
 
     def _is_told(self) -> bool:
         """Whether what is published comes unasked, or will once `live` is answered."""
@@ -272,7 +298,9 @@ class Flow:
             self.events.append(Event("caught up"))
 
     def _hear(self, message: bytes, now: float) -> None:
-        letter = message[2:3]  # of ["welcome", ["entry", ["copy", ["idle"], ["no"
+        letter = message[2:3]  # of ["welcome", ["entry", ["copy", ["idle"], ["no", ["here"
+        if letter == b"h":
+            return self._heard_here(message)
         is_part = letter in (b"e", b"c")
         head = self.fifo[0] if self.fifo else None
         if is_part and self.told is not None and (head is None or head.what != "ask"):
@@ -296,6 +324,9 @@ class Flow:
             self._answered(head, now)
         elif head.what == "live":
             self._gone_live(head, now)
+        elif head.what == "here":
+            self._left(head)
+            self.has_here = True
         else:
             self.events.append(Event("took"))
             self._online()
@@ -354,7 +385,28 @@ class Flow:
     def _gone_live(self, head: _Sent, now: float) -> None:
         self.told = head.id
         self.is_live = head.id == self.client.id
+        self.is_showing = self.is_showing or self.shown not in (None, "null")
         self._rest(now)
+
+    def _heard_here(self, message: bytes) -> None:
+        """Another client shows this of itself. What comes back of the own is no news, also under the id that was given up."""
+        try:
+            word, client, value = json.loads(message)
+        except (ValueError, TypeError, RecursionError):
+            word, client, value = "", None, None
+        if word != "here" or type(client) is not int:
+            return self._fault("what others show of themselves can not be read")
+        self.has_here = True
+        if client not in (self.client.id, self.told):
+            self.events.append(Event("here", {"client": client, "value": value}))
+        return None
+
+    def _not_shown(self, reason: int, now: float) -> None:
+        """The server has no memory for it now, or no such word; or it can't take this value, and keeps the last one."""
+        if reason == 9 and self.has_here is None:
+            self.has_here = False
+        if reason == 7:
+            self.is_showing, self.show_at = True, now + self.second
 
     def _is_told_other(self) -> bool:
         """Where what comes unasked is for the id that was given up, a copy counts that one's edits. All is told again from the next `live` on."""
@@ -371,6 +423,8 @@ class Flow:
         if head.what == "edit":
             self.edits -= 1
             self.bytes -= head.size
+        elif head.what == "here":
+            self.showing -= 1
         elif head.counted:
             self.asking -= 1
 
@@ -474,6 +528,8 @@ class Flow:
         self._left(head)
         if head.what == "live":
             return self._not_live(reason, now)
+        if head.what == "here":
+            return self._not_shown(reason, now)
         if reason == 1:
             return self._unknown()
         if head.what == "ask":

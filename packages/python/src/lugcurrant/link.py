@@ -17,8 +17,10 @@ from ._api import FINAL_STATES, SENTENCES, State
 from .client import Changes, Client
 from .flow import ENDLESS, Event, Flow
 from .keep import Kept
+from .presence import Presence
 
 PATIENCE = 120.0  # seconds without a message while an answer is awaited
+CLOSING = 1.0  # seconds for each step of closing a connection; then it counts as ended, if the server doesn't end it
 
 
 class LinkEnded(Exception):
@@ -39,16 +41,19 @@ class Link:
     themselves. `document` is the identity where it is known, or False to go without the guard; `follow` begins anew where the server has another
     document; `kept` keeps the client before an edit is sent.
 
-    The link has the `client`, the server's `url` with a slash at its end, its `state` and why in `words`, and the `document` once it is known.
+    The link has the `client`, the server's `url` with a slash at its end, its `state` and why in `words`, the `document` once it is known, and the
+    `presence` of this client and the others.
 
     The callbacks are called in the event loop: `state` with the link if its state or words are others, `changed` with True after own edits and with
     False after a message of the server, `refused` with the `number`, `edit`, `id`, `name` and `words` of an edit that the server refused, `anew` with
-    `made`, `lost`, `unsure` and `ids` after the client has become another one. A lost connection is made again after `retry` seconds, then after twice
+    `made`, `lost`, `unsure` and `ids` after the client has become another one, `presence` with the id of another client and what it shows of itself,
+    None for nothing any more. A lost connection is made again after `retry` seconds, then after twice
     as long, up to `most_retry`; one without a message for `patience` seconds, while an answer is awaited, is given up. The rest is passed to `Flow`."""
 
     def __init__(self, client: Client, url: str = "ws://127.0.0.1:7411/", *, document: str | bool | None = None, follow: bool = False, kept: Kept | None = None,
                  state: Callable[["Link"], None] | None = None, changed: Callable[[bool], None] | None = None,
                  refused: Callable[[dict[str, Any]], None] | None = None, anew: Callable[[dict[str, Any]], None] | None = None,
+                 presence: Callable[[int, Any], None] | None = None,
                  retry: float = 0.3, most_retry: float = 10.0, patience: float = PATIENCE, **flow: Any) -> None:  # fmt: skip
         self.client = client
         self.url = url if urlsplit(url).path.endswith("/") else url + "/"
@@ -63,6 +68,7 @@ class Link:
         self._callbacks = (state, changed, refused, anew)
         self._retry, self._most_retry, self._patience = retry, most_retry, patience
         self._flow = Flow(client, **flow)
+        self.presence = Presence(self._show, presence or (lambda client, value: None))
         if kept:
             self._flow.limit = 0
         self._offline = self._closed = False
@@ -99,6 +105,7 @@ class Link:
         self._offline = value
         if value and not self._closed and self.state not in FINAL_STATES:
             self._dropped = True
+            self.presence._lost()
             self._tell(State.OFFLINE)
         self._moved.set()
         self._wake.set()
@@ -247,7 +254,7 @@ class Link:
             return False
         url = urljoin(self.url, f"document/{self.document}") if self.document else self.url
         try:
-            socket = await client.connect(url, compression=None, max_size=None, open_timeout=10)
+            socket = await client.connect(url, compression=None, max_size=None, open_timeout=10, close_timeout=CLOSING)
         except Exception as fault:  # each version has errors of its own for a handshake that is refused
             seats = self._guards and (await self._get("health"))[0] == 200
             self._tell(State.NO_SEAT if seats else State.NO_SERVER, "" if seats else f"{SENTENCES[State.NO_SERVER]} ({fault})")
@@ -306,6 +313,7 @@ class Link:
             reader.cancel()
             await asyncio.gather(reader, return_exceptions=True)
             flow.lost()
+            self.presence._lost()
         if self.state in (State.ONLINE, State.CONNECTING) and not self._closed:
             self._tell(State.NO_SERVER, words)
         return was_online
@@ -316,6 +324,10 @@ class Link:
         if what == "edit":
             self._own = True
             self._wake.set()
+
+    def _show(self, value: str) -> None:
+        self._flow.show(value)
+        self._wake.set()
 
     def _keep(self) -> None:
         """An edit is sent once it is kept."""
@@ -334,7 +346,7 @@ class Link:
             took = self._take_event(event) or took
         if took:
             self._change(False)
-        return bool(events)
+        return any(event.type != "here" for event in events)
 
     def _take_event(self, event: Event) -> bool:
         if event.type == "state":
@@ -350,6 +362,8 @@ class Link:
                 self._callbacks[3](event.detail)
         elif event.type == "caught up":
             self._caught_up = True
+        elif event.type == "here":
+            self.presence._heard(event.detail["client"], event.detail["value"])
         return event.type in ("took", "anew") or "change" in event.detail
 
     def _change(self, own: bool) -> None:
