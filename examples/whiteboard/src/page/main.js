@@ -15,6 +15,7 @@ import { drawMarks } from './marks.js';
 import { atMostEvery } from './pace.js';
 import { keepPage, openPage, whenOpened } from './pages.js';
 import { fillPanel } from './panel.js';
+import { placePointers, takePointers } from './pointers.js';
 import { dressIfThere, dropRow, idOfRow } from './rows.js';
 import { chosenIds, isChosen, lastChosen, pruneChosen, whenChosen } from './selection.js';
 import { isSeveral } from './several.js';
@@ -35,7 +36,7 @@ whenChanged(({ changed, gone, reordered }) => {
   for (const id of changed) { draw(objects.get(id)); dressIfThere(id); }
   markStale(reordered);
   const isOther = keepPage() || gone.size > 0 || reordered.size > 0;
-  if (isOther) { drawPage(openPage()); listPage(); forgetGone(); pruneChosen(openPage()); }
+  if (isOther) { drawPage(openPage()); listPage(); forgetGone(); pruneChosen(openPage()); placePointers(); }
   noteChanges(changed, openPage());
   drawMarks();
   if (isOther) fillPanel(); else if ([...changed].some(isChosen)) fillPanelSoon();
@@ -57,6 +58,7 @@ whenSeen(() => {
 
 whenTold('tree', takeReport);
 whenTold('state', (told) => { keepState(told); showStateSoon(told); });
+whenTold('shown', takePointers);
 whenTold('kept', ({ window }) => keeps(window !== null));
 whenTold('changed', () => say(CHANGED));
 whenTold('anew', (told) => say(anewWords(told)));

@@ -31,6 +31,8 @@ export function ask(message) {
   return new Promise((resolve) => { waiters.set(token, resolve); worker.postMessage({ ...message, token }); });
 }
 
+// Shows the others this of the window: JSON, or null.
+export const show = (value) => worker.postMessage({ do: 'show', value });
 export const setOffline = (value) => worker.postMessage({ do: 'offline', value });
 
 // Makes edits, in order: [name, ...arguments] of a call of the client. In place of an id `$` is the last object that these edits created, and `$0`,

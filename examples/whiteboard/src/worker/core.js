@@ -34,7 +34,7 @@ async function open() {
 
 // Its public calls are what the page's messages ask for, by their `do`.
 class Core {
-  #library; #client; #link; #kept; #turn = 0; #reported = 0; #isDue = false; #cost = 0; #here = null; #keeping = null;
+  #library; #client; #link; #kept; #turn = 0; #reported = 0; #isDue = false; #cost = 0; #here = null; #keeping = null; #shown = null;
 
   constructor(library, client, identity, kept) {
     this.#library = library;
@@ -44,6 +44,7 @@ class Core {
       document: identity ?? undefined, kept, state: () => this.#tellState(), changed: () => { this.#soon(); this.#keepSoon(); },
       refused: ({ edit, id, name, words }) => tell({ told: 'refused', by: 'the server', edit, id, code: name, words }),
       anew: ({ made, lost, unsure }) => tell({ told: 'anew', made, lost: lost.length, unsure: unsure.length }),
+      presence: ({ client, value }) => this.#tellShown(client, value),
     });
     this.#link.on('unsent', () => this.#tellState());
     setInterval(() => this.#count(), HERE_EVERY);
@@ -60,6 +61,7 @@ class Core {
   }
 
   offline({ value }) { this.#link.offline = value; }
+  show({ value }) { this.#link.presence.set(value); }
   text({ token }) { tell({ told: 'text', token, text: this.#client.text() }); }
 
   // Reports soon, and if the tree is large no oftener than it can be read with half of the time.
@@ -67,6 +69,15 @@ class Core {
     if (this.#isDue) return;
     this.#isDue = true;
     setTimeout(() => this.report(), Math.min(MOST_PAUSE, Math.max(LEAST_PAUSE, 2 * this.#cost)));
+  }
+
+  // What others show of themselves comes 30 times a second from each.
+  #tellShown(client, value) {
+    if (!this.#shown) {
+      this.#shown = new Map();
+      setTimeout(() => { tell({ told: 'shown', changes: [...this.#shown] }); this.#shown = null; }, LEAST_PAUSE);
+    }
+    this.#shown.set(client, value);
   }
 
   // The link keeps each edit before it sends it. What the server and others say is kept here, so it is there when the page is opened without the server.
