@@ -32,7 +32,7 @@ def message(chance, client, version):
     return text(chance.choice([
         ["welcome", me], ["idle"], ["idle"], ["idle"], ["no", chance.choice([1, 2, 3, 4, 5, 6, 7, 8, 9, 10, 0])],
         ["entry", at, [me, number, change, chance.choice(OUTCOMES)]], ["entry", at, [me, number, change, chance.choice(OUTCOMES)]],
-        ["entry", at, [9, 1, "join", ["joined", 9]]], ["copy", at, number, rows], ["entry"], ["copy"], [], "entry", ["edit", 1, 1, CHANGES[1]],
+        ["entry", at, [9, 1, "join", ["joined", 9]]], ["copy", at, number, rows], ["entry"], ["copy"], ["here", me, 1], ["here"], [], "entry", ["edit", 1, 1, CHANGES[1]],
     ]))  # fmt: skip
 
 
@@ -88,10 +88,30 @@ def play(calls, seed):
     return seen
 
 
+def passes_by(calls):
+    """What other clients show of themselves is passed by, before, among and after answers on a live connection."""
+    client, now = Client(), 0.0
+    flow = c_flow.Flow(calls, client)
+    flow.open(now)
+    for answers in ([["welcome", 1]], [["entry", 1, [0, 0, "join", ["joined", 1]]], ["idle"]], [["idle"]]):
+        assert flow.outgoing(now)
+        for answer in answers:
+            flow.hear(text(["here", 2, {"at": [now, "e"]}]), now)
+            flow.hear(text(answer), now)
+        now += 1
+    client.set(ROOT, "a", 1)
+    assert len(flow.outgoing(now)) == 1
+    for answer in (["here", 1, 5], ["idle"], ["here", 2, None], ["entry", 2, [1, 1, ["set", [0, 0], "a", 1], ["wasset"]]], ["here", 2, "x" * 1022]):
+        flow.hear(text(answer), now)
+    assert (flow.state, client.waiting, client.version, flow.is_settled) == (State.ONLINE, 0, 2, True), (flow.state, client.waiting, client.version)
+    flow.free()
+
+
 def main():
     rounds = int(sys.argv[1]) if len(sys.argv) > 1 else 300
 
     def act(calls):
+        passes_by(calls)
         states = set()
         for seed in range(rounds):
             states |= play(calls, seed)
