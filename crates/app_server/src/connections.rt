@@ -44,8 +44,16 @@ pub(crate) struct Peer {
     /// Whether it is in the list of those that go on now, and of those that listen.
     pub(crate) is_ready: bool,
     pub(crate) is_listed: bool,
-    /// Whether its peer has sent something since its last step.
+    /// Whether its peer has sent something since its last step, and how many bytes were read since it rested.
     pub(crate) has_come: bool,
+    pub(crate) read: usize,
+}
+
+impl Peer {
+    /// Checks whether it may be put in the list of those that go on now.
+    pub(crate) fn may_go(&self, now: u64) -> bool {
+        !self.is_ready && !self.watch.is_tired(now)
+    }
 }
 
 /// Why a connection isn't served.
@@ -144,6 +152,7 @@ fn peer_of(
         is_ready: true,
         is_listed: false,
         has_come: false,
+        read: 0,
     })
 }
 

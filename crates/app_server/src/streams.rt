@@ -32,6 +32,8 @@ pub(crate) struct Socket {
     // True once all that was read was asked for and more: all messages in it were handed out.
     is_dry: Cell<bool>,
     fetched: RefCell<Fetched>,
+    // How many bytes were read since that was asked for.
+    read: Cell<usize>,
     // How many bytes may be read and written in this step, and whether it would have been more.
     left: Cell<usize>,
     is_cut: Cell<bool>,
@@ -53,6 +55,7 @@ impl Socket {
             is_readable: Cell::new(true),
             is_dry: Cell::new(true),
             fetched: RefCell::new(fetched),
+            read: Cell::new(0),
             left: Cell::new(STEP_BYTES),
             is_cut: Cell::new(false),
             error: Cell::new(None),
@@ -73,6 +76,11 @@ impl Socket {
     /// Records that it may be read.
     pub(crate) fn rouse(&self) {
         self.is_readable.set(true);
+    }
+
+    /// Returns how many bytes were read since this was asked the last time.
+    pub(crate) fn take_read(&self) -> usize {
+        self.read.replace(0)
     }
 
     /// A step of its connection begins.
@@ -115,6 +123,7 @@ impl Socket {
         match self.read_some() {
             Ok(bytes) => {
                 self.inbox.pass(&bytes);
+                self.read.set(self.read.get().saturating_add(bytes.len()));
                 *fetched = Fetched { bytes, given: 0 };
             }
             Err(error) => {

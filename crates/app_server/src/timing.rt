@@ -45,8 +45,9 @@ pub(crate) struct Watch {
     // Whether it is to be told something once all messages are answered, and whether something was said to it that it waits for.
     is_late: bool,
     has_said: bool,
-    // When it goes on at the latest.
+    // When it goes on at the latest, and before when it doesn't, as its last step took long.
     due: u64,
+    tired: u64,
 }
 
 impl Watch {
@@ -65,6 +66,7 @@ impl Watch {
             is_late: false,
             has_said: false,
             due: moment.now,
+            tired: 0,
         }
     }
 
@@ -91,6 +93,17 @@ impl Watch {
     /// The millisecond at which it goes on at the latest.
     pub(crate) fn due(&self) -> u64 {
         self.due
+    }
+
+    /// Has it go on at this millisecond, and not before: its last step took long.
+    pub(crate) fn tire(&mut self, until: u64) {
+        self.tired = until;
+        self.due = until;
+    }
+
+    /// Checks whether it doesn't go on yet.
+    pub(crate) fn is_tired(&self, now: u64) -> bool {
+        now < self.tired
     }
 
     // How long it rests at most. None where its peer was silent too long.

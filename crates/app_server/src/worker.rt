@@ -44,6 +44,14 @@ const WHISPER_MILLIS: u64 = 33;
 // How many edits of several connections are judged together.
 const MOST_TOGETHER: usize = 64;
 
+// A connection of which so much was read, and whose step took so long, goes on only after so many times as long, so that others are served
+// meanwhile.
+const MUCH_READ: usize = 256 * 1024;
+
+const LONG_MILLIS: u64 = 20;
+
+const TIRED_FACTOR: u64 = 4;
+
 // How long it rests where its post fails.
 const FAILED_MILLIS: u64 = 50;
 
@@ -140,7 +148,7 @@ impl Round {
         let Some(peer) = self.peers.get_mut(key) else {
             return;
         };
-        if !peer.is_ready && self.ready.push_back(key).is_ok() {
+        if peer.may_go(self.moment.now) && self.ready.push_back(key).is_ok() {
             peer.is_ready = true;
         }
     }
@@ -164,7 +172,7 @@ impl Round {
                 peer.socket.rouse();
                 peer.has_come = true;
             }
-            if !peer.is_ready && self.ready.push_back(key).is_ok() {
+            if peer.may_go(self.moment.now) && self.ready.push_back(key).is_ok() {
                 peer.is_ready = true;
             }
         }
@@ -254,6 +262,7 @@ impl Round {
         let Some(peer) = self.peers.get_mut(key) else {
             return;
         };
+        peer.read = 0;
         if peer.watch.is_late() && !peer.is_ready && self.late.push_back(key).is_ok() {
             peer.is_ready = true;
             return;
@@ -261,6 +270,15 @@ impl Round {
         self.due = self.due.min(peer.watch.due());
         if peer.watch.is_listening() && !peer.is_listed && self.listening.push_back(key).is_ok() {
             peer.is_listed = true;
+        }
+    }
+
+    // Has a connection go on at this millisecond, since its step took long.
+    fn tire(&mut self, key: usize, until: u64) {
+        if let Some(peer) = self.peers.get_mut(key) {
+            peer.read = 0;
+            peer.watch.tire(until);
+            self.due = self.due.min(until);
         }
     }
 
@@ -357,8 +375,10 @@ where
     let Ok(socket) = peer.socket.clone() else {
         return Stepped::Ends(LineEnd::Memory);
     };
-    peer.watch
-        .begin(moment, std::mem::replace(&mut peer.has_come, false));
+    let read = peer.socket.take_read();
+    let has_come = std::mem::replace(&mut peer.has_come, false);
+    peer.read = peer.read.saturating_add(read);
+    peer.watch.begin(moment, has_come || read > 0);
     flags.swap(&peer.flags);
     peer.socket.begin_step();
     seat.begin_step(socket, moment.heard);
@@ -402,11 +422,19 @@ where
     R: Wait + Clock + AllocGlobal + Clone + Drop,
     T: Terms<N> + Drop,
 {
+    let begun = round.millis(rt);
     let Some(peer) = round.peers.get_mut(key) else {
         return;
     };
     peer.is_ready = false;
-    match step(rt.alloc(), means.flags, round.moment, seat, peer) {
+    let stepped = step(rt.alloc(), means.flags, round.moment, seat, peer);
+    let is_much = peer.read >= MUCH_READ;
+    let now = round.millis(rt);
+    let spent = now.saturating_sub(begun);
+    match stepped {
+        Stepped::Goes | Stepped::Rests if is_much && spent >= LONG_MILLIS => {
+            round.tire(key, now.saturating_add(spent.saturating_mul(TIRED_FACTOR)));
+        }
         Stepped::Goes => round.rouse(key),
         Stepped::Rests => round.settle(key),
         Stepped::Ends(end) => if let Some(peer) = round.peers.try_remove(key) {
