@@ -1,0 +1,4 @@
+pub mod Back
+pub mod Fold
+pub mod Again
+pub mod Undo
