@@ -424,7 +424,8 @@ def page(room):
 def module(room):
     """The package as a program."""
     server = Server(os.path.join(room, "module-folder"))
-    shown = subprocess.Popen([sys.executable, "-u", "-m", "lugcurrant", str(server.port)], stdout=subprocess.PIPE, text=True, cwd=PACKAGE)
+    words = [sys.executable, "-u", "-m", "lugcurrant", str(server.port)]
+    shown = subprocess.Popen(words, stdout=subprocess.PIPE, text=True, cwd=PACKAGE, preexec_fn=take_interrupts)
     asyncio.run(draw(server.port))
     text, end = "", threading.Timer(60, shown.kill)
     end.start()
@@ -438,6 +439,11 @@ def module(room):
     trees = "".join(line for line in text.splitlines(keepends=True) if not line.startswith("-- "))  # such lines are the link's states
     require(trees.endswith(server.show()[1]) and "Plan" in trees, "python -m lugcurrant printed", text)
     return f"{trees.count('version ')} trees"
+
+
+def take_interrupts():
+    """An interrupt ends this process, also if a shell in the background has it ignored."""
+    signal.signal(signal.SIGINT, signal.SIG_DFL)
 
 
 async def draw(port):

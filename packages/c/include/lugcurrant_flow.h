@@ -163,7 +163,8 @@ enum {
     LUGCURRANT_FLOW_TOOK = 2,      /* the client took something, so the document or its id may be another */
     LUGCURRANT_FLOW_REFUSED = 3,   /* the server refused an edit of this client, or can't take it */
     LUGCURRANT_FLOW_ANEW = 4,      /* the client has become another one, with another id and its edits made again */
-    LUGCURRANT_FLOW_CAUGHT_UP = 5  /* an answer ended and brought everything that the server had; or the flow is settled again */
+    LUGCURRANT_FLOW_CAUGHT_UP = 5, /* an answer ended and brought everything that the server had; or the flow is settled again */
+    LUGCURRANT_FLOW_PRESENCE = 6   /* another client shows something else of itself, or nothing any more */
 };
 
 /* An edit that was not made again, or was replaced: the JSON of its change (docs/wire.md), with a zero after it. */
@@ -178,6 +179,13 @@ typedef struct lugcurrant_flow_new_id {
     lugcurrant_object_id was;
     lugcurrant_object_id is;
 } lugcurrant_flow_new_id;
+
+/* What another client shows of itself. */
+typedef struct lugcurrant_flow_other {
+    uint32_t client;    /* its id */
+    const char *value;  /* any JSON, with a zero after it */
+    size_t length;      /* of the value */
+} lugcurrant_flow_other;
 
 /* What happened. Only the fields of its type are set, all others are 0. */
 typedef struct lugcurrant_flow_event {
@@ -199,6 +207,10 @@ typedef struct lugcurrant_flow_event {
     size_t unsure_count;                   /* ANEW: their number */
     const lugcurrant_flow_new_id *ids;     /* ANEW: the objects that have another id, by their former ids */
     size_t ids_count;                      /* ANEW: their number */
+
+    uint32_t client;                       /* PRESENCE: the id of the other client */
+    const char *value;                     /* PRESENCE: what it shows, as JSON with a zero after it; null if it has gone or the connection is lost */
+    size_t value_length;                   /* PRESENCE: of the value */
 } lugcurrant_flow_event;
 
 /* Makes a flow for the client, without a connection, in the state LUGCURRANT_STATE_CONNECTING. `options` may be null. The program frees it
@@ -211,7 +223,7 @@ void lugcurrant_flow_free(lugcurrant_flow *flow);
 /* Says that a connection is open. What was under way on the one before is sent again. */
 void lugcurrant_flow_open(lugcurrant_flow *flow, double now);
 
-/* Says that the connection has ended, or that the program closed it. */
+/* Says that the connection has ended, or that the program closed it. No other client is known to be there then: a PRESENCE says so of each. */
 void lugcurrant_flow_lost(lugcurrant_flow *flow);
 
 /* Says that there is something to send or to hear, so that the next ask doesn't wait for its time. After an edit it needn't be called. */
@@ -232,8 +244,8 @@ double lugcurrant_flow_due(const lugcurrant_flow *flow, double now);
  * MEMORY: the message was not taken. Pass it again before the next one. */
 uint32_t lugcurrant_flow_hear(lugcurrant_flow *flow, const uint8_t *bytes, size_t length, double now);
 
-/* Takes the first event that wasn't taken yet. Take all events after each message: the flow keeps those that aren't taken. The lists of an
- * event belong to the flow and are valid until the next call of this function or lugcurrant_flow_free.
+/* Takes the first event that wasn't taken yet. Take all events after each message: the flow keeps those that aren't taken. The lists and the
+ * value of an event belong to the flow and are valid until the next call of this function or lugcurrant_flow_free.
  * After a TOOK the client has left which objects may have changed, as by lugcurrant_receive_and_tell. Read it before the next call of
  * lugcurrant_flow_hear or lugcurrant_flow_next_outgoing. After ANEW any object may have changed, and so after a REFUSED with the edit in `lost`:
  * the client keeps its id and the numbers of its edits, but that one changes nothing now.
@@ -263,6 +275,18 @@ void lugcurrant_flow_set_limit(lugcurrant_flow *flow, uint64_t number);
  * edits under the same id, so an edit in a save may have been judged even if the flow never sent it. Not needed if the program sets a limit,
  * nor for what was saved before the flow was made. */
 void lugcurrant_flow_saved(lugcurrant_flow *flow);
+
+/* Shows the other clients this value in place of the last one: JSON in UTF-8, such as the place of the pointer; null for nothing. Call it as
+ * often as you like: lugcurrant_flow_next_outgoing gives at most 30 a second once the connection is live (docs/clients.md), the last one always,
+ * and the last one again on each later connection. With a server without presence it gives none. Nothing of it is kept.
+ * DONE; NOT_JSON; NO_ROOM (it has more than 1,024 bytes, without blanks); TOO_DEEP (lists and objects in it are more than 100 deep); MEMORY. But for
+ * DONE the last value stays. */
+uint32_t lugcurrant_flow_presence_set(lugcurrant_flow *flow, const char *value, size_t length);
+
+/* Gives what the other clients show, in the order of their ids, and returns their number. `*others` belongs to the flow and is valid until the
+ * next call of lugcurrant_flow_hear, _open, _lost or _free; it is null if there are none, as without a connection. Other programs may show any
+ * JSON. */
+size_t lugcurrant_flow_presence_others(const lugcurrant_flow *flow, const lugcurrant_flow_other **others);
 
 /* Begins anew, as the program knows that the server has another history than the client: the identity of the document is another one
  * (docs/clients.md). Own edits are looked for in the new history first. A client without an id has nothing to begin anew with: nothing

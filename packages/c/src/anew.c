@@ -58,7 +58,7 @@ void lugcurrant_begin_anew(lugcurrant_flow *flow, uint32_t state, bool scans, ui
 
 uint32_t lugcurrant_flow_begin_anew(lugcurrant_flow *flow)
 {
-    if (!lugcurrant_list_reserve(&flow->events, MOST_EVENTS))
+    if (!lugcurrant_reserve_events(flow))
         return LUGCURRANT_MEMORY;
     lugcurrant_forget_anew(flow);
     lugcurrant_begin_anew(flow, LUGCURRANT_STATE_STRANGER, true, lugcurrant_version(flow->client));

@@ -1,8 +1,8 @@
 /* What a link says and hears, without sockets and clocks: which messages to send next on the open connection, and what an answer means.
  * The same machine as packages/js/src/flow.js and packages/python/src/lugcurrant/flow.py. All are tested with the same made-up servers.
  *
- * This file has the state of a flow and its events. outgoing.c has what to send, hearing.c what is heard, and anew.c a client that begins
- * anew.
+ * This file has the state of a flow and its events. outgoing.c has what to send, hearing.c what is heard, presence.c what clients show of
+ * themselves, and anew.c a client that begins anew.
  *
  * What a call needs is reserved before anything is changed, so that a call that is out of memory changes nothing. */
 #include "internal.h"
@@ -39,6 +39,13 @@ static void clear_remaking(struct remaking *remaking)
     remaking->ids.size = sizeof(lugcurrant_flow_new_id);
 }
 
+static void free_queued(struct queued *queued)
+{
+    clear_remaking(&queued->remaking);
+    free(queued->value);
+    queued->value = NULL;
+}
+
 void lugcurrant_forget_fresh(struct anew *anew)
 {
     lugcurrant_free(&anew->fresh);
@@ -57,6 +64,11 @@ void lugcurrant_forget_anew(lugcurrant_flow *flow)
 }
 
 /* ---- events and states ---- */
+
+bool lugcurrant_reserve_events(lugcurrant_flow *flow)
+{
+    return lugcurrant_list_reserve(&flow->events, MOST_EVENTS + flow->others.count);
+}
 
 struct queued *lugcurrant_push_event(lugcurrant_flow *flow, uint32_t type)
 {
@@ -88,15 +100,16 @@ uint32_t lugcurrant_flow_next_event(lugcurrant_flow *flow, lugcurrant_flow_event
 {
     if (flow->events.count == 0)
         return LUGCURRANT_NONE;
-    struct queued queued = *(struct queued *)lugcurrant_list_at(&flow->events, 0);
+    free_queued(&flow->told);
+    flow->told = *(struct queued *)lugcurrant_list_at(&flow->events, 0);
     lugcurrant_list_shift(&flow->events);
-    clear_remaking(&flow->told);
-    flow->told = queued.remaking;
-    *event = queued.event;
-    event->made = flow->told.made;
-    event->lost = items_of(&flow->told.lost, &event->lost_count);
-    event->unsure = items_of(&flow->told.unsure, &event->unsure_count);
-    event->ids = items_of(&flow->told.ids, &event->ids_count);
+    const struct remaking *remaking = &flow->told.remaking;
+    *event = flow->told.event;
+    event->made = remaking->made;
+    event->lost = items_of(&remaking->lost, &event->lost_count);
+    event->unsure = items_of(&remaking->unsure, &event->unsure_count);
+    event->ids = items_of(&remaking->ids, &event->ids_count);
+    event->value = flow->told.value;
     return LUGCURRANT_DONE;
 }
 
@@ -142,6 +155,11 @@ static void reset(lugcurrant_flow *flow)
     flow->told_id = 0;
     flow->live_at = 0;
     flow->is_older = false;
+    flow->is_showing = false;
+    flow->show_at = 0;
+    flow->showing = 0;
+    flow->here = NOT_KNOWN;
+    lugcurrant_forget_others(flow);
 }
 
 static void set_options(lugcurrant_flow *flow, const lugcurrant_flow_options *given)
@@ -181,6 +199,7 @@ lugcurrant_flow *lugcurrant_flow_new(lugcurrant_client *client, const lugcurrant
     flow->words = "";
     flow->fifo.size = sizeof(struct sent);
     flow->events.size = sizeof(struct queued);
+    flow->others.size = sizeof(lugcurrant_flow_other);
     lugcurrant_forget_anew(flow);
     reset(flow);
     return flow;
@@ -191,13 +210,14 @@ void lugcurrant_flow_free(lugcurrant_flow *flow)
     if (flow == NULL)
         return;
     lugcurrant_forget_anew(flow);
-    for (size_t k = 0; k < flow->events.count; k++) {
-        struct queued *queued = lugcurrant_list_at(&flow->events, k);
-        clear_remaking(&queued->remaking);
-    }
+    lugcurrant_forget_others(flow);
+    lugcurrant_list_free(&flow->others);
+    for (size_t k = 0; k < flow->events.count; k++)
+        free_queued(lugcurrant_list_at(&flow->events, k));
     lugcurrant_list_free(&flow->events);
-    clear_remaking(&flow->told);
+    free_queued(&flow->told);
     lugcurrant_list_free(&flow->fifo);
+    free(flow->shown);
     free(flow->message);
     free(flow);
 }

@@ -31,6 +31,8 @@ static void count_out(lugcurrant_flow *flow, const struct sent *end)
     if (end->what == EDIT) {
         flow->edits--;
         flow->bytes -= end->size;
+    } else if (end->what == SHOW) {
+        flow->showing--;
     } else if (end->is_counted) {
         flow->asking--;
     }
@@ -269,6 +271,7 @@ static void hear_live_answered(lugcurrant_flow *flow, const struct sent *live, d
 {
     flow->told_id = live->id;
     flow->is_live = live->id == lugcurrant_id(flow->client);
+    lugcurrant_show_again(flow);
     rest(flow, true, now);
 }
 
@@ -286,6 +289,9 @@ static void hear_end(lugcurrant_flow *flow, const struct sent *end, double now)
         rest(flow, false, now);
     } else if (end->what == GO_LIVE) {
         hear_live_answered(flow, end, now);
+    } else if (end->what == SHOW) {
+        count_out(flow, end);
+        flow->here = HAS_WORD;
     } else {
         lugcurrant_push_event(flow, LUGCURRANT_FLOW_TOOK);
         set_online(flow);
@@ -380,6 +386,8 @@ static void hear_no(lugcurrant_flow *flow, const struct sent *end, uint32_t no, 
     count_out(flow, end);
     if (end->what == GO_LIVE) {
         hear_no_to_live(flow, no, now);
+    } else if (end->what == SHOW) {
+        lugcurrant_hear_no_to_shown(flow, no, now);
     } else if (no == LUGCURRANT_NO_STRANGER) {
         hear_no_stranger(flow);
     } else if (end->what == EDIT) {
@@ -532,8 +540,8 @@ static uint32_t hear_answer(lugcurrant_flow *flow, struct sent *head, uint8_t le
 
 static uint32_t hear(lugcurrant_flow *flow, uint8_t letter, lugcurrant_span message, double now)
 {
-    if (letter == HERE) /* what another client shows of itself. It answers nothing */
-        return LUGCURRANT_DONE;
+    if (letter == HERE) /* it answers nothing */
+        return lugcurrant_hear_shown(flow, message);
     bool is_part = letter == ENTRY || letter == COPY;
     struct sent *head = flow->fifo.count > 0 ? lugcurrant_list_at(&flow->fifo, 0) : NULL;
     if (is_part && flow->told_id != 0 && (head == NULL || head->what != ASK)) /* unasked. Who begins anew asks for all by itself */
@@ -551,7 +559,7 @@ uint32_t lugcurrant_flow_hear(lugcurrant_flow *flow, const uint8_t *bytes, size_
 {
     lugcurrant_span message = {bytes, length};
     bool was_settled = lugcurrant_flow_is_settled(flow);
-    if (!lugcurrant_list_reserve(&flow->events, MOST_EVENTS))
+    if (!lugcurrant_reserve_events(flow))
         return LUGCURRANT_MEMORY;
     uint32_t result = hear(flow, length > 2 ? bytes[2] : 0, message, now);
     if (result == LUGCURRANT_DONE && flow->is_live && !was_settled && lugcurrant_flow_is_settled(flow))

@@ -103,6 +103,10 @@ uint32_t lugcurrant_is_shown(lugcurrant_client *client, lugcurrant_span change, 
 /* Reads the kind of an object that is created, LUGCURRANT_PAGE to LUGCURRANT_TEXT. Returns 0 if the text is none. */
 uint32_t lugcurrant_json_kind(lugcurrant_span text);
 
+/* Copies a JSON text without the blanks between its parts to `into`, which has room for its bytes. Sets `*length` to the number of bytes copied.
+ * DONE; NOT_JSON (it is no JSON in UTF-8); TOO_DEEP (lists and objects in it are more than 100 deep). */
+uint32_t lugcurrant_json_compact(lugcurrant_span text, uint8_t *into, size_t *length);
+
 /* Makes the change of an edit again in another client. `ids` has the objects that were created again, as lugcurrant_flow_new_id by their
  * former ids; a creation adds to it. Returns DONE; why it can't be made; or MEMORY: then nothing has changed. */
 uint32_t lugcurrant_remake(lugcurrant_client *client, lugcurrant_span change, lugcurrant_list *ids);
@@ -111,7 +115,7 @@ uint32_t lugcurrant_remake(lugcurrant_client *client, lugcurrant_span change, lu
 
 enum {
     MOST_ENTRIES = 64, /* entries in an answer */
-    MOST_EVENTS = 6    /* at least the number of events of one call */
+    MOST_EVENTS = 6    /* at least the number of events of one call, but for those of a connection that is lost */
 };
 
 static const double FIRST_WAIT = 1000; /* milliseconds before what a server couldn't keep is sent again, at first */
@@ -124,7 +128,7 @@ enum { ENTRY = 'e', COPY = 'c', IDLE = 'i', HERE = 'h' }; /* the third byte of [
 /* A time that never comes. */
 #define NEVER 1e300
 
-enum what { JOIN, EDIT, ASK, GO_LIVE };
+enum what { JOIN, EDIT, ASK, GO_LIVE, SHOW };
 
 /* A message that was given to send, and what has come of its answer. */
 struct sent {
@@ -180,11 +184,15 @@ struct anew {
     struct remaking remaking;
 };
 
-/* An event that wasn't taken yet, and the lists that it owns. */
+/* An event, and what it owns. */
 struct queued {
     lugcurrant_flow_event event;
     struct remaking remaking;
+    char *value; /* of PRESENCE */
 };
+
+/* Whether the server has the word `here`. */
+enum word { NOT_KNOWN, HAS_WORD, HAS_NO_WORD };
 
 struct lugcurrant_flow {
     lugcurrant_client *client;
@@ -199,8 +207,11 @@ struct lugcurrant_flow {
     uint64_t dropped;       /* the number of that edit */
     uint64_t emptied;       /* the number of the last one that was replaced */
     struct anew anew;
-    lugcurrant_list events; /* struct queued */
-    struct remaking told;   /* the lists of the event that was taken last */
+    lugcurrant_list events; /* struct queued: those that weren't taken yet */
+    struct queued told;     /* the one that was taken last */
+    uint8_t *shown;         /* the JSON of what the client shows of itself, or null if it never did */
+    size_t shown_length;
+    lugcurrant_list others; /* lugcurrant_flow_other: what the others show, by their ids */
     uint8_t *message;       /* the message that was given last, or the text of an edit that is made again */
     size_t message_room;
 
@@ -230,6 +241,10 @@ struct lugcurrant_flow {
     uint32_t told_id;       /* the id for which it does, or 0: another one than the client's until the next `live` is answered */
     double live_at;         /* when `live` may be sent; NEVER while one is under way, or if the server has no such word */
     bool is_older;          /* it has none */
+    bool is_showing;        /* what is shown is to be sent */
+    double show_at;         /* when it may be */
+    uint32_t showing;       /* how many values are under way */
+    enum word here;
 };
 
 /* The members of ["entry",VERSION,[AUTHOR,NUMBER,WHAT,OUTCOME]] up to WHAT. */
@@ -257,6 +272,9 @@ void lugcurrant_forget_fresh(struct anew *anew);
 
 /* Ends a beginning anew, whatever it has reached. */
 void lugcurrant_forget_anew(lugcurrant_flow *flow);
+
+/* Makes room for the events of a call, and of a connection that is lost after it. Returns false if out of memory. */
+bool lugcurrant_reserve_events(lugcurrant_flow *flow);
 
 /* Adds an event. Its room is reserved already. */
 struct queued *lugcurrant_push_event(lugcurrant_flow *flow, uint32_t type);
@@ -303,6 +321,27 @@ bool lugcurrant_read_entry(lugcurrant_span message, struct entry *entry);
 
 /* Lets no edit and no join be sent for `hold_for` milliseconds, and doubles these, up to MOST_WAIT. */
 void lugcurrant_hold(lugcurrant_flow *flow, double now);
+
+/* ---- presence.c ---- */
+
+/* Checks whether a value is to be sent that may be, once its time has come. */
+bool lugcurrant_may_show(const lugcurrant_flow *flow);
+
+/* Gives the value that the client shows to be sent. DONE; NONE (there is none to send now); MEMORY. */
+uint32_t lugcurrant_next_shown(lugcurrant_flow *flow, double now, size_t *length);
+
+/* What the client shows is to be sent once more, if it shows something. */
+void lugcurrant_show_again(lugcurrant_flow *flow);
+
+/* The server has no memory for the value now, or no such word; or it can't take this value, and keeps the last one. */
+void lugcurrant_hear_no_to_shown(lugcurrant_flow *flow, uint32_t no, double now);
+
+/* Another client shows this of itself. What comes of the own id is no news, nor what does of the one that was given up. Room for an event is
+ * reserved already. DONE, also if it can't be read: then the state is FAULT; MEMORY. */
+uint32_t lugcurrant_hear_shown(lugcurrant_flow *flow, lugcurrant_span message);
+
+/* The connection is lost, and nobody is known to be there. Room for the events is reserved already. */
+void lugcurrant_forget_others(lugcurrant_flow *flow);
 
 /* ---- anew.c ---- */
 

@@ -1,4 +1,4 @@
-/* What a flow sends next: a join, edits, asks.
+/* What a flow sends next: a join, edits, what the client shows of itself, asks.
  *
  * Up to `window` edits (and `window_bytes` of them) are under way at once, and asks follow them. The server reads, answers and reads on, so
  * answers come in the order of what was sent. If an answer is as full as it may be, more asks go ahead of the answers, each for the version
@@ -179,6 +179,8 @@ uint32_t lugcurrant_flow_next_outgoing(lugcurrant_flow *flow, double now, const 
         if (result == LUGCURRANT_NONE)
             result = next_live(flow, now, &size);
         if (result == LUGCURRANT_NONE)
+            result = lugcurrant_next_shown(flow, now, &size);
+        if (result == LUGCURRANT_NONE)
             result = next_ask(flow, now, &size);
     }
     if (result == LUGCURRANT_DONE) {
@@ -201,5 +203,7 @@ double lugcurrant_flow_due(const lugcurrant_flow *flow, double now)
         wait = lugcurrant_least_of(wait, flow->hold_until - now);
     if (may_go_live(flow))
         wait = lugcurrant_least_of(wait, flow->live_at - now);
+    if (lugcurrant_may_show(flow))
+        wait = lugcurrant_least_of(wait, flow->show_at - now);
     return wait == NEVER ? -1 : lugcurrant_greatest_of(0, wait);
 }

@@ -43,8 +43,8 @@ bool lugcurrant_json_next(lugcurrant_span list, size_t *mark, lugcurrant_span *f
             *found = trimmed(list.at + begin, at - begin);
             return found->length > 0;
         }
-        depth += byte == '[';
-        depth -= byte == ']';
+        depth += byte == '[' || byte == '{';
+        depth -= byte == ']' || byte == '}';
         is_in_text = byte == '"';
     }
     return false;

@@ -1,6 +1,7 @@
 """The flow for C, compiled from its sources, with the methods of the flow for Python."""
 
 import ctypes
+import json
 import os
 import subprocess
 import sys
@@ -47,9 +48,20 @@ class NewId(ctypes.Structure):
     _fields_ = [("was", Id), ("now", Id)]
 
 
+class Other(ctypes.Structure):
+    _fields_ = [("client", _N), ("value", _B), ("length", _S)]
+
+
+def value_of(text, length):
+    """What this JSON says."""
+    assert len(text) == length, "a zero stands after the value"
+    return json.loads(text.decode())
+
+
 class CEvent(ctypes.Structure):
     _fields_ = [("type", _N), ("state", _N), ("words", _B), ("version", _L), ("number", _L), ("edit", _B), ("id", Id), ("reason", _N),
-                ("made", _L), ("lost", ctypes.POINTER(Edit)), ("lost_count", _S), ("unsure", ctypes.POINTER(Edit)), ("unsure_count", _S), ("ids", ctypes.POINTER(NewId)), ("ids_count", _S)]  # fmt: skip
+                ("made", _L), ("lost", ctypes.POINTER(Edit)), ("lost_count", _S), ("unsure", ctypes.POINTER(Edit)), ("unsure_count", _S), ("ids", ctypes.POINTER(NewId)), ("ids_count", _S),
+                ("client", _N), ("value", _B), ("value_length", _S)]  # fmt: skip
 
     def event(self):
         """The same event as the flow for Python has it."""
@@ -90,6 +102,7 @@ def loaded(path):
         ("next_outgoing", _N, [_D, ctypes.POINTER(_P), ctypes.POINTER(_S)]), ("due", _D, [_D]), ("hear", _N, [_B, _S, _D]),
         ("next_event", _N, [ctypes.POINTER(CEvent)]), ("state", _N, []), ("unsent", _L, []), ("is_settled", ctypes.c_bool, []),
         ("unanswered", _S, []), ("set_limit", None, [_L]), ("saved", None, []), ("begin_anew", _N, []),
+        ("presence_set", _N, [_B, _S]), ("presence_others", _S, [ctypes.POINTER(ctypes.POINTER(Other))]),
     ]:  # fmt: skip
         call = getattr(calls, "lugcurrant_flow_" + name)
         call.restype, call.argtypes = result, takes if name == "new" else [_P, *takes]
@@ -100,13 +113,14 @@ def loaded(path):
 
 
 class Flow:
-    """The flow for C, with the methods of the one for Python. Times are in milliseconds."""
+    """The flow for C, with the methods of the one for Python. Times are in milliseconds. `changes` has what was told of the other clients, and `others`
+    what they show."""
 
     failures = 0
     all = []
 
     def __init__(self, calls, client, **options):
-        self.calls, self.client, self.events, self.at = calls, client, [], None
+        self.calls, self.client, self.events, self.changes, self.at = calls, client, [], [], None
         self._call("new", client._handle, Options(**options), failed=lambda at: at is None)
         self.all.append(self)
         self.save, client.save = client.save, self._save
@@ -136,7 +150,8 @@ class Flow:
         seen = [client.version, client.acknowledged, client.waiting, client.id]
         if at is not None:
             self._take_events()
-            seen += [self.unsent, self.is_settled, self.state, self.calls.lugcurrant_flow_unanswered(at), self.due(0), len(self.events)]
+            seen += [self.unsent, self.is_settled, self.state, self.calls.lugcurrant_flow_unanswered(at), self.due(0), len(self.events), len(self.changes)]
+            seen += [self.others]
         return [*seen, (self.save if at else client.save)()] if is_whole else seen
 
     def _save(self):
@@ -148,16 +163,36 @@ class Flow:
     def _take_events(self):
         event = CEvent()
         while self.calls.lugcurrant_flow_next_event(self.at, event) == DONE:
-            self.events.append(event.event())
+            if event.type == 6:
+                self.changes.append([event.client, None if event.value is None else value_of(event.value, event.value_length)])
+            else:
+                self.events.append(event.event())
 
     def free(self):
         self.calls.lugcurrant_flow_free(self.at)
 
     def open(self, now):
         self.calls.lugcurrant_flow_open(self.at, now)
+        self._take_events()
 
     def lost(self):
         self.calls.lugcurrant_flow_lost(self.at)
+        self._take_events()
+
+    def show(self, text):
+        assert self.presence_set(text.encode()) == DONE, text
+
+    def presence_set(self, value):
+        return self._call("presence_set", value, len(value))
+
+    @property
+    def others(self):
+        at = ctypes.POINTER(Other)()
+        count = self.calls.lugcurrant_flow_presence_others(self.at, at)
+        assert bool(at) == (count > 0)
+        found = {at[k].client: value_of(at[k].value, at[k].length) for k in range(count)}
+        assert len(found) == count and list(found) == sorted(found), "each client once, by their ids"
+        return found
 
     def wake(self, now):
         self.calls.lugcurrant_flow_wake(self.at, now)

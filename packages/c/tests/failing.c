@@ -91,6 +91,14 @@ uint32_t failing_hear(long after, lugcurrant_flow *flow, const uint8_t *bytes, s
     return result;
 }
 
+uint32_t failing_presence_set(long after, lugcurrant_flow *flow, const char *value, size_t length)
+{
+    allowed = after;
+    uint32_t result = lugcurrant_flow_presence_set(flow, value, length);
+    allowed = -1;
+    return result;
+}
+
 uint32_t failing_begin_anew(long after, lugcurrant_flow *flow)
 {
     allowed = after;

@@ -32,7 +32,8 @@ def message(chance, client, version):
     return text(chance.choice([
         ["welcome", me], ["idle"], ["idle"], ["idle"], ["no", chance.choice([1, 2, 3, 4, 5, 6, 7, 8, 9, 10, 0])],
         ["entry", at, [me, number, change, chance.choice(OUTCOMES)]], ["entry", at, [me, number, change, chance.choice(OUTCOMES)]],
-        ["entry", at, [9, 1, "join", ["joined", 9]]], ["copy", at, number, rows], ["entry"], ["copy"], ["here", me, 1], ["here"], [], "entry", ["edit", 1, 1, CHANGES[1]],
+        ["entry", at, [9, 1, "join", ["joined", 9]]], ["copy", at, number, rows], ["entry"], ["copy"], ["here", me, 1], ["here", 7, chance.choice([None, {"a": [1, "]}"]}])],
+        ["here", 7, [[]], 1], ["here"], [], "entry", ["edit", 1, 1, CHANGES[1]],
     ]))  # fmt: skip
 
 
@@ -75,11 +76,14 @@ def play(calls, seed):
         flow.hear(damaged(chance, message(chance, client, version)), now)
         seen.add(flow.state)
         flow.events.clear()
+        flow.changes.clear()
         if chance.random() < 0.3:
             edit(chance, client)
+        if chance.random() < 0.1:
+            flow.presence_set(damaged(chance, b'{"at": [1.5, "\\u00e9\\n"], "b": null}'))
         if chance.random() < 0.02:
             flow.lost()
-            assert calls.lugcurrant_flow_unanswered(flow.at) == 0 and flow.outgoing(now) == []
+            assert calls.lugcurrant_flow_unanswered(flow.at) == 0 and flow.outgoing(now) == [] and flow.others == {}
             flow.open(now)
         if chance.random() < 0.01:
             flow.begin_anew(State.STRANGER, scan=True)
@@ -88,8 +92,8 @@ def play(calls, seed):
     return seen
 
 
-def passes_by(calls):
-    """What other clients show of themselves is passed by, before, among and after answers on a live connection."""
+def hears_others(calls):
+    """What other clients show of themselves comes before, among and after answers, and answers nothing."""
     client, now = Client(), 0.0
     flow = c_flow.Flow(calls, client)
     flow.open(now)
@@ -104,6 +108,9 @@ def passes_by(calls):
     for answer in (["here", 1, 5], ["idle"], ["here", 2, None], ["entry", 2, [1, 1, ["set", [0, 0], "a", 1], ["wasset"]]], ["here", 2, "x" * 1022]):
         flow.hear(text(answer), now)
     assert (flow.state, client.waiting, client.version, flow.is_settled) == (State.ONLINE, 0, 2, True), (flow.state, client.waiting, client.version)
+    assert flow.changes[-3:] == [[2, {"at": [2, "e"]}], [2, None], [2, "x" * 1022]] and flow.others == {2: "x" * 1022}, (flow.changes, flow.others)
+    flow.lost()
+    assert flow.changes[-1] == [2, None] and flow.others == {}
     flow.free()
 
 
@@ -111,7 +118,7 @@ def main():
     rounds = int(sys.argv[1]) if len(sys.argv) > 1 else 300
 
     def act(calls):
-        passes_by(calls)
+        hears_others(calls)
         states = set()
         for seed in range(rounds):
             states |= play(calls, seed)

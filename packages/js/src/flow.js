@@ -276,18 +276,21 @@ export class Flow {
   #goneLive({ id }, now) {
     this.told = id;
     this.isLive = id === this.client.id;
-    this.isShowing ||= this.shown !== null && this.shown !== 'null';
+    this.#showAgain();
     this.#rest(now);
   }
 
-  // Another client shows this of itself. What comes back of the own is no news, also under the id that was given up.
+  #showAgain() { this.isShowing ||= this.shown !== null && this.shown !== 'null'; }
+
+  // Another client shows this of itself. What comes back of the own is no news, also under the id that was given up: but if it is null, an older
+  // connection of this client has ended, or that of another program with its id, and the server takes it for gone.
   #heardHere(bytes) {
     let message = null;
     try { message = JSON.parse(textOfBytes(bytes)); } catch { /* it is no message then */ }
     const [word, client, value] = Array.isArray(message) ? message : [];
     if (word !== 'here' || !Number.isInteger(client) || message.length !== 3) return this.#fault('what others show of themselves can not be read');
     this.hasHere = true;
-    if (client !== this.client.id && client !== this.told) this.events.push({ type: 'here', client, value });
+    if (client === this.client.id) { if (value === null) this.#showAgain(); } else if (client !== this.told) this.events.push({ type: 'here', client, value });
     return undefined;
   }
 

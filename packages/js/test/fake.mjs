@@ -106,13 +106,16 @@ export class FakeServer {
     if (what === 'live') {
       if (this.trouble && this.dice() < 0.3) return ['["no",7]'];
       if (message[2] > this.version) return ['["no",1]'];
-      line.place = { id, version: message[2], shown: 0 };
+      if (line.place && line.place.id !== id) this.ended(line);
+      line.place = { id, version: message[2] };
       return ['["idle"]'];
     }
     if (what === 'here') {
       if (!this.hasHere) return ['["no",9]'];
       if (line.place?.id !== id) return ['["no",1]'];
+      if (this.trouble && this.dice() < 0.3) return ['["no",7]'];
       this.shown.push(message);
+      line.showsAs = id;
       return ['["idle"]'];
     }
     if (what === 'ask') {
@@ -141,12 +144,30 @@ export class FakeServer {
   }
 
   // What is told next unasked on a connection: news after its place, or what clients show of themselves.
-  told({ place }) {
+  told(line) {
+    const { place } = line;
     if (!place || !this.done.has(place.id)) return [];
-    if (place.version >= this.version) return this.shown.slice(place.shown, place.shown = this.shown.length).map((it) => JSON.stringify(it));
+    if (place.version >= this.version) return this.#heres(line);
     const messages = this.#after(place.id, place.version);
     place.version = JSON.parse(messages.at(-1))[1];
     return messages;
+  }
+
+  // What clients have shown since a connection was told the last time: of each client the last.
+  #heres(line) {
+    const last = new Map();
+    for (const it of this.shown.slice(line.heard ?? 0)) { last.delete(it[1]); last.set(it[1], it); }
+    line.heard = this.shown.length;
+    return [...last.values()].map((it) => JSON.stringify(it));
+  }
+
+  // Whether something is to be told on a connection.
+  hasNews({ place, heard = 0 }) { return place && (place.version < this.version || heard < this.shown.length); }
+
+  // A connection has ended, or is another client's now: who showed something on it is gone, though it may show more on another one.
+  ended(line) {
+    if (line.showsAs) this.shown.push(['here', line.showsAs, null]);
+    line.showsAs = null;
   }
 
   checkpoint() { this.floor = this.version; }
@@ -166,7 +187,7 @@ export class FakeServer {
   // The server of an older log.
   back(version) {
     const log = this.log.slice(0, version);
-    Object.assign(this, { doc: newDoc(), counters: new Map(), done: new Map(), clients: 0, log: [], floor: Math.min(this.floor, version) });
+    Object.assign(this, { doc: newDoc(), counters: new Map(), done: new Map(), clients: 0, log: [], shown: [], floor: Math.min(this.floor, version) });
     for (const entry of log) {
       this.log.push(entry);
       if (entry[2] === 'join') { this.clients += 1; this.done.set(this.clients, 0); } else { this.done.set(entry[0], entry[1]); judge(this.doc, this.counters, entry[0], entry[2]); }
@@ -243,5 +264,5 @@ export const socketsTo = (fake) => class {
     if (answers[0].startsWith('["no",') && message.startsWith('["edit"')) this.close();
   }
   hear(messages) { for (const message of messages) setTimeout(() => this.onmessage({ data: Buffer.from(message) })); }
-  close() { this.readyState = 3; this.constructor.#open.delete(this); setTimeout(() => this.onclose()); }
+  close() { this.readyState = 3; if (this.constructor.#open.delete(this)) fake.ended(this.line); setTimeout(() => this.onclose()); }
 };

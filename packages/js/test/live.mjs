@@ -17,7 +17,7 @@ class Line {
     return line;
   }
 
-  open() { this.place = null; this.flow.open(this.now); this.turn(); }
+  open() { Object.assign(this, { place: null, heard: 0, showsAs: null }); this.flow.open(this.now); this.turn(); }
   hear(messages) { for (const message of messages) this.flow.hear(Buffer.from(message), this.now); }
 
   // Sends what there is, and hears all answers, and then what is told unasked; until nothing more is to be sent now.
@@ -216,13 +216,15 @@ async function shows() {
   for (const it of [one, two]) it.pass(500);
   assert.deepEqual(server.shown.splice(0), [['here', 1, 'early']]);
   one.told.length = two.told.length = 0;
-  two.place.shown = one.place.shown = 0;
+  two.heard = one.heard = 0;
   one.asks();
   for (let k = 0; k < 1000; k += 1) {
     one.flow.show(String(k));
     if (k % 100 === 0) one.client.set('0:0', 'a', k);
     one.pass(1);
+    two.turn();
   }
+  assert(one.flow.due(one.now) <= 34, 'the last one is due');
   one.pass(100);
   two.turn().turn();
   const values = server.shown.map(([, , value]) => value), heard = two.told.filter(({ type }) => type === 'here');
@@ -283,6 +285,25 @@ async function showsSlowly() {
   assert.deepEqual(one.flow.events.splice(0).map(({ client, value }) => [client, value]), [[3, null], [3, { a: [] }]]);
 }
 
+// An older connection of a client ends later, and the server takes it for gone: it is shown again. Who shows nothing stays gone.
+async function showsAgain() {
+  const server = live(), one = await Line.open(server), old = { place: { id: 1, version: 0 } };
+  one.pass(500);
+  server.answer('["here",1,"old"]', old);
+  one.flow.show('"new"');
+  one.pass(50);
+  server.ended(old);
+  one.turn().pass(50);
+  assert.deepEqual(server.shown.splice(0), [['here', 1, 'old'], ['here', 1, 'new'], ['here', 1, null], ['here', 1, 'new']]);
+  one.heard = 0;
+  server.answer('["here",1,"old"]', old);
+  one.flow.show('null');
+  one.pass(50);
+  server.ended(old);
+  one.turn().pass(500);
+  assert.deepEqual(server.shown, [['here', 1, 'old'], ['here', 1, null], ['here', 1, null]]);
+}
+
 await goesLive();
 await settles();
 await olderServer();
@@ -298,4 +319,5 @@ await shows();
 await showsNothing();
 await showsLater();
 await showsSlowly();
-console.log(`15 things on a live connection, ${overWhat()}`);
+await showsAgain();
+console.log(`16 things on a live connection, ${overWhat()}`);

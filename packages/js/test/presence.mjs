@@ -2,7 +2,7 @@
 // What links show of themselves, over a real server:  node --experimental-websocket presence.mjs LUGCURRANT [OLDER]..
 //
 // Links show and go in random order, one goes offline, the server is killed and started again, a thousand values come in a second, values that can't be
-// shown, two programs with one id. Then the same links over made-up servers that lack the word, and over each OLDER, a program like LUGCURRANT.
+// shown, two programs with one id, an older connection that ends late. Then the same links over made-up servers that lack the word, and over each OLDER, a program like LUGCURRANT.
 import assert from 'node:assert';
 import { Client, Link, ROOT } from '../src/node.js';
 import { Server, endAfter } from '../../../tests/web/server.mjs';
@@ -147,6 +147,20 @@ async function twins() {
   await agrees('twins');
 }
 
+// An older connection of a link's client, on which it showed something else, ends now. The client is still there.
+async function endsLate() {
+  const [one, two] = links, old = new WebSocket(server.url), send = (message) => old.send(Buffer.from(JSON.stringify(message)));
+  await new Promise((resolve) => { old.onopen = resolve; });
+  send(['live', one.client.id, Number(one.client.version)]);
+  send(['here', one.client.id, 'older']);
+  assert(await until(() => two.presence.others.get(one.client.id) === 'older'));
+  show(one, 'newer');
+  await agrees('it shows something else');
+  old.close();
+  await sleep(300);
+  await agrees('an older connection has ended');
+}
+
 // A server without the word: nobody is shown, and nothing else is other than before.
 async function withoutTheWord(url, options, show) {
   const made = [];
@@ -165,6 +179,7 @@ await reconnects();
 const heard = await thousand();
 await refused();
 await twins();
+await endsLate();
 for (const link of [...links]) { await link.settled(); assert.equal(link.client.text(), server.show().tree); await close(link); }
 await server.end();
 for (const isLive of [false, true]) {

@@ -8,9 +8,10 @@ const plainOf = (value) => {
   return value instanceof Uint8Array ? text(value) : value;
 };
 
-// The events that a call has left, in a line after it.
+// The events that a call has left, in a line after it. What others show is traced once a link's `presence` has heard it.
 export function traceEvents(flow, n) {
-  if (isTracing && flow.events.length) trace('events', n, flow.events.map((it) => (it.ids ? { ...it, ids: Object.fromEntries(it.ids) } : it)));
+  const events = isTracing ? flow.events.filter(({ type }) => type !== 'here') : [];
+  if (events.length) trace('events', n, events.map((it) => (it.ids ? { ...it, ids: Object.fromEntries(it.ids) } : it)));
 }
 
 // A flow of which each call is traced.

@@ -9,9 +9,11 @@
 //   live         the server tells unasked what is published (`live`)
 //   mixed        now it does, now an older one stands in its place, that doesn't
 //   skips        it leaves something out now and then, against the protocol
+//   shows        the clients show something of themselves (`here`); now and then the server has no such word
 import assert from 'node:assert';
 import { ClientError } from '../src/client.js';
 import { Flow } from '../src/flow.js';
+import { Presence } from '../src/presence.js';
 import { changeOf } from '../src/remake.js';
 import { FakeServer, Plain } from './fake.mjs';
 import { newClient } from './standin.mjs';
@@ -33,9 +35,10 @@ export class World {
     this.dice = diceOf(seed);
     this.now = 0;
     this.agenda = new Agenda();
+    this.showDice = diceOf(seed + 1000003);            // of what is shown, and when
     this.kinds = this.#kinds();
     this.checkpointRate = this.kinds.checkpoints ? pick(this.dice, [0.02, 0.003]) : 0;
-    this.server = new FakeServer({ largest: this.kinds.noes ? 220 : 1 << 20, dice: this.dice, isLive: this.kinds.live });
+    this.server = new FakeServer({ largest: this.kinds.noes ? 220 : 1 << 20, dice: this.dice, isLive: this.kinds.live, hasHere: this.#hasHere(this.kinds.live) });
     this.server.trouble = this.kinds.noes ? 5 : 0;
     this.senders = new Map();                          // of each version an edit came to: the player, and whether its connection was lost by then
     this.made = new Map();                             // the values that were set, each another one, and by whom
@@ -44,18 +47,21 @@ export class World {
     this.hidden = new Set();                           // those of edits that a client took for judged when a twin's had been, which no one can see
     this.looked = new Map();                           // those that were made again, and the version up to which they were looked for
     this.shared = new Set();                           // those of edits that waited in a twin's save
+    this.shown = new Set();                            // what was shown, each another JSON
     this.players = [];
-    this.stat = { messages: 0, unasked: 0, cuts: 0, anew: 0, replaced: 0, made: 0, lost: 0, unsure: 0, hidden: 0, late: 0, both: 0, edits: 0, most: 0 };
+    this.stat = { messages: 0, unasked: 0, shown: 0, heard: 0, cuts: 0, anew: 0, replaced: 0, made: 0, lost: 0, unsure: 0, hidden: 0, late: 0, both: 0, edits: 0, most: 0 };
   }
 
   #kinds() {
     const has = (chance) => this.dice() < chance;
     const kinds = { noes: has(0.3), twins: has(0.3), back: has(0.1), behind: has(0.1), full: has(0.03), checkpoints: has(0.4), live: has(0.6) };
-    Object.assign(kinds, { mixed: kinds.live && has(0.2), skips: kinds.live && has(0.1) });
+    Object.assign(kinds, { mixed: kinds.live && has(0.2), skips: kinds.live && has(0.1), shows: this.showDice() < 0.6 });
     if (kinds.back) kinds.behind = false;
     if (kinds.back || kinds.behind) kinds.twins = false;
     return kinds;
   }
+
+  #hasHere(isLive) { return isLive && this.showDice() < 0.9; }
 
   at(delay, act) { this.agenda.add(this.now + delay, act); }
 
@@ -66,7 +72,8 @@ export class World {
     const options = { window: pick(dice, [1, 4, 64]), windowBytes: pick(dice, [300, 262144]), asks: pick(dice, [1, 4]), mostAsks: pick(dice, [1, 32]) };
     trace('new', n, saved ? text(saved) : null, options);
     const player = { client, flow: tracedFlow(new Flow(client, options), n), plain: new Plain(), plainOn: !saved, link: null, quietAt: 0,
-      delay: pick(dice, [0, 5, 50, 200]), n, timer: 0, own: new Map(), before: null, savedTo: 0, reachedTo: 0 };
+      delay: pick(dice, [0, 5, 50, 200]), n, timer: 0, own: new Map(), before: null, savedTo: 0, reachedTo: 0, shows: null, told: [], known: new Map() };
+    player.presence = new Presence((json) => player.flow.show(json), (change) => player.told.push(change));
     this.#noteWaiting(player);
     player.savedTo = player.reachedTo = Number(client.lastEdit);
     client.watch((what) => {
@@ -136,7 +143,7 @@ export class World {
   // ---- connections ----
 
   connect(player) {
-    const link = player.link = { place: null, isTelling: false, lag: pick(this.dice, [0, 5, 5, 100, 1500]), isOpen: true, up: this.now, down: this.now, lastUp: Infinity, stall: 0, until: null, rest: [], edits: [] };
+    const link = player.link = { place: null, isTelling: false, lag: pick(this.dice, [0, 5, 5, 100, 1500]), isOpen: true, shownAt: -Infinity, up: this.now, down: this.now, lastUp: Infinity, stall: 0, until: null, rest: [], edits: [] };
     this.at(player.delay, () => { if (player.link !== link) return; player.flow.open(this.now); this.pump(player); });
   }
 
@@ -151,8 +158,18 @@ export class World {
     player.quietAt = Math.max(player.quietAt, link.lastUp + link.stall);
     player.reachedTo = Math.max(player.reachedTo, ...link.edits);
     player.link = null;
+    this.#endLater(link);
     player.flow.lost();
+    player.presence.lost();
+    this.#checkTold(player);
+    assert.equal(player.known.size, 0, 'without a connection nobody is there');
     this.at(1 + this.dice() * away, () => this.connect(player));
+  }
+
+  // The server notices the end of a lost connection once it has read what it reads of it, or much later.
+  #endLater(link) {
+    const late = this.showDice() < 0.3 ? 5000 : 50, end = () => { if (link.rest.length) this.at(50, end); else { this.server.ended(link); this.tellAll(); } };
+    this.at(Math.max(0, link.lastUp - this.now) + 1 + this.showDice() * late, end);
   }
 
   pump(player) {
@@ -161,6 +178,7 @@ export class World {
     for (const bytes of flow.outgoing(this.now)) {
       const due = Math.max(link.up, this.now + player.delay * (0.5 + this.dice())), message = text(bytes);
       link.up = due;
+      if (message.startsWith('["here"')) this.#checkPace(link);
       if (message.startsWith('["edit"')) link.edits.push(JSON.parse(message)[2]);
       this.at(due - this.now, () => this.serve(player, link, message));
     }
@@ -191,13 +209,13 @@ export class World {
   // What was published is told a little later on each live connection, between answers; more of it once that has left.
   tellAll() { for (const player of this.players) if (player.link?.place) this.#tell(player, player.link); }
   #tell(player, link) {
-    if (link.isTelling || this.server.version <= link.place.version) return;
+    if (link.isTelling || !this.server.hasNews(link)) return;
     link.isTelling = true;
     this.at(this.dice() * link.lag, () => {
       link.isTelling = false;
       if (player.link !== link) return;
       const told = this.server.told(link), isMore = told.length > 0;
-      if (this.kinds.skips && this.dice() < 0.1) told.splice(Math.floor(this.dice() * told.length), 1);
+      if (this.kinds.skips && this.dice() < 0.1 && !told[0]?.startsWith('["here"')) told.splice(Math.floor(this.dice() * told.length), 1);
       for (const message of told) this.#send(player, link, message);
       this.stat.unasked += told.length;
       if (isMore) this.#tell(player, link);
@@ -208,6 +226,7 @@ export class World {
   exchange() {
     for (const it of this.players) this.cut(it);
     this.server.isLive = !this.server.isLive;
+    Object.assign(this.server, { hasHere: this.#hasHere(this.server.isLive), shown: [] });
   }
 
   // The server reads the rest of a lost connection later, or when it hurts most: when the client has looked through the log, or has gone on.
@@ -234,6 +253,7 @@ export class World {
     if (!isAnew && player.plainOn) plain.receive(JSON.parse(answer));
     if (client.id === id && answer.startsWith('["copy"')) checkCopy(this, player, had, reachedTo);
     for (const event of flow.events.splice(0)) this.#take(player, event, { id, had, look: isAnew });
+    this.#checkTold(player);
     if (player.plainOn && !flow.anew) {
       assert.equal(client.version, plain.version, 'version');
       assert.equal(client.acknowledged, plain.acknowledged, 'acknowledged');
@@ -253,6 +273,7 @@ export class World {
   #take(player, event, before) {
     if (event.type === 'anew') checkAnew(this, player, event, before);
     if (event.type === 'refused' && event.change) this.#takeReplaced(player, event);
+    if (event.type === 'here') player.presence.heard(event.client, event.value);
     if (event.type !== 'state') return;
     assert.notEqual(event.state, 'fault', event.words);
     if (event.state === 'replaced') {
@@ -278,7 +299,7 @@ export class World {
   goBack() {
     for (const it of this.players) {
       it.plainOn = false;
-      if (it.link) { const { link } = it; this.cut(it); link.lastUp = -1; }
+      if (it.link) { const { link } = it; this.cut(it); Object.assign(link, { lastUp: -1, showsAs: null }); }
       trace('forget', it.n);
       it.flow.anew = null;
       it.flow.beginAnew('stranger', { scan: true });
@@ -342,6 +363,54 @@ export class World {
     this.made.set(value, player.n);
   }
 
+  // ---- presence ----
+
+  // A player shows something else of itself, connected or not, sometimes several times at once.
+  show(player) {
+    const { showDice } = this;
+    for (let burst = showDice() < 0.2 ? 5 : 1; burst; burst -= 1) {
+      const k = this.stat.shown += 1;
+      player.shows = pick(showDice, [null, k, `${k}`, { k, at: [1.5, player.n] }, [[], k, 'é"\\'], { k: { '}': ']' } }]);
+      this.shown.add(JSON.stringify(player.shows));
+      player.presence.set(player.shows);
+    }
+    this.pump(player);
+  }
+
+  #checkPace(link) {
+    assert(this.now - link.shownAt >= 33, 'at most 30 a second are shown');
+    link.shownAt = this.now;
+  }
+
+  // What the others show comes to what was told of them, each a value that was shown.
+  #checkTold({ n, presence, told, known }) {
+    if (!told.length) return;
+    for (const { client, value } of told) {
+      assert(this.shown.has(JSON.stringify(value)) || value === null, 'somebody has shown it');
+      if (value === null) assert(known.delete(client), 'one who is there has gone'); else known.set(client, value);
+    }
+    assert.deepEqual(presence.others, known);
+    const byId = (list) => list.sort(([a], [b]) => a - b);
+    trace('presence', n, byId(told.splice(0).map(({ client, value }) => [client, value])), byId([...known]));
+    this.stat.heard += 1;
+  }
+
+  // In the end each knows the last thing that each other one shows. Two programs with one id show one of theirs.
+  #endShown() {
+    if (!this.kinds.shows) return;
+    for (const it of this.players) if (this.showDice() < 0.7) this.show(it);
+    const knows = (one) => this.players.every((it) => {
+      if (it.client.id === one.client.id) return true;
+      const all = this.players.filter(({ client }) => client.id === it.client.id).map(({ shows }) => (this.server.hasHere ? shows : null));
+      return all.some((shows) => JSON.stringify(one.known.get(it.client.id) ?? null) === JSON.stringify(shows));
+    });
+    const isDone = () => this.players.every((it) => it.link && knows(it));
+    this.run(this.now + 15000, isDone);          // sooner than a connection is tried on which nothing comes
+    const ids = new Set(this.players.map(({ client }) => client.id));
+    const told = (it) => `${it.client.id} shows ${JSON.stringify(it.shows)} and knows ${JSON.stringify([...it.known])}`;
+    assert(isDone() && this.players.every(({ known }) => [...known.keys()].every((id) => ids.has(id))), this.players.map(told).join('; '));
+  }
+
   // ---- the run ----
 
   run(until, done = () => false) {
@@ -364,6 +433,7 @@ export class World {
       if (this.kinds.twins && this.players.length < 6 && this.dice() < 0.12) await this.twin();
       const player = pick(this.dice, this.players);
       for (let burst = this.dice() < 0.03 ? 80 : 1; burst; burst -= 1) this.edit(player);
+      if (this.kinds.shows && this.showDice() < 0.5) this.show(pick(this.showDice, this.players));
       if (this.kinds.twins && this.dice() < 0.5) this.race();
       if (this.dice() < 0.06) this.cut(pick(this.dice, this.players));
       if (k === backAt) { for (const it of this.players) this.cut(it); this.run(this.now + 500); this.goBack(); }
@@ -383,6 +453,7 @@ export class World {
     assert(isSettled(), `not settled: ${this.players.map(told)}`);
     for (const { client } of this.players) assert.equal(client.text(), this.server.text(), 'all show the server\'s document');
     checkOnce(this);
+    this.#endShown();
     if (this.server.isLive && !this.kinds.skips && !this.kinds.behind && !this.kinds.twins) this.#endLive();       // a twin may be found out at any time
     return this.stat;
   }

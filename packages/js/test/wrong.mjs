@@ -1,5 +1,5 @@
 #!/usr/bin/env node
-// Plants mistakes into copies of flow.js and remake.js, each of which live.mjs or the random worlds have to find:  wrong.mjs [WORLDS [NAME]]
+// Plants mistakes into copies of flow.js, remake.js and presence.js, each of which live.mjs or the random worlds have to find:  wrong.mjs [WORLDS [NAME]]
 // With a part of a name those mistakes alone are planted.
 import { cpSync, mkdtempSync, readFileSync, rmSync, writeFileSync } from 'node:fs';
 import { spawn } from 'node:child_process';
@@ -59,6 +59,25 @@ const FLOW = [
   ['replaced: the observer asks under its own id', 'this.anew?.replaces ? this.client.id : client.id', 'client.id'],
   ['replaced: it is not told', "this.events.push({ type: 'refused', version: Number(this.client.version)", "0 && this.events.push({ type: 'refused', version: Number(this.client.version)"],
   ['replaced: no edit may be sent any more', 'this.dropping = 0;\n    this.emptied', 'this.emptied'],
+  // What clients show of themselves.
+  ['shown: on the next connection nothing is', '    this.#showAgain();\n    this.#rest(now);', '    this.#rest(now);'],
+  ['shown: who is taken for gone stays so', 'if (value === null) this.#showAgain();', ''],
+  ['shown: values go as fast as they are set', 'this.showAt = now + SHOWN_EVERY;', ''],
+  ['shown: nothing is due', 'if (this.#mayShow) waits.push(this.showAt - now);', ''],
+  ['shown: any number may be under way', ' && this.showing < MOST_SHOWN', ''],
+  ['shown: an answer is not counted', '{ this.showing -= 1; this.hasHere = true; }', '{ this.hasHere = true; }'],
+  ['shown: a No is not counted', "else if (head.what === 'here') this.showing -= 1;", ''],
+  ['shown: without memory it is given up', 'if (reason !== 7) return;', 'return;'],
+  ['shown: a server without the word is tried again', 'if (reason === 9) this.hasHere ??= false;', ''],
+  ['shown: before the connection is live', 'this.isShowing && this.isLive &&', 'this.isShowing &&'],
+  ["shown: the own value is another's", 'else if (client !== this.told) this.events.push(', 'this.events.push('],
+];
+const PRESENCE = [
+  ['who has gone stays', 'value === null ? !this.#known.delete(client)', 'value === null ? false'],
+  ['one who was never there goes', 'value === null ? !this.#known.delete(client)', 'value === null ? void this.#known.delete(client)'],
+  ['those of a lost connection stay', '    this.#known.clear();\n', ''],
+  ['nobody is told that a connection is lost', 'for (const client of gone) this.#tell({ client, value: null });', ''],
+  ['the Map stays as it was', '    this.#others = null;\n    this.#tell({ client, value });', '    this.#tell({ client, value });'],
 ];
 const REMAKE = [
   ['an object whose position is taken is lost', "if (!(fault instanceof ClientError) || fault.code !== 'Taken') throw fault;\n        made", 'throw fault;\n        made'],
@@ -74,7 +93,7 @@ const REMAKE = [
 ];
 
 const here = fileURLToPath(new URL('..', import.meta.url)), top = mkdtempSync(join(tmpdir(), 'wrong-')), [worlds = '150', wanted = ''] = process.argv.slice(2);
-const mistakes = [...FLOW.map((it) => ['src/flow.js', ...it]), ...REMAKE.map((it) => ['src/remake.js', ...it])].filter(([, name]) => name.includes(wanted));
+const mistakes = [...FLOW.map((it) => ['src/flow.js', ...it]), ...REMAKE.map((it) => ['src/remake.js', ...it]), ...PRESENCE.map((it) => ['src/presence.js', ...it])].filter(([, name]) => name.includes(wanted));
 
 // What a test says of the package with the mistake: null if it doesn't find it, or doesn't end in time.
 function said(room, ...words) {

@@ -2,9 +2,10 @@
 """What links show of themselves, over a real server:  presence.py LUGCURRANT [OLDER].. Needs the package `websockets`.
 
 Links show and go in random order, one goes offline, the server is killed and started again, a thousand values come in a second, values that can't be
-shown. Then the same links over each OLDER, a program like LUGCURRANT without the word."""
+shown, an older connection that ends late. Then the same links over each OLDER, a program like LUGCURRANT without the word."""
 
 import asyncio
+import json
 import pathlib
 import random
 import re
@@ -13,6 +14,7 @@ import sys
 import tempfile
 import time
 
+import websockets
 from lugcurrant import ROOT, Client, Link, State
 
 
@@ -190,6 +192,21 @@ def nested(depth):
     return value
 
 
+async def ends_late(links):
+    """An older connection of a link's client, on which it showed something else, ends now. The client is still there."""
+    one, two = links.all[:2]
+    client = one.link.client
+    old = await websockets.connect(f"ws://127.0.0.1:{links.server.port}/")
+    for message in (["live", client.id, client.version], ["here", client.id, "older"]):
+        await old.send(json.dumps(message).encode())
+    await until(lambda: two.link.presence.others.get(client.id) == "older", lambda: two.told[-3:])
+    one.show("newer")
+    await links.agree("it shows something else")
+    await old.close()
+    await asyncio.sleep(0.3)
+    await links.agree("an older connection has ended")
+
+
 async def without_the_word(program):
     """A server without the word: nobody is shown, and nothing else is other than before."""
     server = Server(program)
@@ -217,6 +234,7 @@ async def main(program, *older):
         await reconnects(links)
         heard = await thousand(links)
         await refused(links)
+        await ends_late(links)
         for one in links.all:
             await one.link.settled()
         assert len({one.link.client.text() for one in links.all}) == 1

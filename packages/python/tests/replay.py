@@ -10,10 +10,34 @@ import re
 import sys
 
 from lugcurrant import Client, ClientError, Colour, Flow, ObjectId, State
+from lugcurrant.presence import Presence
 
-CALLS = {"open": "open", "lost": "lost", "wake": "wake", "outgoing": "outgoing", "due": "due", "hear": "hear", "beginAnew": "begin_anew"}
+CALLS = {"open": "open", "lost": "lost", "wake": "wake", "show": "show", "outgoing": "outgoing", "due": "due", "hear": "hear", "beginAnew": "begin_anew"}
 NAMES = {"create": "create", "createLast": "create_last", "set": "set", "clear": "clear", "move": "move", "delete": "delete"}
 OPTIONS = {"window": "window", "windowBytes": "window_bytes", "asks": "asks", "mostAsks": "most_asks"}
+
+
+class Linked(Flow):
+    """The flow of this package, with the presence of a link: `changes` has what was told of the others, and `others` what they show."""
+
+    def __init__(self, client, **options):
+        super().__init__(client, second=1000, **options)
+        self.changes = []
+        self.presence = Presence(self.show, lambda client, value: self.changes.append([client, value]))
+
+    @property
+    def others(self):
+        return self.presence.others
+
+    def hear(self, message, now):
+        super().hear(message, now)
+        for event in [it for it in self.events if it.type == "here"]:
+            self.events.remove(event)
+            self.presence._heard(event.detail["client"], event.detail["value"])
+
+    def lost(self):
+        super().lost()
+        self.presence._lost()
 
 
 def given(value):
@@ -52,8 +76,9 @@ def plain(event):
 
 
 def replay(lines, make_flow):
-    """Replays the lines of a trace on flows that `make_flow` makes for a client and options. How many worlds, calls, edits, events and ends."""
-    flows, heard, counts = {}, None, {"worlds": 0, "calls": 0, "edits": 0, "events": 0, "ends": 0}
+    """Replays the lines of a trace on flows that `make_flow` makes for a client and options. How many worlds, calls, edits, events and ends, and how
+    often other clients showed something else."""
+    flows, heard, changed, counts = {}, None, None, {"worlds": 0, "calls": 0, "edits": 0, "events": 0, "ends": 0, "presence": 0}
     for number, line in enumerate(lines, 1):
         what, n, *rest = json.loads(line)
         where = f"line {number}: {line.strip()[:300]}"
@@ -63,8 +88,17 @@ def replay(lines, make_flow):
             flows[n].events.clear()
             assert found == rest[0], f"{where}: here {found}"
             continue
+        if what == "presence":
+            flow = flows[n]
+            found = [sorted(flow.changes, key=lambda change: change[0]), [list(it) for it in sorted(flow.others.items())]]
+            flow.changes = []
+            counts["presence"] += 1
+            assert found == rest, f"{where}: here {found}"
+            continue
         assert heard is None or not flows[heard].events, f"{where}: before it {flows[heard].events}"
+        assert changed is None or not flows[changed].changes, f"{where}: before it {flows[changed].changes}"
         heard = n if what == "hear" else None
+        changed = n if what in ("hear", "lost", "open") else None
         if what == "new":
             counts["worlds"] += n == 0
             saved, options = rest
@@ -83,7 +117,7 @@ def replay(lines, make_flow):
             counts["ends"] += 1
             flow = flows[n]
             found = [flow.client.text(), flow.client.version, flow.client.acknowledged, flow.client.waiting, flow.unsent, flow.state.value]
-            assert found == rest and not flow.events, f"{where}: here {found}, {flow.events}"
+            assert found == rest and not flow.events and not flow.changes, f"{where}: here {found}, {flow.events}, {flow.changes}"
         else:
             counts["calls"] += 1
             args, wanted = rest
@@ -93,7 +127,7 @@ def replay(lines, make_flow):
 
 
 def main():
-    print(replay(sys.stdin, lambda client, **options: Flow(client, second=1000, **options)), "each answer and event the same")
+    print(replay(sys.stdin, Linked), "each answer and event the same")
 
 
 if __name__ == "__main__":

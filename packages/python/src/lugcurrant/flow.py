@@ -385,11 +385,15 @@ class Flow:
     def _gone_live(self, head: _Sent, now: float) -> None:
         self.told = head.id
         self.is_live = head.id == self.client.id
-        self.is_showing = self.is_showing or self.shown not in (None, "null")
+        self._show_again()
         self._rest(now)
 
+    def _show_again(self) -> None:
+        self.is_showing = self.is_showing or self.shown not in (None, "null")
+
     def _heard_here(self, message: bytes) -> None:
-        """Another client shows this of itself. What comes back of the own is no news, also under the id that was given up."""
+        """Another client shows this of itself. What comes back of the own is no news, also under the id that was given up: but if it is null, an older
+        connection of this client has ended, or that of another program with its id, and the server takes it for gone."""
         try:
             word, client, value = json.loads(message)
         except (ValueError, TypeError, RecursionError):
@@ -399,6 +403,8 @@ class Flow:
         self.has_here = True
         if client not in (self.client.id, self.told):
             self.events.append(Event("here", {"client": client, "value": value}))
+        elif client == self.client.id and value is None:
+            self._show_again()
         return None
 
     def _not_shown(self, reason: int, now: float) -> None:
