@@ -9,7 +9,9 @@ CROWD_WINDOWS = [1, 16, 64]
 IDLE = 50  # clients
 IDLE_SHARE = 15 / 8  # of the seconds of another case
 HOSTILE_CLIENTS = 8  # clients that drag beside the hostile one
-HOSTILE = ["nothing", "edits", "garbage", "frames"]
+HOSTILE = ["nothing", "edits", "garbage", "frames", "strangers"]
+MANY = [(30, 969), (200, 0)]  # clients that drag, and others that receive, besides the one that is watched
+MANY_IDLE = 5000  # clients
 
 
 def drag(kind, round_trip, clients):
@@ -26,6 +28,14 @@ def crowd(kind, window):
 
 def idle(kind):
     return f"live idle of {kind}"
+
+
+def many(clients, listeners):
+    return f"live drag by {clients} among {clients + listeners + 1}"
+
+
+def many_idle():
+    return f"live idle of {MANY_IDLE}"
 
 
 def beside(hostile):

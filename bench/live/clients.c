@@ -1,8 +1,8 @@
-// Clients of one document:  clients [-s PID] [-o PID].. lug|yjs|redis PORT SECONDS WORK
+// Clients of one document:  clients [-s PID] [-o PID].. [-l N] lug|yjs|redis PORT SECONDS WORK
 //   drag N HZ               N clients send HZ steps a second each, and one more only receives: how late it has each step
 //   flood N WINDOW THREADS  N clients on THREADS threads send steps as fast as they can, each with at most WINDOW unacknowledged
 //   idle N                  N clients that only receive
-// -s names the server's process, -o another process of the measurement. Prints the figures as one line of JSON. Fails if an edit is refused,
+// -s names the server's process, -o another process of the measurement; -l adds N clients that receive all and don't look at it. Prints the figures as one line of JSON. Fails if an edit is refused,
 // an entry is missing, or a connection ends.
 #define _GNU_SOURCE
 #include "live.h"
@@ -13,6 +13,7 @@
 #include <string.h>
 #include <sys/epoll.h>
 #include <sys/prctl.h>
+#include <sys/socket.h>
 #include <time.h>
 #include <unistd.h>
 
@@ -34,6 +35,13 @@ struct worker {
     double slip;                    // the longest delay of a step by this program
     uint64_t received, acknowledged, copies;
     struct list late, waits;        // milliseconds until a step is received by the watching client, and until it is acknowledged
+    pthread_t thread;
+};
+
+// Clients that receive all and don't look at it, on a thread of their own.
+struct crowd {
+    int count, epoll;
+    double end;
     pthread_t thread;
 };
 
@@ -210,7 +218,7 @@ static struct client *open_one(const struct protocol *protocol, enum role role, 
 struct plan {
     const struct protocol *protocol;
     enum role role;
-    int port, clients, threads;
+    int port, clients, threads, listeners;
     double seconds, hz;
     uint64_t window;
     struct watched watched;
@@ -226,6 +234,28 @@ static void open_all(const struct plan *plan, struct worker *workers) {
         struct client *client = open_one(plan->protocol, k < plan->clients ? plan->role : WATCHES, k, plan->port);
         join_worker(&workers[k % plan->threads], client);
     }
+}
+
+// Opens the clients of a crowd.
+static void open_crowd(const struct plan *plan, struct crowd *crowd) {
+    *crowd = (struct crowd){.epoll = epoll_create1(EPOLL_CLOEXEC), .count = plan->listeners};
+    for (int k = 0; k < crowd->count; k++) {
+        struct client *client = open_one(plan->protocol, WATCHES, MOST_CLIENTS + k, plan->port);
+        struct epoll_event event = {.events = EPOLLIN, .data.fd = client->stream.fd};
+        epoll_ctl(crowd->epoll, EPOLL_CTL_ADD, client->stream.fd, &event);
+    }
+}
+
+// Drops what the server sends to a crowd.
+static void *listen_all(void *argument) {
+    struct crowd *crowd = argument;
+    struct epoll_event events[MOST_CLIENTS];
+    while (milliseconds() < crowd->end) {
+        int count = epoll_wait(crowd->epoll, events, MOST_CLIENTS, 100);
+        for (int k = 0; k < count; k++)
+            if (recv(events[k].data.fd, NULL, 1 << 20, MSG_TRUNC | MSG_DONTWAIT) == 0) fail("the server has ended the connection of a client");
+    }
+    return NULL;
 }
 
 // Starts the workers. The first steps of clients that drag are spread over the time of a step.
@@ -255,8 +285,8 @@ static int compare(const void *one, const void *other) {
 static void print_times(const char *name, struct list *list) {
     if (list->count == 0) return;
     qsort(list->items, list->count, sizeof *list->items, compare);
-    printf(",\"%s\":{\"count\":%zu,\"least\":%.2f,\"median\":%.2f,\"p95\":%.2f,\"longest\":%.2f}", name, list->count, list->items[0],
-           list->items[list->count / 2], list->items[list->count * 95 / 100], list->items[list->count - 1]);
+    printf(",\"%s\":{\"count\":%zu,\"least\":%.2f,\"median\":%.2f,\"p95\":%.2f,\"p99\":%.2f,\"longest\":%.2f}", name, list->count, list->items[0],
+           list->items[list->count / 2], list->items[list->count * 95 / 100], list->items[list->count * 99 / 100], list->items[list->count - 1]);
 }
 
 static void append(struct list *list, const struct list *more) {
@@ -288,6 +318,7 @@ static void print_steps(const struct plan *plan, const struct worker *workers) {
     for (int k = 0; k < plan->threads; k++) {
         for (int c = 0; c < workers[k].count; c++, comma = ",") printf("%s%lu", comma, workers[k].clients[c]->sent);
     }
+    for (int k = 0; k < plan->listeners; k++) printf("%s0", comma);
     printf("]");
 }
 
@@ -308,9 +339,10 @@ static const struct protocol *protocol_named(const char *name) {
 }
 
 static void read_options(struct plan *plan, int count, char **words) {
-    for (int option; (option = getopt(count, words, "s:o:")) >= 0;) {
+    for (int option; (option = getopt(count, words, "s:o:l:")) >= 0;) {
         if (option == 's') plan->watched.server = atoi(optarg);
         if (option == 'o' && plan->watched.other_count < 8) plan->watched.others[plan->watched.other_count++] = atoi(optarg);
+        if (option == 'l') plan->listeners = atoi(optarg);
         if (option == '?') exit(2);
     }
 }
@@ -322,7 +354,7 @@ static struct plan read_plan(int count, char **words) {
     count -= optind;
     const char *work = count >= 5 ? words[3] : "";
     int is_flood = strcmp(work, "flood") == 0 && count == 7, is_drag = strcmp(work, "drag") == 0 && count == 6;
-    if (!is_flood && !is_drag && !(strcmp(work, "idle") == 0 && count == 5)) fail("clients [-s PID] [-o PID].. KIND PORT SECONDS WORK");
+    if (!is_flood && !is_drag && !(strcmp(work, "idle") == 0 && count == 5)) fail("clients [-s PID] [-o PID].. [-l N] KIND PORT SECONDS WORK");
     plan.protocol = protocol_named(words[0]);
     plan.port = atoi(words[1]);
     plan.seconds = atof(words[2]);
@@ -339,14 +371,19 @@ static struct plan read_plan(int count, char **words) {
 int main(int count, char **words) {
     static struct worker workers[MOST_THREADS];
     struct plan plan = read_plan(count, words);
+    struct crowd crowd;
     prctl(PR_SET_TIMERSLACK, 1);
+    open_crowd(&plan, &crowd);
     open_all(&plan, workers);
     begin(&plan, workers);
+    crowd.end = workers[0].end;
+    if (crowd.count) pthread_create(&crowd.thread, NULL, listen_all, &crowd);
     sleep_until(workers[0].begin);
     struct sample from = take_sample(&plan.watched);
     sleep_until(workers[0].end);
     struct sample to = take_sample(&plan.watched);
     for (int k = 0; k < plan.threads; k++) pthread_join(workers[k].thread, NULL);
+    if (crowd.count) pthread_join(crowd.thread, NULL);
     print_meters(&from, &to);
     print_counts(&plan, workers, plan.seconds);
     print_steps(&plan, workers);

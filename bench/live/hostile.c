@@ -1,7 +1,8 @@
-// A hostile client of `lugcurrant serve`:  hostile PORT edits|garbage|frames
+// A hostile client of `lugcurrant serve`:  hostile PORT edits|garbage|frames|strangers
 //   edits    sends 100,000 edits on a live connection, and reads nothing
 //   garbage  sends 10,000 messages of random bytes on a live connection, then random bytes in place of a frame
 //   frames   sends edits of 2 MiB on a live connection, which the server refuses as too large
+//   strangers  10,000 connections at once that send one byte of a request and are silent; one that the server ends is made anew
 // It connects again when all is sent, the server takes nothing for a second, or the connection has ended. At SIGTERM it prints the number of
 // its connections and messages, and exits.
 #define _GNU_SOURCE
@@ -13,8 +14,10 @@
 #include <stdio.h>
 #include <stdlib.h>
 #include <string.h>
+#include <sys/socket.h>
+#include <unistd.h>
 
-enum { EDITS = 100000, MESSAGES = 10000, LONG = 2 * 1024 * 1024, PATIENCE = 1000, MOST_WAITING = 64 * 1024 };
+enum { EDITS = 100000, MESSAGES = 10000, LONG = 2 * 1024 * 1024, PATIENCE = 1000, MOST_WAITING = 64 * 1024, STRANGERS = 10000 };
 
 static volatile sig_atomic_t is_over;
 static uint64_t connections, messages;
@@ -82,11 +85,37 @@ static void send_all(struct client *client, next_message *next, int reads) {
     }
 }
 
+// Makes the connection of a stranger, and sends a byte.
+static void open_stranger(struct pollfd *polled, int port) {
+    struct stream stream = {0};
+    open_stream(&stream, port);
+    *polled = (struct pollfd){.fd = stream.fd, .events = POLLIN | POLLRDHUP};
+    connections++;
+    if (send(stream.fd, "G", 1, MSG_NOSIGNAL) == 1) messages++;
+}
+
+// Keeps strangers at the door.
+static void be_strangers(int port) {
+    static struct pollfd polled[STRANGERS];
+    int count = 0;
+    while (!is_over) {
+        for (int burst = 0; burst < 200 && count < STRANGERS; burst++) open_stranger(&polled[count++], port);
+        int ended = poll(polled, count, 10);
+        for (int k = 0; k < count && ended > 0; k++) {
+            if (!polled[k].revents) continue;
+            ended--;
+            close(polled[k].fd);
+            open_stranger(&polled[k], port);
+        }
+    }
+}
+
 int main(int count, char **words) {
     const char *kind = count == 3 ? words[2] : "";
     next_message *next = strcmp(kind, "edits") == 0 ? put_edit : strcmp(kind, "garbage") == 0 ? put_garbage : put_long;
-    if (next == put_long && strcmp(kind, "frames") != 0) fail("hostile PORT edits|garbage|frames");
+    if (next == put_long && strcmp(kind, "frames") != 0 && strcmp(kind, "strangers") != 0) fail("hostile PORT edits|garbage|frames|strangers");
     sigaction(SIGTERM, &(struct sigaction){.sa_handler = stop}, NULL);
+    if (strcmp(kind, "strangers") == 0) be_strangers(atoi(words[1]));
     while (!is_over) {
         struct client client = {.protocol = &lug};
         lug.open(&client, atoi(words[1]));

@@ -15,13 +15,15 @@ TITLES = {"lug": "Lugcurrant", "yjs": "Yjs", "redis": "Redis"}
 PEERS = {"yjs": "Yjs ({}) keeps nothing on disk.",
          "redis": "{} syncs each XADD; its clients use XREAD BLOCK."}
 HOSTILE = {"nothing": "none", "edits": "100,000 edits, reads nothing", "garbage": "garbage",
-           "frames": "edits of 2 MiB"}
+           "frames": "edits of 2 MiB", "strangers": "10,000 silent connections"}
 
 # The goals: milliseconds above the round trip, or above those without a hostile client; edits a
 # second; the share of a processor.
 MOST_MEDIAN, MOST_P95, MOST_HOSTILE = 5, 15, 5
 LEAST_ALONE, LEAST_CROWD = 5000, 60000
 MOST_IDLE = 0.001
+MOST_MANY, MOST_PROCESSORS, MOST_MEGABYTES = (10, 20), 1, 100
+MOST_IDLE_MEGABYTES = 150
 
 
 class Results:
@@ -97,6 +99,42 @@ def idle_goal(results):
     return ["50 idle clients: 0.1 % of a processor", measured, verdict(holds)]
 
 
+def many_goal(results, clients, listeners, most):
+    """Those who drag among many."""
+    name = cases.many(clients, listeners)
+    goal = f"{clients} who drag among {clients + listeners + 1:,}: {most} ms (median)"
+    late, processors, peak = (results.value(name, key) for key in ("median", "processors", "peak"))
+    if late is None:
+        return [goal, "-", "-"]
+    measured = results.figure(name, "median")
+    if not listeners:
+        return [goal, measured, verdict(late <= most)]
+    goal += f", {MOST_PROCESSORS} processor, {MOST_MEGABYTES} MB"
+    measured += f"; {results.figure(name, 'processors')}; {results.figure(name, 'peak')}"
+    holds = late <= most and processors <= MOST_PROCESSORS and peak <= MOST_MEGABYTES
+    return [goal, measured, verdict(holds)]
+
+
+def many_idle_goal(results):
+    name = cases.many_idle()
+    goal = f"{cases.MANY_IDLE:,} idle clients: {MOST_IDLE_MEGABYTES} MB, 0.1 % of a processor"
+    memory, processors = (results.value(name, key) for key in ("memory", "processors"))
+    if memory is None:
+        return [goal, "-", "-"]
+    measured = f"{results.figure(name, 'memory')}; {results.figure(name, 'processors')} processors"
+    return [goal, measured, verdict(memory <= MOST_IDLE_MEGABYTES and processors <= MOST_IDLE)]
+
+
+def strangers_goal(results):
+    goal = f"10,000 strangers delay others by {MOST_HOSTILE} ms (99 %)"
+    beside, without = (cases.beside(it) for it in ("strangers", "nothing"))
+    late = [results.value(name, "p99") for name in (beside, without)]
+    if None in late:
+        return [goal, "-", "-"]
+    measured = f"{results.figure(beside, 'p99')}, without them {results.figure(without, 'p99')}"
+    return [goal, measured, verdict(late[0] - late[1] <= MOST_HOSTILE)]
+
+
 def hostile_goal(results):
     """The hostile client that raises the median or the 95th percentile the most."""
     goal = f"a hostile client delays others by {MOST_HOSTILE} ms"
@@ -119,7 +157,10 @@ def goals(results):
         rate_goal(results, f"one client, 100 ms: {LEAST_ALONE:,} edits a second", one, LEAST_ALONE),
         rate_goal(results, f"64 clients: {LEAST_CROWD:,} edits a second", many, LEAST_CROWD),
         idle_goal(results),
+        *(many_goal(results, *case, most) for case, most in zip(cases.MANY, MOST_MANY)),
+        many_idle_goal(results),
         hostile_goal(results),
+        strangers_goal(results),
     ])
 
 
@@ -155,6 +196,14 @@ def idle(results, kinds):
     rows = [[TITLES[kind], *(results.figure(cases.idle(kind), key) for key in keys)]
             for kind in kinds]
     return table(["50 idle clients", "CPU s", "Switches/s", "MB"], rows)
+
+
+def many(results):
+    rows = [[str(clients), f"{clients + listeners + 1:,}",
+             *(results.figures(cases.many(clients, listeners), *keys)
+               for keys in (("median", "p95", "p99"), ("processors",), ("peak",)))]
+            for clients, listeners in cases.MANY]
+    return table(["Who drag", "Clients", "ms", "Processors", "Most MB"], rows)
 
 
 def hostile(results):
@@ -196,6 +245,8 @@ def section(results, servers):
                    "the document:"),
         *crowds(results, acknowledging),
         *idle(results, kinds),
+        *paragraph("**Many**: those who drag at 0 ms among clients that receive; median/95 %/99 %:"),
+        *many(results),
         *paragraph("**Beside a hostile client**: 8 clients drag at 0 ms; median/95 %/longest:"),
         *hostile(results),
     ]

@@ -19,6 +19,7 @@ PROGRAMS = {
     "hostile": ["hostile", "lug", "stream", "websocket"],
     "delay": ["delay", "stream"],
 }
+MOST_CLIENTS = 6000  # of Lugcurrant
 MOST_SECONDS = 60  # for a server to become ready, and to answer a check
 
 
@@ -132,7 +133,8 @@ class Lugcurrant:
             raise Missing(f"no program {server}")
 
     def words(self, folder, port):
-        return [self.program, "serve", f"{folder}/canvas", "--port", str(port), "--quiet"], {}
+        return [self.program, "serve", f"{folder}/canvas", "--port", str(port), "--quiet",
+                "--clients", str(MOST_CLIENTS)], {}
 
     def is_ready(self, port):
         return get(port, "/health").startswith("serving")
