@@ -3,7 +3,7 @@ ghost use Rattle.std.specs.Prelude.{◌≡◌, ◌<◌, ◌≤◌, ◌↔◌, �
 ghost use Rattle.serde_json.specs.Data.{Data, array, depth, item, null, string};
 ghost use Rattle.serde_json.specs.Read.{max_depth};
 ghost use Rattle.serde_json.specs.View.{view, items_view};
-ghost use Rattle.canvas_live.specs.Presence.{IsHereJson, IsReadable, SpellsHere, TellsHere, here_form, here_start};
+ghost use Rattle.canvas_live.specs.Presence.{IsHereJson, IsReadable, TellsHere, here_form, here_start};
 
 use canvas_forms::json_tree::{array, two, whole32, worded};
 use serde_json::Value as Json;
@@ -44,25 +44,8 @@ impl Here {
     }
 }
 
-/// Reads what a client shows: JSON of `["here",ID,VALUE]`, the id in range. Returns `None` exactly if the bytes are no text of it.
-/// Errors: out of memory. It takes time in proportion to the bytes.
-pub fn here_in(alloc: Global, bytes: &[u8]) -> Result<Option<Here>, AllocError>
-    ensures some { IfOk result (λ found. IfSome found (λ here. (value : Data) × SpellsHere bytes.now here.client value
-        × TellsHere here.text.items here.client value here.value_bytes)) }
-    ensures none { IfOk result (λ found. IfNone found ((client : ℕ) (value : Data) → SpellsHere bytes.now client value → ⊥)) }
-{
-    match Json::from_slice(alloc, bytes) {
-        Ok(json) => here_of(alloc, &json),
-        Err(error) => if error.is_memory() {
-            Err(AllocError)
-        } else {
-            Ok(None)
-        },
-    }
-}
-
-// Reads the same from a JSON tree.
-fn here_of(alloc: Global, json: &Json) -> Result<Option<Here>, AllocError>
+// Reads what a client shows from a JSON tree: `["here",ID,VALUE]`, the id in range. Returns `None` exactly if it is no such tree. Errors: out of memory.
+pub(crate) fn here_of(alloc: Global, json: &Json) -> Result<Option<Here>, AllocError>
     requires { depth (view json.now) ≤ max_depth }
     ensures some { IfOk result (λ found. IfSome found (λ here. (value : Data) × IsHereJson (view json.now) here.client value
         × TellsHere here.text.items here.client value here.value_bytes)) }

@@ -5,7 +5,9 @@
 mod here;
 mod laws;
 mod place;
+mod word;
 
-pub use here::{Here, MOST_VALUE_BYTES, here_in};
+pub use here::{Here, MOST_VALUE_BYTES};
 pub use laws::{every_here, every_place};
-pub use place::{Place, place_in};
+pub use place::Place;
+pub use word::{Word, word_in};

@@ -1,13 +1,12 @@
 // Where a client stands that asks to be told unasked.
-ghost use Rattle.std.specs.Prelude.{◌≡◌, codes, IfNone, IfOk, IfSome, option_map};
+ghost use Rattle.std.specs.Prelude.{◌≡◌, codes, IfNone, IfSome, option_map};
 ghost use Rattle.serde_json.specs.Data.{array, item, string};
 ghost use Rattle.serde_json.specs.View.{view, items_view};
-ghost use Rattle.canvas_live.specs.Word.{IsLiveJson, SpellsLive, live_form, parts_of};
+ghost use Rattle.canvas_live.specs.Word.{IsLiveJson, live_form, parts_of};
 
 use canvas_codec::parts::whole;
 use canvas_forms::json_tree::{two, whole32, worded};
 use serde_json::Value as Json;
-use std::alloc::{AllocError, Global};
 
 // The most entries that a log may have.
 const LAST_VERSION: u64 = 4_611_686_018_427_387_904;
@@ -21,24 +20,8 @@ pub struct Place {
     pub version: u64,
 }
 
-/// The place of which the bytes are a text: JSON of `["live",ID,VERSION]`, its numbers in range. `None` exactly if they are the text of none.
-/// Errors: out of memory. It takes time in proportion to the bytes.
-pub fn place_in(alloc: Global, bytes: &[u8]) -> Result<Option<Place>, AllocError>
-    ensures some { IfOk result (λ found. IfSome found (SpellsLive bytes.now)) }
-    ensures none { IfOk result (λ found. IfNone found ((place : Place) → SpellsLive bytes.now place → ⊥)) }
-{
-    match Json::from_slice(alloc, bytes) {
-        Ok(json) => Ok(place_of(&json)),
-        Err(error) => if error.is_memory() {
-            Err(AllocError)
-        } else {
-            Ok(None)
-        },
-    }
-}
-
-// The place of which this is the JSON tree.
-fn place_of(json: &Json) -> Option<Place>
+// Returns the place of which this is the JSON tree.
+pub(crate) fn place_of(json: &Json) -> Option<Place>
     ensures some { IfSome result (IsLiveJson (view json.now)) }
     ensures none { IfNone result ((place : Place) → IsLiveJson (view json.now) place → ⊥) }
 {

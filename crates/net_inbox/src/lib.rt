@@ -66,4 +66,15 @@ impl Inbox {
         self.taken.set(run.len());
         run
     }
+
+    /// Returns a copy of the message that is handed out next, if it begins with `start`. If memory runs out, none.
+    pub fn peek(&self, start: &[u8]) -> Option<Vec<u8>> {
+        if self.taken.get() > 0 {
+            return None;
+        }
+        let Ok(messages) = self.messages.try_borrow() else {
+            return None;
+        };
+        messages.peek(start)
+    }
 }

@@ -171,6 +171,15 @@ impl Messages {
         run
     }
 
+    /// Returns a copy of the oldest message, if it begins with `start`. If memory runs out, none.
+    pub(crate) fn peek(&self, start: &[u8]) -> Option<Vec<u8>> {
+        if !self.is_next(start) {
+            return None;
+        }
+        let text = self.whole.front()?;
+        Vec::from_slice(self.alloc, text).ok()
+    }
+
     // Checks whether this is the oldest message.
     fn is_first(&self, message: &[u8]) -> bool {
         match self.whole.front() {

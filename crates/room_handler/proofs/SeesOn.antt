@@ -8,6 +8,7 @@ use Rattle.canvas_nodes.specs.declared.link.LinkError.{LinkError}
 use Rattle.canvas_nodes.specs.declared.link.LinkError.TheVariants as link
 use Rattle.canvas_nodes.specs.Hears.{Breaks, BreaksAtEdit, BreaksCatching, BreaksOff, BreaksSending, CatchesUp, Climbs, Exchanges, SendsEdit, SendsEach}
 use Rattle.room_handler.specs.Links.{Grants, RefusesRound}
+use Rattle.room_handler.specs.Seats.{SeatSeesOn, SeatValue}
 use Rattle.room_handler.specs.Table.{SeesOn}
 use Rattle.room_handler.specs.Exchanges.{ExchangesSeeOn}
 
@@ -16,6 +17,10 @@ sees_further o a b c (inl h) (inl i) = inl (i ∙ h)
 sees_further o a b c (inl h) (inr i) = inr (subst (λ (x : List Mark). SeesHistory o x c) h i)
 sees_further o a b c (inr h) (inl i) = inr (subst (λ (x : List Mark). SeesHistory o a x) (sym i) h)
 sees_further o a b c (inr h) (inr i) = inr ((h.0.0 ++ i.0.0, sym (append_assoc a h.0.0 i.0.0) ∙ ap (λ (x : List Mark). x ++ i.0.0) h.0.1 ∙ i.0.1), i.1)
+
+-- the same of a seat
+pub seat_further : (o : Opening) (a b c : SeatValue) → SeatSeesOn o a b → SeatSeesOn o b c → SeatSeesOn o a c
+seat_further o a b c earlier later = (sees_further o a.seen b.seen c.seen earlier.0 later.0, later.1 ∙ earlier.1)
 
 pub refused_sees : (o : Opening) (a : List Mark) (m : Message) (e : LinkError) (b : List Mark) → RefusesRound o a m e b → SeesOn o a b
 refused_sees o a m (link.Refused reason) b h = h.0

@@ -115,7 +115,8 @@ impl<N: RoomName, D: Drop, W: Drop, T: Terms<N> + Drop> SeatAnswerer<N, D, W, T>
 
     // Returns the texts of the answer to that Ask.
     fn copied(&mut self, client: u32, version: u64) -> Result<Vec<Text>, AllocError>
-        ensures { IfOk result (λ ts. GivesTexts (SeatGives N.opening) self.old (messages.Ask client version) (map text_bytes ts.items) self.new) }
+        ensures gives { IfOk result (λ ts. GivesTexts (SeatGives N.opening) self.old (messages.Ask client version) (map text_bytes ts.items) self.new) }
+        ensures sees { SeatSeesOn N.opening self.old self.new }
     {
         self.terms
             .ask_texts(self.alloc, &mut self.seat, client, version)
@@ -142,7 +143,8 @@ impl<N: RoomName, D: Drop, W: Drop, T: Terms<N> + Drop> SeatAnswerer<N, D, W, T>
         client: u32,
         version: u64,
     ) -> Result<Vec<Vec<u8>>, AllocError>
-        ensures { IfOk result (λ ts. GivesTexts (SeatGives N.opening) self.old (messages.Ask client version) (map (λ t. t.items) ts.items) self.new) }
+        ensures gives { IfOk result (λ ts. GivesTexts (SeatGives N.opening) self.old (messages.Ask client version) (map (λ t. t.items) ts.items) self.new) }
+        ensures sees { SeatSeesOn N.opening self.old self.new }
     {
         let told = self.told(client, version)?;
         if !self.terms.may_send(&told) {
@@ -159,7 +161,8 @@ impl<N: RoomName, D: Drop, W: Drop, T: Terms<N> + Drop> SeatAnswerer<N, D, W, T>
         client: u32,
         version: u64,
     ) -> Result<Vec<Text>, AllocError>
-        ensures { IfOk result (λ ts. GivesTexts (SeatGives N.opening) self.old (messages.Ask client version) (map text_bytes ts.items) self.new) }
+        ensures gives { IfOk result (λ ts. GivesTexts (SeatGives N.opening) self.old (messages.Ask client version) (map text_bytes ts.items) self.new) }
+        ensures sees { SeatSeesOn N.opening self.old self.new }
     {
         if self.shares_copy(version) {
             return self.copied(client, version);
@@ -175,7 +178,8 @@ impl<N: RoomName, D: Drop, W: Drop, T: Terms<N> + Drop> SeatAnswerer<N, D, W, T>
         client: u32,
         version: u64,
     ) -> Result<Vec<Vec<u8>>, AllocError>
-        ensures { IfOk result (λ ts. GivesTexts (SeatGives N.opening) self.old (messages.Ask client version) (map (λ t. t.items) ts.items) self.new) }
+        ensures gives { IfOk result (λ ts. GivesTexts (SeatGives N.opening) self.old (messages.Ask client version) (map (λ t. t.items) ts.items) self.new) }
+        ensures sees { SeatSeesOn N.opening self.old self.new }
     {
         if !self.shares_copy(version) {
             return self.asked(alloc, client, version);
@@ -212,7 +216,8 @@ where
     /// Returns the texts of the answer to a message, out of a copy that many are sent, if its terms say so. Errors: out of memory; its terms
     /// don't let the texts wait to be sent.
     pub fn reply_texts(&mut self, alloc: Global, message: Message) -> Result<Vec<Text>, AllocError>
-        ensures { IfOk result (λ ts. GivesTexts (SeatGives N.opening) self.old (seen_message message) (map text_bytes ts.items) self.new) }
+        ensures gives { IfOk result (λ ts. GivesTexts (SeatGives N.opening) self.old (seen_message message) (map text_bytes ts.items) self.new) }
+        ensures sees { SeatSeesOn N.opening self.old self.new }
     {
         match asked_of(&message) {
             Some((client, version)) => self.ask_texts(alloc, client, version),
@@ -256,16 +261,29 @@ where
 
     // Returns the texts of the answer to a message that shares nothing. Errors: out of memory.
     fn answer_texts(&mut self, alloc: Global, message: Message) -> Result<Vec<Vec<u8>>, AllocError>
-        ensures { IfOk result (λ ts. GivesTexts (SeatGives N.opening) self.old (seen_message message) (map (λ t. t.items) ts.items) self.new) }
+        ensures gives { IfOk result (λ ts. GivesTexts (SeatGives N.opening) self.old (seen_message message) (map (λ t. t.items) ts.items) self.new) }
+        ensures sees { SeatSeesOn N.opening self.old self.new }
     {
-        let answer = self.answer(message)?;
+        let answer = self.given(message)?;
         texts_of(alloc, &answer)
+    }
+
+    // Returns the answer to a message, and reports it to the terms. Errors: out of memory.
+    fn given(&mut self, message: Message) -> Result<Vec<Message>, AllocError>
+        ensures gives { IfOk result (λ answer. SeatGives N.opening self.old (seen_message message) (map seen_message answer.items) self.new) }
+        ensures whole { IfOk result (λ answer. IsAnswer (map seen_message answer.items)) }
+        ensures sees { SeatSeesOn N.opening self.old self.new }
+    {
+        let answer = self.answered(message);
+        self.note(&answer);
+        answer
     }
 
     // Returns the answer to a message. Makes a checkpoint after it, if one is due. Errors: out of memory.
     fn answered(&mut self, message: Message) -> Result<Vec<Message>, AllocError>
         ensures gives { IfOk result (λ answer. SeatGives N.opening self.old (seen_message message) (map seen_message answer.items) self.new) }
         ensures whole { IfOk result (λ answer. IsAnswer (map seen_message answer.items)) }
+        ensures sees { SeatSeesOn N.opening self.old self.new }
     {
         let is_over = self.terms.is_over_limit(self.alloc, &message)?;
         if is_over {
@@ -288,9 +306,7 @@ where
     ghost gives = { SeatGives N.opening };
 
     fn answer(&mut self, message: Message) -> Result<Vec<Message>, AllocError> {
-        let answer = self.answered(message);
-        self.note(&answer);
-        answer
+        self.given(message)
     }
 
     fn texts(&mut self, alloc: Global, message: Message) -> Result<Vec<Vec<u8>>, AllocError> {

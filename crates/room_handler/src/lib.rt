@@ -21,6 +21,6 @@ pub use laws::every_exchange;
 pub use messages::answer;
 pub use seat_link::SeatLink;
 pub use shared_copy::SharedCopy;
-pub use sharing::{ask_texts, copy_for};
+pub use sharing::{ask_texts, copy_for, held_copy, held_texts, share};
 pub use terms::{Plain, Terms};
 pub use told::{Told, messages_of, told_texts};

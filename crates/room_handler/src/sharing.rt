@@ -34,6 +34,28 @@ pub fn ask_texts<N: RoomName, D: Drop>(
     }
 }
 
+/// Returns the texts of the answer to an Ask out of the copy that is held, as `held_copy` does. Never blocks, and writes no copy. Errors: out of
+/// memory.
+pub fn held_texts<N: RoomName, D: Drop>(
+    alloc: Global,
+    seat: &mut Seat<N, D>,
+    held: &Option<SharedCopy<N>>,
+    least: u64,
+    client: u32,
+    version: u64,
+) -> Result<Option<Vec<Text>>, AllocError>
+    ensures gives { IfOk result (λ told. IfSome told (λ ts. GivesTexts (Gives N.opening) seat.old (messages.Ask client version) (map text_bytes ts.items) seat.new)) }
+    ensures sees { SeesOn N.opening seat.old seat.new }
+{
+    match held_copy(alloc, seat, held, least, client, version)? {
+        Some((copy, _)) => {
+            let texts = with_idle(alloc, copy)?;
+            Ok(Some(texts))
+        }
+        None => Ok(None),
+    }
+}
+
 /// Returns the text of a copy for a client at this version, and the copy's version. The text shares its rows with other copies.
 ///
 /// It is from `held`, if that is of version `least` or later, its floor is above the client's version, the client had joined by then, and
@@ -50,15 +72,15 @@ pub fn copy_for<N: RoomName, D: Drop>(
     ensures copy { IfOk result (λ told. IfSome told (λ copy. TellsCopyAt (board N.opening seat.new) client version (text_bytes copy.0) copy.1)) }
     ensures sees { SeesOn N.opening seat.old seat.new }
 {
-    match copy_held(alloc, seat, held, least, client, version)? {
+    match held_copy(alloc, seat, held, least, client, version)? {
         Some(copy) => Ok(Some(copy)),
         None => copy_now(alloc, seat, held, client, version),
     }
 }
 
-// Returns the text for a client from the copy that is held, if that is of version `least` or later. Returns None if it has none for the
-// client, or the seat has seen more.
-fn copy_held<N: RoomName, D: Drop>(
+/// Returns the text for a client from the copy that is held, if that is of version `least` or later, and the copy's version. Returns `None` if it
+/// has none for the client, or the seat has seen more. Never blocks, and writes no copy. Errors: out of memory.
+pub fn held_copy<N: RoomName, D: Drop>(
     alloc: Global,
     seat: &mut Seat<N, D>,
     held: &Option<SharedCopy<N>>,
@@ -134,8 +156,8 @@ fn wants_copy<N: RoomName, D: Drop>(
     }
 }
 
-// A copy of what is published, for all that are sent it.
-fn share<N: RoomName, D: Drop>(
+/// Returns a copy of what is published, for all that are sent it. Never blocks. Errors: out of memory.
+pub fn share<N: RoomName, D: Drop>(
     alloc: Global,
     seat: &mut Seat<N, D>,
 ) -> Result<SharedCopy<N>, AllocError>

@@ -8,8 +8,8 @@ use Rattle.room_handler.specs.Told.{seen_told}
 use Rattle.room_handler.proofs.Limits.{ask_answered}
 use Rattle.room_handler.proofs.answerer.SeatAnswerer.asked.Goals as goal
 
-pub returns : goal.returns
-returns g c =
+pub returns-clause-gives : goal.returns-clause-gives
+returns-clause-gives g c =
     let o = g.N.RoomName.opening in
     let items = λ (ts : Vec (Vec ℕ Global) Global). map (λ (t : Vec ℕ Global). t.items) ts.items in
     IfOk-weaker c.told_texts.result (λ ts. AreMessageTexts (items ts) (map seen_told c.deref-2.result.now))

@@ -9,8 +9,8 @@ use Rattle.room_handler.specs.Table.{Gives}
 use Rattle.room_handler.proofs.Limits.{ask_given}
 use Rattle.room_handler.proofs.answerer.SeatAnswerer.copied.Goals as goal
 
-pub returns : goal.returns
-returns g c =
+pub returns-clause-gives : goal.returns-clause-gives
+returns-clause-gives g c =
     let o = g.N.RoomName.opening in
     let limit = g.T.Terms.limit c.self.inside.terms in
     let old = c.self.inside.seat in
