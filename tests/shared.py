@@ -38,7 +38,7 @@ def record(name, **figures):
 class Client:
     """A WebSocket client that waits for each answer. With `room` the system keeps that many bytes for it, and a server's rest soon waits there."""
 
-    def __init__(self, port, path="/", origin=None, timeout=30, room=None):
+    def __init__(self, port, path="/", origin=None, timeout=30, room=None, fields=()):
         self.socket = socket.socket()
         self.socket.settimeout(timeout)
         if room is not None:
@@ -50,6 +50,7 @@ class Client:
                  "Sec-WebSocket-Key: " + base64.b64encode(os.urandom(16)).decode(), "Sec-WebSocket-Version: 13"]
         if origin is not None:
             lines.append(f"Origin: {origin}")
+        lines += fields
         self.socket.sendall(("\r\n".join(lines) + "\r\n\r\n").encode())
         self.rest = b""
         while b"\r\n\r\n" not in self.rest:

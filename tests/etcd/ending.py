@@ -209,11 +209,12 @@ def causes(room):
     etcd = Etcd(os.path.join(room, "etcd"))
     damaged(etcd)
     while_it_runs(etcd)
+    while_it_opens(etcd)
     for words in (["user", "add", "root:secret"], ["role", "add", "root"], ["user", "grant-role", "root", "root"], ["auth", "enable"]):
         etcd.ctl(*words)
     refuses(etcd, "wants a password, or denies permission: turn its authentication off", status=8)
     encrypted(os.path.join(room, "tls"))
-    return "an etcd that isn't there, is silent, wants a password or TLS, has foreign, damaged and missing keys, the last ones too; and while a server runs"
+    return "an etcd that isn't there, is silent, wants a password or TLS, has foreign, damaged and missing keys, the last ones too; while a server runs, and while a document is opened or imported"
 
 
 def damaged(etcd):
@@ -246,6 +247,29 @@ def while_it_runs(etcd):
         require(server.process.wait(30) in (4, 10), "a server ends with", server.process.returncode)
         require("the store of runs failed" in server.text() and f", because the etcd {why}: what was acknowledged" in server.text()
                 or "the lease of the document runs has ended" in server.text(), "a server tells", server.text()[-300:])
+        front.end()
+
+
+def while_it_opens(etcd):
+    """What a server and an import tell that lose the document while they open it or write it."""
+    lines = "".join([ROOT] + [json.dumps([[1, number], *page(1, number)[2:], [["text", "x" * 100_000]]]) + "\n" for number in range(1, 151)])
+    call("import", *etcd.words("opened"), text=lines.encode())
+    etcd.await_free("opened")
+    front = Front(etcd)
+    for name, path, command, text in (("opened", RANGE, ["serve", "--port", "0"], ""), ("imported", TXN, ["import"], lines)):
+        front.name = name
+        front.begin("late", path, millis=500)
+        with open(os.path.join(etcd.room, f"log-{name}"), "w+") as log:
+            process = subprocess.Popen([PROGRAM, *command, *front.words()], stdin=subprocess.PIPE, stdout=log, stderr=log)
+            threading.Thread(target=feed, args=(process, text), daemon=True).start()
+            until(lambda: etcd.keys(f"lugcurrant/{name}/owner") or process.poll() is not None, 60, "a command takes nothing over")
+            time.sleep(1.5)
+            require(process.poll() is None, command, "has ended with", process.returncode)
+            etcd.ctl("del", f"lugcurrant/{name}/owner")
+            ended = process.wait(60)
+            log.seek(0)
+            text = log.read()
+        require(ended == 10 and told(name, "no longer names this process as its owner: start again") in text, command, "end with", ended, text[-300:])
         front.end()
 
 

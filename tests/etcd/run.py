@@ -33,7 +33,8 @@ own on loopback; only the named groups, where some are named.
   says no more that it serves, once its lease has.
 - stopped: a file that is there is refused; a server at whose file comes ends with status 0, a standby acknowledges within a second, and all that
   was acknowledged stands once.
-- causes: each cause of an etcd that doesn't do what it is asked has its sentence and its status.
+- causes: each cause of an etcd that doesn't do what it is asked has its sentence and its status, also one that is lost while a document is
+  opened or imported.
 - gone: a document whose identity is there and whose segments aren't isn't served, shown, checked, moved or imported over: status 5, and nothing is written.
 - killed: an import longer than the lease; a command that is killed frees its document with the lease.
 - patience: a standby waits while the etcd has no room, says so, and serves once it has.

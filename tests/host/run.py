@@ -64,6 +64,10 @@ own; only the named groups, where some are named.
 - served: CHECKS (200) checks of a folder of 256 objects whose server is edited by 62 clients in two processes: none reports damage or a loss.
 - memory: each call by which `check` asks for memory is refused, one in each run, from the reading of its words on: it ends with status 3, with 4
   where it can't write its output, or does as it does without. (It needs cc, and passes where there is none.)
+- kick: an operator ends connections by their numbers: live, busy, silent and deaf ones, and 300 at once; the others go on. A `kick` that no server
+  takes leaves nothing. A file with something else, a large one, a link, a pipe and a folder end nothing and hold up nothing; nor does one
+  that was there before the server.
+- forwarded: with --trust-forwarded the log tells the address that a proxy names last, if it is one, and else the peer's alone.
 - coming: six clients come, edit and go again for SECONDS (30), and the server's memory stays flat.
 
 Prints a line for each group, and exits with 1 where one went wrong. Needs no package."""
@@ -88,6 +92,7 @@ from pathlib import Path
 
 sys.path.insert(0, str(Path(__file__).resolve().parents[1]))
 
+import operators  # noqa: E402
 import shared  # noqa: E402
 from shared import Client, Wrong, draw, framed, numbers_and_names, page, read_answer, record, require, text_of, try_groups  # noqa: E402
 
@@ -1184,7 +1189,7 @@ def sentences(room):
         require(done.returncode == 4 and "no more files can be opened" in done.stderr, "with", most, "open files:", done.returncode, done.stderr)
     fault(2, "--clients", "serve", room, "--clients", "100001")
     fault(2, "--clients", "serve", room, "--clients", "0")
-    fault(2, "--workers", "serve", room, "--workers", "65")
+    fault(2, "--workers", "serve", room, "--workers", "32")
     fault(2, "--port", "serve", room, "--port", "70000")
     fault(2, "Usage", "serve")
     for origin in ("canvas.example", "https://canvas.example/", "https://Canvas.example", "https://canvas.example/page", "https:canvas.example",
@@ -1815,6 +1820,6 @@ def coming(room):
 
 
 GROUPS = (reuse, full, quiet, strangers, ended, unread, stopped, pages, origins, hosts, handshakes, identity, kills, figures, sizes, copies, pace, pieces, large, disk, space, sentences, rights, rows, restored, whole, lost, torn, gone, moved, checked, served,
-          memory, coming)
+          memory, *operators.GROUPS, coming)
 
 sys.exit(try_groups(GROUPS, NAMES))

@@ -126,9 +126,9 @@ def counts(room):
     return "pushes and live clients are counted, also those that go"
 
 
-def hears(peer, wanted):
+def hears(peer, wanted, seconds=LIMIT):
     """Waits until this peer is told this last of what clients tell of themselves."""
-    end = time.monotonic() + LIMIT
+    end = time.monotonic() + seconds
     while wanted not in peer.heres:
         require(time.monotonic() < end, "isn't told", wanted, "but", peer.heres[-3:])
         peer.read(1)
@@ -208,6 +208,38 @@ def here(room):
     return f"{HERES} in {seconds:.1f} s were told {len(told)} times, the last one too; {len(refused) + 1} refused; null once its connection has ended; {notes[0]}"
 
 
+SHOWERS, QUIETS = 6, 300
+WITHIN = 15  # seconds within which it is told, though nothing else comes: sooner than a ping
+
+
+def quiet(room):
+    server, dice = Server(room), random.Random(1)
+    peers = [Peer(server).begin() for _ in range(SHOWERS)]
+    for number in range(QUIETS):
+        some = dice.sample(peers, dice.randrange(1, SHOWERS + 1))
+        for peer in some:
+            time.sleep(dice.choice([0, dice.random() / 30]))
+            peer.say("here", peer.name, number)
+        for peer in some:
+            peer.answers(1)
+        for peer in peers:
+            for other in some:
+                hears(peer, ["here", other.name, number], WITHIN)
+            peer.heres.clear()
+    again, first, other = Peer(server), *peers[:2]
+    again.say("live", first.name, first.version)
+    again.say("here", first.name, "newer")
+    again.answers(2)
+    hears(other, ["here", first.name, "newer"])
+    first.leave()
+    other.read(1)
+    require(["here", first.name, None] not in other.heres, "who has told more on another connection is told to have gone")
+    again.leave()
+    hears(other, ["here", first.name, None])
+    server.kill()
+    return f"{QUIETS} times some of {SHOWERS} clients tell something of themselves, and all are told"
+
+
 WRITES, TOGETHER, SENDERS = 20, 64, 8
 
 
@@ -284,9 +316,9 @@ def together(room):
 
 
 LARGEST = 2 * MIB  # of a message, if an edit may have 1 MiB
-# For each of eight clients a message of 2 MiB as bytes and as a JSON tree: that of [0,0,..] has a value of 32 bytes for two bytes of text, in a list with
-# room for twice as many.
-LARGE = 8 * 2 * (1 + 32) * 2 * 1024
+# For each of eight clients a message of 2 MiB, with room for twice as many bytes, and in each of the allocator's two arenas what a JSON tree took: that of
+# [0,0,..] has a value of 32 bytes for two bytes of text, in a list with room for twice as many.
+LARGE = (8 * 2 * 2 + 2 * 2 * 32) * 1024
 
 
 def large_messages(name):
@@ -320,6 +352,46 @@ def large(room):
         require(not faults and not any(thread.is_alive() for thread in threads), "messages of 2 MiB have other answers:", faults[:3])
         require(server.ended(TOO_LARGE) == 8, "of 8 connections ended for a message that was too large", server.ended(TOO_LARGE))
     return f"8 clients send 8 messages of 2 MiB each, and one with a byte more; {notes[0]}"
+
+
+# For eight clients a message of 2 MiB each, with room for twice as many bytes, and in each of the allocator's two arenas what a JSON tree took: 80 bytes for
+# each byte of the text of an edit.
+TREES = (8 * 2 * 2 + 2 * 80) * 1024
+
+
+def nested(head, unit, size):
+    """A text of this size at most, which repeats this unit in lists."""
+    tail = b"0" + b"]" * head.count(b"[")
+    return head + unit * ((size - len(head) - len(tail)) // len(unit)) + tail
+
+
+def large_trees(name):
+    """Messages whose JSON trees are large for their texts, with the answer to each: those that no edit of 1 MiB has are refused unread."""
+    objects, lists = (opened * 100 + b"0" + closed * 100 + b"," for opened, closed in ((b'{"":', b"}"), (b"[", b"]")))
+    here = b'["here",%d,[' % name
+    return [(nested(head, unit, LARGEST), ["no", 7]) for head in (b"[", here) for unit in (objects, lists)] + [
+        (nested(b"[", lists, MIB), ["no", 9]), (nested(here, lists, MIB), ["no", 8]), (nested(here, objects, MIB // 64), ["no", 8])]
+
+
+def trees(room):
+    notes, faults = [], []
+
+    def send(peer):
+        for payload, wanted in large_trees(peer.name):
+            peer.socket.sendall(cheap_frame(payload))
+            ends = peer.answers(1)
+            if ends != [wanted]:
+                faults.append((payload[:40], len(payload), ends))
+        peer.leave()
+
+    with watched(room, notes, TREES) as server:
+        threads = [threading.Thread(target=send, args=(Peer(server).begin(),)) for _ in range(8)]
+        for thread in threads:
+            thread.start()
+        for thread in threads:
+            thread.join(LIMIT)
+        require(not faults and not any(thread.is_alive() for thread in threads), "messages with large JSON trees have other answers:", faults[:3])
+    return f"8 clients send 7 messages each whose JSON trees are large; {notes[0]}"
 
 
 HALVES = {
@@ -653,6 +725,39 @@ HOARDERS = 16
 HOARDED = POOL + HOARDERS * EACH + 2 * COPY + SMALL
 
 
+NEWCOMERS, BEHIND = 24, 20
+
+
+def newcomers(room):
+    """Live clients that begin at version 0 get a copy each, and behind it each entry, while another one edits: nobody waits while copies are written."""
+    notes = []
+    imported(room, ROWS, ROW)
+    with watched(room, notes, POOL + NINTH, most_later=LATER) as server:
+        begun = time.monotonic()
+        peers = [Peer(server).begin(0) for _ in range(NEWCOMERS)]
+        until_told(peers, 1)
+        seconds = time.monotonic() - begun
+        until_told(peers, 1 + BEHIND)
+        for peer in peers:
+            kinds, versions = [message[0] for message in peer.told], [message[1] for message in peer.told]
+            last = max(at for at, kind in enumerate(kinds) if kind == "copy")
+            require(len(peer.told[last][3]) == ROWS + 1, "a copy has so many objects:", len(peer.told[last][3]))
+            require(versions[last:] == list(range(versions[last], versions[last] + len(versions) - last)), "behind its copy a client is told", versions[last:])
+            require(last == kinds.index("copy"), "a client is told a second copy, after", versions[:last])
+            peer.leave()
+        until(lambda: server.metric("clients") == 2, "a seat isn't free again")
+    return f"{NEWCOMERS} live clients have their copies of {COPY / 1024:.0f} MB within {seconds:.1f} s, and then each entry; {notes[0]}"
+
+
+def until_told(peers, count):
+    """Waits until each of these clients was told so many entries and copies."""
+    end = time.monotonic() + LIMIT
+    for peer in peers:
+        while len(peer.told) < count:
+            require(time.monotonic() < end, "a client is told only", len(peer.told), "messages")
+            peer.read(1)
+
+
 def is_told_full(peer):
     """Checks whether a client that reads nothing was answered No 7."""
     with contextlib.suppress(OSError):
@@ -775,4 +880,4 @@ def burst(room):
     return f"of {BURST} clients that ask at once for answers of {size / 1e6:.1f} MB {full} are answered No 7, and the others are disconnected; {notes[0]}"
 
 
-GROUPS = (garbage, words, here, crowd, counts, together, large, silent, deaf, pings, trickle, busy, resets, slow, ninth, resting, hoarders, filled, burst)
+GROUPS = (garbage, words, here, quiet, crowd, counts, together, large, trees, silent, deaf, pings, trickle, busy, resets, slow, ninth, resting, newcomers, hoarders, filled, burst)

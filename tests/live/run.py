@@ -8,10 +8,12 @@ all groups are run.
 - garbage: messages that the server can't read are answered by No 9, frames that break the protocol end a connection, after the answers before them.
 - words: spellings of `live`, unknown ids, versions above the server's; thousands of `live` in one write.
 - here: what clients tell of themselves reaches all live ones, the last always, at most 30 a second of each; null at the end; what is refused.
+- quiet: what clients tell of themselves arrives though nothing else comes; of a client's two connections that ends which told less.
 - crowd: a thousand live clients; each sees an edit; they take at most 25 kB each.
 - counts: the metrics count live clients and pushes.
 - together: edits that come at once share a sync, also those of several clients; other messages between them are answered in their order.
 - large: messages of 2 MiB, and of a byte more, from eight clients at once.
+- trees: messages from eight clients at once whose JSON trees are large for their texts.
 - silent: connections that are silent within a frame end after --idle; those that are closed within a frame end at once.
 - deaf: a client sends 100,000 edits and reads nothing.
 - pings: a client sends 200,000 pings and reads no pong; of another one each ping has its pong.
@@ -21,12 +23,13 @@ all groups are run.
 - slow: 20 live clients read nothing while another one sends batches of 20 edits of 200 kB.
 - ninth: eight clients read a byte a second of their copies of 10 MB; a ninth one joins, and has its own copy.
 - resting: twelve clients, one after the other, join, have copies of 10 MB of their own, and stay.
+- newcomers: live clients that begin at version 0 have a copy of 10 MB each, and then each entry, while another one edits.
 - hoarders: sixteen clients join, ask for copies of 10 MB, and read nothing.
 - filled: slow readers hold answers of 64 MiB; four more that ask are answered No 7 at once, and served once slow readers are disconnected.
 - burst: forty clients ask for answers of 16 MB at once, and read nothing.
 
-All but storm also bound the server's memory, and report the milliseconds after which edits of one other client arrive at another (median, 95th percentile),
-with the hostile clients and before; ninth, resting, hoarders and filled bound how much later they arrive. The storm needs Debian's python3-websockets. Without
+All but storm and quiet also bound the server's memory, and report the milliseconds after which edits of one other client arrive at another (median, 95th percentile),
+with the hostile clients and before; ninth, resting, newcomers, hoarders and filled bound how much later they arrive. The storm needs Debian's python3-websockets. Without
 liblugcurrant.so or canvas.wasm its clients are stand-ins, as its line says.
 
 Prints a line for each group and each go, and exits with 1 if one failed."""

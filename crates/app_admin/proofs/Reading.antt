@@ -10,7 +10,7 @@ use Rattle.canvas_lines.specs.Lines.{lines_of}
 use Rattle.app_admin.specs.Imports.{before, row_part, row_texts}
 use Rattle.app_admin.specs.RowFaults.{IsLineFault, IsReadFault, last_id}
 use Rattle.app_faults.specs.declared.fault.Fault.{Fault}
-use Rattle.app_faults.specs.declared.fault.Fault.TheVariants.{NotAnOrigin, NotAHost, NotAUrl, NotAName, ClientCount, NoPage, StopFile, PortInUse, PortDenied, NoPort, InUse, Denied, AboveDenied, NoDescriptor, NoRoom, Device, Taken, NoSegment, Gone, Lost, NotKept, Identity, ChangedIdentity, Busy, Damaged, TooLarge, NoSpace, NoStore, BadLine, NoDocument, Stream, NoThread, JournalFailed, StoreFailed, LeaseEnded, Stopped, Memory}
+use Rattle.app_faults.specs.declared.fault.Fault.TheVariants.{NotAnOrigin, NotAHost, NotAUrl, NotAName, WorkerCount, NoPage, StopFile, PortInUse, PortDenied, NoPort, InUse, Denied, AboveDenied, NoDescriptor, NoRoom, Device, Taken, NoSegment, Gone, Lost, NotKept, Identity, ChangedIdentity, Busy, Damaged, TooLarge, NoSpace, NoStore, BadLine, NoDocument, Stream, NoThread, NoKick, JournalFailed, StoreFailed, LeaseEnded, Stopped, Memory}
 
 row_text_of : (text : List ℕ) (row : Row) → SpellsRow text row → IsRowText text row
 unfolding IsRowText
@@ -76,7 +76,7 @@ read_fault input done more line text rows number NotAnOrigin lines counted are p
 read_fault input done more line text rows number NotAHost lines counted are part is = absurd is
 read_fault input done more line text rows number NotAUrl lines counted are part is = absurd is
 read_fault input done more line text rows number NotAName lines counted are part is = absurd is
-read_fault input done more line text rows number ClientCount lines counted are part is = absurd is
+read_fault input done more line text rows number WorkerCount lines counted are part is = absurd is
 read_fault input done more line text rows number NoPage lines counted are part is = absurd is
 read_fault input done more line text rows number StopFile lines counted are part is = absurd is
 read_fault input done more line text rows number PortInUse lines counted are part is = absurd is
@@ -103,6 +103,7 @@ read_fault input done more line text rows number (NoStore why) lines counted are
 read_fault input done more line text rows number NoDocument lines counted are part is = absurd is
 read_fault input done more line text rows number Stream lines counted are part is = absurd is
 read_fault input done more line text rows number NoThread lines counted are part is = absurd is
+read_fault input done more line text rows number (NoKick why) lines counted are part is = absurd is
 read_fault input done more line text rows number (JournalFailed call) lines counted are part is = absurd is
 read_fault input done more line text rows number (StoreFailed call why) lines counted are part is = absurd is
 read_fault input done more line text rows number LeaseEnded lines counted are part is = absurd is

@@ -66,6 +66,10 @@ fn command_of(alloc: Global, name: &str, matches: &ArgMatches<'_>) -> Result<Inv
         "log" => Invocation::Log {
             place: place_of(alloc, matches)?,
         },
+        "kick" => Invocation::Kick {
+            file: text_of(alloc, matches, "file")?,
+            numbers: numbers_of(alloc, matches)?,
+        },
         _ => Invocation::Check {
             place: place_of(alloc, matches)?,
         },
@@ -114,7 +118,8 @@ fn program<'a>(alloc: Global) -> Result<Command<'a>, AllocError> {
     let program = with_command(program, restore_command(alloc));
     let program = with_command(program, move_command(alloc));
     let program = with_command(program, check_command(alloc));
-    with_command(program, log_command(alloc))
+    let program = with_command(program, log_command(alloc));
+    with_command(program, kick_command(alloc))
 }
 
 // These three take and give what may want memory as a result. Thus a command is given up for want of it here alone, and not wherever
@@ -144,7 +149,7 @@ fn with_group<'a>(
     command?.group(group?)
 }
 
-// A folder, as an argument that is required.
+// A folder or a file, as an argument that is required.
 fn folder<'a>(
     alloc: Global,
     name: &'static str,
@@ -235,6 +240,8 @@ fn serve_command<'a>(alloc: Global) -> Result<Command<'a>, AllocError> {
     let serve = with_arg(serve, Ok(page(alloc)));
     let serve = with_arg(serve, accept_loss(alloc));
     let serve = with_arg(serve, Ok(stop_file(alloc)));
+    let serve = with_arg(serve, Ok(kick_file(alloc)));
+    let serve = with_arg(serve, Ok(trust_forwarded(alloc)));
     with_arg(serve, Ok(flag(alloc, "quiet", "Log errors only")))
 }
 
@@ -278,8 +285,8 @@ fn clients<'a>(alloc: Global) -> Arg<'a> {
 
 // The threads, as an argument.
 fn workers<'a>(alloc: Global) -> Arg<'a> {
-    let help = "Threads that serve clients, 1 to 64";
-    number(alloc, "workers", "N", "8", help).value_parser(value_parser!(u32).range(1..65))
+    let help = "Threads that serve clients, 1 to 31";
+    number(alloc, "workers", "N", "8", help).value_parser(value_parser!(u32).range(1..32))
 }
 
 // The longest silence, as an argument.
@@ -333,6 +340,18 @@ fn page<'a>(alloc: Global) -> Arg<'a> {
 fn stop_file<'a>(alloc: Global) -> Arg<'a> {
     let help = "Stop in good order, with status 0, once this file exists";
     option(alloc, "stop-file", "FILE", help)
+}
+
+// The file with the numbers of connections that an operator ends, as an argument.
+fn kick_file<'a>(alloc: Global) -> Arg<'a> {
+    let help = "End the connections whose numbers this file has, and remove it";
+    option(alloc, "kick-file", "FILE", help)
+}
+
+// Checks whether the address that a proxy names is logged, as an argument.
+fn trust_forwarded<'a>(alloc: Global) -> Arg<'a> {
+    let help = "Log the address that the proxy names last in X-Forwarded-For";
+    flag(alloc, "trust-forwarded", help)
 }
 
 // The words of `show`.
@@ -423,6 +442,27 @@ fn log_command<'a>(alloc: Global) -> Result<Command<'a>, AllocError> {
     with_place(alloc, log, "Folder that holds the document")
 }
 
+// The words of `kick`.
+fn kick_command<'a>(alloc: Global) -> Result<Command<'a>, AllocError> {
+    let kick = Command::new(alloc, "kick").about(
+        "End connections of a running server, by the numbers in its log",
+    );
+    let help = "File that --kick-file of the server names";
+    let kick = with_arg(Ok(kick), Ok(folder(alloc, "file", "FILE", help)));
+    with_arg(kick, Ok(numbers(alloc)))
+}
+
+// The numbers of connections, as an argument.
+fn numbers<'a>(alloc: Global) -> Arg<'a> {
+    Arg::new(alloc, "numbers")
+        .value_name("NUMBER")
+        .required(true)
+        .num_args(1..1_001)
+        .action(ArgAction::Append)
+        .value_parser(value_parser!(u64))
+        .help("Numbers of connections, at most 1000")
+}
+
 // What `serve` is asked for.
 fn options_of(alloc: Global, matches: &ArgMatches<'_>) -> Result<Options, WordsError>
     ensures { IfOk result (λ options. NamesOrigins options.serving) }
@@ -442,6 +482,7 @@ fn serving_of(alloc: Global, matches: &ArgMatches<'_>) -> Result<Serving, WordsE
     let origins = origins_of(alloc, matches)?;
     let page = path_of(alloc, matches, "page")?;
     let stop_file = path_of(alloc, matches, "stop-file")?;
+    let kick_file = path_of(alloc, matches, "kick-file")?;
     Ok(Serving {
         is_standby: matches.get_flag("standby"),
         port: matches.get_one("port").unwrap_or(7411),
@@ -454,8 +495,24 @@ fn serving_of(alloc: Global, matches: &ArgMatches<'_>) -> Result<Serving, WordsE
         page,
         accept_loss: matches.get_flag("accept-loss"),
         stop_file,
+        kick_file,
+        trust_forwarded: matches.get_flag("trust-forwarded"),
         quiet: matches.get_flag("quiet"),
     })
+}
+
+// The numbers of connections.
+fn numbers_of(alloc: Global, matches: &ArgMatches<'_>) -> Result<Vec<u64>, WordsError> {
+    let mut numbers = Vec::new(alloc);
+    let Some(given) = matches.get_many::<u64>("numbers") else {
+        return Ok(numbers);
+    };
+    for number in given {
+        if let Ok(number) = number {
+            numbers.push(number)?;
+        }
+    }
+    Ok(numbers)
 }
 
 // The hosts that it may be asked by.

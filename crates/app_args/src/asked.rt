@@ -67,6 +67,13 @@ pub enum Invocation {
         /// Where the document is.
         place: DocumentPlace,
     },
+    /// To end connections of a server.
+    Kick {
+        /// The file that brings the server their numbers.
+        file: String,
+        /// Their numbers.
+        numbers: Vec<u64>,
+    },
 }
 
 /// What a server is asked for.
@@ -123,6 +130,10 @@ pub struct Serving {
     pub accept_loss: bool,
     /// The file at which the server ends once it is there, if one is named.
     pub stop_file: Option<String>,
+    /// The file with the numbers of connections that an operator ends, if one is named.
+    pub kick_file: Option<String>,
+    /// If set, the address that a proxy names is logged.
+    pub trust_forwarded: bool,
     /// Whether faults alone are told.
     pub quiet: bool,
 }
@@ -141,6 +152,8 @@ impl Drop for Serving {
             page: _,
             accept_loss: _,
             stop_file: _,
+            kick_file: _,
+            trust_forwarded: _,
             quiet: _,
         } = self;
     }
@@ -165,6 +178,8 @@ impl Serving {
             page,
             accept_loss: _,
             stop_file: _,
+            kick_file: _,
+            trust_forwarded: _,
             quiet: _,
         } = self;
         (hosts, origins, page)

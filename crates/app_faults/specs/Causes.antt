@@ -54,7 +54,7 @@ why_text Refused = codes "wants a password, or denies permission"
 why_text TlsWanted = codes "wants TLS"
 why_text NoSpace = codes "has no space left"
 why_text Damaged = codes "holds damaged or foreign keys"
-why_text Lost = codes "no longer names this server as its owner"
+why_text Lost = codes "no longer names this process as its owner"
 why_text Memory = codes "wasn't asked, out of memory"
 
 -- what a person may do about that

@@ -75,7 +75,7 @@ fault_of_store store.Refused = NoStore store.Refused
 fault_of_store store.TlsWanted = NoStore store.TlsWanted
 fault_of_store store.NoSpace = NoStore store.NoSpace
 fault_of_store store.Damaged = NoStore store.Damaged
-fault_of_store store.Lost = InUse
+fault_of_store store.Lost = NoStore store.Lost
 fault_of_store store.Memory = Memory
 
 -- the same, for this reason if one is known

@@ -3,7 +3,7 @@ use Rattle.std.specs.Prelude.{ℕ, Option, Some, None}
 use Rattle.etcd_store.specs.declared.error.StoreError.{StoreError}
 use Rattle.etcd_store.specs.declared.error.StoreError.TheVariants as store
 use Rattle.app_faults.specs.declared.fault.Fault.{Fault}
-use Rattle.app_faults.specs.declared.fault.Fault.TheVariants.{NotAnOrigin, NotAHost, NotAUrl, NotAName, ClientCount, NoPage, StopFile, PortInUse, PortDenied, NoPort, InUse, Denied, AboveDenied, NoDescriptor, NoRoom, Device, Taken, NoSegment, Gone, Lost, NotKept, Identity, ChangedIdentity, Busy, Damaged, TooLarge, NoSpace, NoStore, BadLine, NoDocument, Stream, NoThread, JournalFailed, StoreFailed, LeaseEnded, Stopped, Memory}
+use Rattle.app_faults.specs.declared.fault.Fault.TheVariants.{NotAnOrigin, NotAHost, NotAUrl, NotAName, WorkerCount, NoPage, StopFile, PortInUse, PortDenied, NoPort, InUse, Denied, AboveDenied, NoDescriptor, NoRoom, Device, Taken, NoSegment, Gone, Lost, NotKept, Identity, ChangedIdentity, Busy, Damaged, TooLarge, NoSpace, NoStore, BadLine, NoDocument, Stream, NoThread, NoKick, JournalFailed, StoreFailed, LeaseEnded, Stopped, Memory}
 
 -- of an etcd that doesn't do what it is asked: 3 for want of memory, 5 if a person must look at the document, 8 for want of rights, 9 for want of space, 10 if another server owns the document, and 4 for all else
 abbrev pub store_status : StoreError → ℕ
@@ -35,7 +35,7 @@ exit_status_of NotAnOrigin = 2
 exit_status_of NotAHost = 2
 exit_status_of NotAUrl = 2
 exit_status_of NotAName = 2
-exit_status_of ClientCount = 2
+exit_status_of WorkerCount = 2
 exit_status_of NoPage = 2
 exit_status_of StopFile = 2
 exit_status_of PortInUse = 7
@@ -63,6 +63,7 @@ exit_status_of (BadLine line fault) = 2
 exit_status_of NoDocument = 2
 exit_status_of Stream = 4
 exit_status_of NoThread = 4
+exit_status_of (NoKick why) = 4
 exit_status_of (JournalFailed call) = 4
 exit_status_of (StoreFailed call why) = stored_status why
 exit_status_of LeaseEnded = 10

@@ -7,7 +7,8 @@ use Rattle.app_faults.specs.Rows.{row_sentence}
 use Rattle.app_faults.specs.Statuses.{exit_status_of}
 use Rattle.app_faults.specs.Subjects.{holder_text, subject_text, remedy_text, retry_text}
 use Rattle.app_faults.specs.declared.fault.Fault.{Fault}
-use Rattle.app_faults.specs.declared.fault.Fault.TheVariants.{NotAnOrigin, NotAHost, NotAUrl, NotAName, ClientCount, NoPage, StopFile, PortInUse, PortDenied, NoPort, InUse, Denied, AboveDenied, NoDescriptor, NoRoom, Device, Taken, NoSegment, Gone, Lost, NotKept, Identity, ChangedIdentity, Busy, Damaged, TooLarge, NoSpace, NoStore, BadLine, NoDocument, Stream, NoThread, JournalFailed, StoreFailed, LeaseEnded, Stopped, Memory}
+use Rattle.app_faults.specs.declared.fault.Fault.TheVariants.{NotAnOrigin, NotAHost, NotAUrl, NotAName, WorkerCount, NoPage, StopFile, PortInUse, PortDenied, NoPort, InUse, Denied, AboveDenied, NoDescriptor, NoRoom, Device, Taken, NoSegment, Gone, Lost, NotKept, Identity, ChangedIdentity, Busy, Damaged, TooLarge, NoSpace, NoStore, BadLine, NoDocument, Stream, NoThread, NoKick, JournalFailed, StoreFailed, LeaseEnded, Stopped, Memory}
+use Rattle.app_faults.specs.declared.kick_fault.KickFault.TheVariants as kick
 use Rattle.app_faults.specs.declared.subject.Subject.{Subject}
 use Rattle.app_faults.specs.declared.subject.Subject.TheVariants.{Folder, ServedFolder, Document, ServedDocument}
 
@@ -17,7 +18,7 @@ sentence NotAnOrigin s name port = codes "--origin wants an origin as browsers s
 sentence NotAHost s name port = codes "--host wants a host as browsers send it, canvas.example or canvas.example:8443: small letters, and no http:// before it"
 sentence NotAUrl s name port = codes "--etcd wants URLs as http://127.0.0.1:2379, with commas between them"
 sentence NotAName s name port = codes "--document wants a name of 1 to 64 letters, digits, -, . and _"
-sentence ClientCount s name port = codes "1 to 64 clients can be served at once"
+sentence WorkerCount s name port = codes "1 to 31 workers can serve at once"
 sentence NoPage s name port = codes "--page wants a folder with a file index.html that can be read"
 sentence StopFile s name port = codes "--stop-file wants a path at which no file is yet: remove what is there"
 sentence PortInUse s name port = codes "port " ++ decimal port ++ codes " is in use: end the other program, or choose another port"
@@ -70,8 +71,11 @@ sentence NoDocument s name port = codes "the rows make no document"
 sentence Stream s name port = codes "the input can't be read, or the output written"
 sentence NoThread Folder name port = codes "no thread can be made: raise the system's limit"
 sentence NoThread Document name port = codes "no thread can be made: raise the system's limit"
-sentence NoThread ServedFolder name port = codes "no thread can be made: ask for fewer clients, or raise the system's limit"
-sentence NoThread ServedDocument name port = codes "no thread can be made: ask for fewer clients, or raise the system's limit"
+sentence NoThread ServedFolder name port = codes "no thread can be made: ask for fewer workers, or raise the system's limit"
+sentence NoThread ServedDocument name port = codes "no thread can be made: ask for fewer workers, or raise the system's limit"
+sentence (NoKick kick.There) s name port = codes "the file " ++ name ++ codes " is there already, or its .new beside it: wait for the other kick, or remove it"
+sentence (NoKick kick.NotWritten) s name port = codes "the file " ++ name ++ codes " can't be written: look at the rights of its folder and at the disk"
+sentence (NoKick kick.NotTaken) s name port = codes "no server has taken the file " ++ name ++ codes " in 5 seconds: name the one of its --kick-file"
 sentence (JournalFailed call) s name port = codes "the disk of " ++ name ++ codes " failed" ++ cause_text call ++ codes ": what was acknowledged is kept; look at the disk, and start anew"
 sentence (StoreFailed call why) s name port = codes "the store of " ++ name ++ codes " failed" ++ cause_text call ++ because_text why ++ codes ": what was acknowledged is kept; another server may have the document by now"
 sentence LeaseEnded s name port = codes "the lease of the document " ++ name ++ codes " has ended: another server may have it by now"

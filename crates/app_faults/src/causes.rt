@@ -95,7 +95,7 @@ impl fmt::Display for Why {
             StoreError::TlsWanted => write!(f, "wants TLS"),
             StoreError::NoSpace => write!(f, "has no space left"),
             StoreError::Damaged => write!(f, "holds damaged or foreign keys"),
-            StoreError::Lost => write!(f, "no longer names this server as its owner"),
+            StoreError::Lost => write!(f, "no longer names this process as its owner"),
             StoreError::Memory => write!(f, "wasn't asked, out of memory"),
         }
     }

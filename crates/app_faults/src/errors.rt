@@ -170,7 +170,6 @@ impl From<StoreError> for Fault {
 
     fn from(error: StoreError) -> Fault {
         match error {
-            StoreError::Lost => Fault::InUse,
             StoreError::Memory => Fault::Memory,
             why => Fault::NoStore { why },
         }

@@ -2,6 +2,7 @@
 ghost use Rattle.std.specs.Prelude.{◌≡◌};
 ghost use Rattle.app_faults.specs.Statuses.{exit_status_of, store_status, stored_status};
 
+use crate::kick_fault::KickFault;
 use crate::row_fault::RowFault;
 use disk_integrity::{Loss, ShelfCall};
 use etcd_store::StoreError;
@@ -17,8 +18,8 @@ pub enum Fault {
     NotAUrl,
     /// The name of a document in an etcd isn't 1 to 64 letters, digits, `-`, `.` and `_`.
     NotAName,
-    /// Fewer clients than 1 or more than 64 were asked for.
-    ClientCount,
+    /// Fewer workers than 1 or more than 31 were asked for.
+    WorkerCount,
     /// The folder of the page has no file `index.html` that can be read.
     NoPage,
     /// The file that ends the server when it comes is there before it starts, or can't be looked at.
@@ -92,6 +93,11 @@ pub enum Fault {
     Stream,
     /// A thread couldn't be made.
     NoThread,
+    /// The numbers of the connections that an operator ends aren't taken.
+    NoKick {
+        /// Why not.
+        why: KickFault,
+    },
     /// The journal failed while the server ran.
     JournalFailed {
         /// The first call of the folder that failed, where that is known.
@@ -125,7 +131,7 @@ impl Fault {
             | Fault::NotAHost
             | Fault::NotAUrl
             | Fault::NotAName
-            | Fault::ClientCount
+            | Fault::WorkerCount
             | Fault::NoPage
             | Fault::StopFile
             | Fault::BadLine { .. }
@@ -140,6 +146,7 @@ impl Fault {
             | Fault::Busy
             | Fault::Stream
             | Fault::NoThread
+            | Fault::NoKick { .. }
             | Fault::JournalFailed { .. } => 4,
             Fault::Gone
             | Fault::Lost { .. }

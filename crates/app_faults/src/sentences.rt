@@ -4,6 +4,7 @@ ghost use Rattle.app_faults.specs.Told.{IsServerEnd, IsFaultTold};
 
 use crate::causes::{Advice, Because, Cause, Lost, Why};
 use crate::fault::Fault;
+use crate::kick_fault::KickFault;
 use crate::subject::{Holder, PlaceName, Remedy, Retry, Subject};
 use std::fmt;
 use std::io::Write;
@@ -51,7 +52,7 @@ impl fmt::Display for Told<'_> {
                 f,
                 "--document wants a name of 1 to 64 letters, digits, -, . and _"
             ),
-            Fault::ClientCount => write!(f, "1 to 64 clients can be served at once"),
+            Fault::WorkerCount => write!(f, "1 to 31 workers can serve at once"),
             Fault::NoPage => write!(
                 f,
                 "--page wants a folder with a file index.html that can be read"
@@ -204,7 +205,21 @@ impl fmt::Display for Told<'_> {
                 ),
                 Subject::ServedFolder | Subject::ServedDocument => write!(
                     f,
-                    "no thread can be made: ask for fewer clients, or raise the system's limit"
+                    "no thread can be made: ask for fewer workers, or raise the system's limit"
+                ),
+            },
+            Fault::NoKick { why } => match why {
+                KickFault::There => write!(
+                    f,
+                    "the file {name} is there already, or its .new beside it: wait for the other kick, or remove it"
+                ),
+                KickFault::NotWritten => write!(
+                    f,
+                    "the file {name} can't be written: look at the rights of its folder and at the disk"
+                ),
+                KickFault::NotTaken => write!(
+                    f,
+                    "no server has taken the file {name} in 5 seconds: name the one of its --kick-file"
                 ),
             },
             Fault::JournalFailed { call } => {

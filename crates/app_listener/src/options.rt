@@ -27,6 +27,8 @@ pub struct Shared {
     pub has_ended: AtomicBool,
     /// What a connection may do.
     pub limits: Limits,
+    /// If set, the address that a proxy names is logged.
+    pub trusts_proxy: bool,
     /// Whether faults alone are told.
     pub quiet: bool,
     /// Where it logs.

@@ -6,9 +6,8 @@ use Rattle.canvas_board.specs.Marks.{Mark, Opening, board}
 use Rattle.canvas_live.specs.declared.place.Place.{Place}
 use Rattle.canvas_nodes.specs.Answers.{AreMessageTexts}
 use Rattle.canvas_turns.specs.Told.{TellsInTexts, version_told}
-use Rattle.room_handler.proofs.SeesOn.{sees_further}
 use Rattle.room_handler.specs.News.{copies}
-use Rattle.room_handler.specs.Seats.{SeatSeesOn, SeatValue}
+use Rattle.room_handler.specs.Seats.{SeatSeesOn}
 use Rattle.room_handler.specs.Table.{TellsCopyAt}
 use Rattle.app_server.specs.Live.{LiveTells, LiveValue, TellsFrom, TellsUnasked}
 
@@ -16,10 +15,6 @@ use Rattle.app_server.specs.Live.{LiveTells, LiveValue, TellsFrom, TellsUnasked}
 pub tells_nothing : (o : Opening) (place : Option Place) (seen : List Mark) → TellsFrom o place seen []
 tells_nothing o None seen = refl
 tells_nothing o (Some place) seen = inl refl
-
--- one look after another
-pub seat_further : (o : Opening) (a b c : SeatValue) → SeatSeesOn o a b → SeatSeesOn o b c → SeatSeesOn o a c
-seat_further o a b c earlier later = (sees_further o a.seen b.seen c.seen earlier.0 later.0, later.1 ∙ earlier.1)
 
 -- if it fails, nothing is told
 pub fails_after : {T E : Type 0} (o : Opening) (old new : LiveValue) (r : Result T E) → SeatSeesOn o old.seat new.seat → new.place ≡ old.place → IfErr r (λ _. LiveTells o old [] new)

@@ -23,9 +23,14 @@ use Rattle.app_listener.proofs.options.Shared.TheSendSync as shared
 use Rattle.app_listener.proofs.workers.Load.TheSendSync as load
 use Rattle.app_server.proofs.glancing.Seen.TheSendSync as seen
 use Rattle.app_server.proofs.budget.Budget.TheSendSync as budget
+use Rattle.app_server.proofs.kicks.Kicks.TheSendSync as kicks
 use Rattle.app_server.proofs.polling.Caller.TheSendSync as caller
 use Rattle.app_server.proofs.polling.Post.TheSendSync as post
 use Rattle.app_server.proofs.presence.Presence.TheSendSync as presence
+use Rattle.app_server.proofs.copies.Wishes.TheSendSync as wishes
+use Rattle.app_server.proofs.copies.Writer.TheSendSync as writer
+use Rattle.app_server.proofs.copies.Wants.TheSendSync as wants
+use Rattle.app_server.specs.contracts.copies.CopyTask as CopyTask
 use Rattle.app_server.specs.contracts.copies.Copies as Copies
 use Rattle.app_server.specs.contracts.copies.Held as Held
 use Rattle.app_server.specs.contracts.glancing.GlanceTask as GlanceTask
@@ -52,19 +57,28 @@ pub SharedCopy-send : (N : RattleType) (g : Ghosts N.Denot) → IsSend N → IsS
 SharedCopy-send N g n = search (front.the_send, bytes.the_send, leaves, sendable, crosses) depth 40 fits 4000
 
 pub Held-send : (N : RattleType) (g : Ghosts N.Denot) → IsSend N → IsSend (Held.the_row N g)
-Held-send N g n = let c = SharedCopy-send N g n in declared_send (Held.the_type N g) (search (c, leaves, sendable, crosses) depth 40 fits 4000, (search (bytes.the_send, leaves, sendable, crosses) depth 40 fits 4000, tt))
+Held-send N g n =
+    let c = SharedCopy-send N g n in
+    declared_send (Held.the_type N g)
+    (search (c, leaves, sendable, crosses) depth 40 fits 4000, (search (bytes.the_send, leaves, sendable, crosses) depth 40 fits 4000, (wishes.the_send, tt)))
 
 pub Copies-send : (N : RattleType) (g : Ghosts N.Denot) → IsSend N → IsSend (Copies.the_row N g)
-Copies-send N g n = let h = Held-send N g n in declared_send (Copies.the_type N g) (search (h, sendable, crosses) depth 40 fits 4000, tt)
+Copies-send N g n = let h = Held-send N g n in declared_send (Copies.the_type N g) (search (h, sendable, crosses) depth 40 fits 4000, (writer.the_send, tt))
 
 pub Copies-sync : (N : RattleType) (g : Ghosts N.Denot) → IsSend N → IsSync (Copies.the_row N g)
-Copies-sync N g n = let h = Held-send N g n in declared_sync (Copies.the_type N g) (search (h, sendable, crosses) depth 40 fits 4000, tt)
+Copies-sync N g n = let h = Held-send N g n in declared_sync (Copies.the_type N g) (search (h, sendable, crosses) depth 40 fits 4000, (writer.the_sync, tt))
+
+-- what the thread that writes copies is given
+pub CopyTask-send : (N D R : RattleType) (g : Ghosts N.Denot) → IsSend N → IsSend (Seat.the_row N D g) → IsSend R → IsSend (CopyTask.the_row N D R g)
+CopyTask-send N D R g n s r =
+    recorded_send (CopyTask.the_field N D R g).row _ _ (CopyTask.the_type N D R g).to_one
+    (struct_send (shape (CopyTask.the_type N D R g)) (r, (s, (Arc-send _ (Copies-send N g n) (Copies-sync N g n), (Arc-send _ budget.the_send budget.the_sync, (wants.the_field_send, tt))))))
 
 -- what the thread of a worker is given
 pub WorkerTask-send : (N D R : RattleType) (g : Ghosts N.Denot) → IsSend N → IsSend (Seat.the_row N D g) → IsSend R → IsSend (WorkerTask.the_row N D R g)
 WorkerTask-send N D R g n s r =
     recorded_send (WorkerTask.the_field N D R g).row _ _ (WorkerTask.the_type N D R g).to_one
-    (struct_send (shape (WorkerTask.the_type N D R g)) (r, (s, (Arc-send _ shared.the_send shared.the_sync, (Arc-send _ (Copies-send N g n) (Copies-sync N g n), (Arc-send _ budget.the_send budget.the_sync, (Connections-send, (Arc-send _ load.the_send load.the_sync, (post.the_field_send, (search (rings, sendable, crosses) depth 40 fits 4000, (Arc-send _ presence.the_send presence.the_sync, tt)))))))))))
+    (struct_send (shape (WorkerTask.the_type N D R g)) (r, (s, (s, (Arc-send _ shared.the_send shared.the_sync, (Arc-send _ (Copies-send N g n) (Copies-sync N g n), (Arc-send _ budget.the_send budget.the_sync, (Connections-send, (Arc-send _ load.the_send load.the_sync, (post.the_field_send, (search (rings, sendable, crosses) depth 40 fits 4000, (Arc-send _ presence.the_send presence.the_sync, (Arc-send _ kicks.the_send kicks.the_sync, tt)))))))))))))
 
 module _ (K N R : RattleType) (k : keeper.Ghosts K.Denot) (g : Ghosts N.Denot) where
   -- a room

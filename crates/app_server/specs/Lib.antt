@@ -1,2 +1,5 @@
 pub mod Rooms
 pub mod Live
+pub mod Fetched
+pub mod Addresses
+pub mod Kicks

@@ -60,10 +60,6 @@ RepliesToHere old bytes answer new =
     (client : ℕ) × (value : Data) × (text : List ℕ) × (n : ℕ) × SpellsHere bytes client value × TellsHere text client value n × (new ≡ old)
     × ((IsTold old.place client × (n ≤ 1024) × (answer ≡ Idle ∷ [])) ⊎ ((reason : NoReason) × RefusesHere old client n reason × (answer ≡ refusal_alone reason)))
 
--- bytes that are no such text are refused as NotRead
-abbrev pub IsNoHere : List ℕ → NoReason → Type 0
-IsNoHere bytes reason = ((client : ℕ) (value : Data) → SpellsHere bytes client value → ⊥) × (reason ≡ no.NotRead)
-
 -- a text by which somebody tells something of itself
 abbrev pub TellsSomeHere : List ℕ → Type 0
 TellsSomeHere text = (client : ℕ) × (n : ℕ) × ∥ ((value : Data) × TellsHere text client value n) ∥₁
@@ -73,17 +69,25 @@ abbrev pub RefusesBytes : LiveValue → List ℕ → List Message → LiveValue 
 RefusesBytes old bytes answer new =
     ((place : Place) → SpellsLive bytes place → ⊥) × ((client : ℕ) (value : Data) → SpellsHere bytes client value → ⊥) × (answer ≡ refusal_alone no.NotRead) × (new ≡ old)
 
+-- the seat only sees on, and its client's place stays
+abbrev pub LiveSeesOn : Opening → LiveValue → LiveValue → Type 0
+LiveSeesOn o old new = SeatSeesOn o old.seat new.seat × (new.place ≡ old.place)
+
+-- want of memory is told as such, and nothing is done but to see on
+abbrev pub RefusesMemory : Opening → LiveValue → List Message → LiveValue → Type 0
+RefusesMemory o old answer new = (answer ≡ refusal_alone no.Memory) × LiveSeesOn o old new
+
 -- what is replied to bytes that are no message; want of memory can be met at any
 abbrev pub RepliesToWord : Opening → LiveValue → List ℕ → List Message → LiveValue → Type 0
 RepliesToWord o old bytes answer new =
-    RepliesToLive o old bytes answer new ⊎ RepliesToHere old bytes answer new ⊎ RefusesBytes old bytes answer new ⊎ (answer ≡ refusal_alone no.Memory)
+    RepliesToLive o old bytes answer new ⊎ RepliesToHere old bytes answer new ⊎ RefusesBytes old bytes answer new ⊎ RefusesMemory o old answer new
 
 -- what a seat replies to bytes: to a message that a client sends, and to others; want of memory can be met at any
 abbrev pub LiveReplies : Opening → LiveValue → List ℕ → List Message → LiveValue → Type 0
 LiveReplies o old bytes answer new =
     ((m : Message) × SpellsAsked bytes m × GivesLive o old m answer new)
     ⊎ (IsUnasked bytes no.NotRead × RepliesToWord o old bytes answer new)
-    ⊎ (answer ≡ refusal_alone no.Memory)
+    ⊎ RefusesMemory o old answer new
 
 -- what there is to tell a client from its place on; nothing, if it isn't told unasked
 abbrev pub TellsFrom : Opening → Option Place → List Mark → List Message → Type 0
@@ -103,6 +107,6 @@ moved (Some place) version = Some (record { client = place.client; version = ver
 abbrev pub LiveGoesTo : LiveValue → ℕ → LiveValue → Type 0
 LiveGoesTo old version new = (new.seat ≡ old.seat) × (new.place ≡ moved old.place version)
 
--- it has served others, for which what its seat has seen may have grown: its client's place stays
+-- it has served others, or its connection goes on at another seat of the room: its client's place stays
 abbrev pub LiveServesOthers : LiveValue → LiveValue → Type 0
 LiveServesOthers old new = new.place ≡ old.place

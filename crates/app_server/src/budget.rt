@@ -1,6 +1,7 @@
 // How many bytes may wait to leave for all connections together.
 ghost use Rattle.std.specs.Prelude.{◌<◌};
 
+use crate::parsing::Parsing;
 use canvas_judge::Message;
 use net_outbox::{MUCH_WAITS, Text};
 use room_handler::Told;
@@ -23,6 +24,8 @@ pub(crate) struct Budget {
     used: AtomicU64,
     // How many connections need room.
     wanted: AtomicU64,
+    /// The lock of the long messages that are parsed.
+    pub(crate) parsing: Parsing,
 }
 
 impl Budget {
@@ -31,6 +34,7 @@ impl Budget {
         Budget {
             used: AtomicU64::new(0),
             wanted: AtomicU64::new(0),
+            parsing: Parsing::new(),
         }
     }
 

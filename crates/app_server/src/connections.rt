@@ -3,6 +3,7 @@ ghost use Rattle.std.specs.Prelude.{None};
 ghost use Rattle.canvas_turns.specs.Served.{ConnectionSteps};
 ghost use Rattle.app_server.specs.Live.{LiveGoesTo, LiveReplies, LiveTells, TellsSomeHere};
 
+use crate::forwarded::forwarded_by;
 use crate::live_seat::LiveSeat;
 use crate::seat_terms::SeatFlags;
 use crate::streams::{Incoming, Outgoing, Socket};
@@ -16,6 +17,7 @@ use canvas_turns::{Connection, LineEnd, Step, Waits};
 use http::{HeaderName, HeaderValue, Request, Response};
 use room_handler::Terms;
 use std::alloc::{AllocError, Global};
+use std::cell::Cell;
 use std::io::{self, Read, Write};
 use std::net::TcpStream;
 use std::rc::Rc;
@@ -47,6 +49,10 @@ pub(crate) struct Peer {
     /// Whether its peer has sent something since its last step, and how many bytes were read since it rested.
     pub(crate) has_come: bool,
     pub(crate) read: usize,
+    /// How many copies had been written when it began to wait for one that its client asks for, if it does.
+    pub(crate) waits_since: Option<u64>,
+    /// Set once an operator ends it.
+    pub(crate) is_kicked: bool,
 }
 
 impl Peer {
@@ -62,6 +68,7 @@ pub(crate) enum End {
     SocketFailed,
     NoHandshake,
     Memory,
+    Kicked,
     Served(LineEnd),
 }
 
@@ -71,6 +78,7 @@ impl End {
         match self {
             End::SocketFailed | End::Served(LineEnd::Failed) => "has ended: the socket failed",
             End::NoHandshake => "has ended: the handshake failed",
+            End::Kicked => "has ended: the operator ended it",
             End::Served(LineEnd::Left) => "has ended: the client left",
             End::Served(LineEnd::TooLarge) => "has ended: a message was too large",
             End::Served(LineEnd::Silent) => "has ended: it was silent too long",
@@ -83,22 +91,19 @@ impl End {
     }
 }
 
-/// Makes the handshake of a connection whose request has come whole, and returns the connection.
-pub(crate) fn begin<R: Clock + AllocGlobal>(
-    rt: &R,
+/// Makes the handshake of a connection whose request has come whole. Returns the address that its proxy names, if it is trusted and names
+/// one, and how long its messages may be.
+pub(crate) fn shake(
+    alloc: Global,
     shared: &Shared,
-    stream: TcpStream,
-    number: u64,
-    moment: Moment,
-) -> Result<Peer, End> {
-    if set_up(&stream).is_err() {
-        return Err(End::SocketFailed);
+    stream: &TcpStream,
+) -> (Option<String>, Result<WebSocketConfig, End>) {
+    if set_up(stream).is_err() {
+        return (None, Err(End::SocketFailed));
     }
-    let config = handshake(rt.alloc(), shared, &stream)?;
-    match peer_of(rt.alloc(), shared.limits, stream, config, number, moment) {
-        Ok(peer) => Ok(peer),
-        Err(_) => Err(End::Memory),
-    }
+    let client = Cell::new(None);
+    let config = handshake(alloc, shared, stream, &client);
+    (client.take(), config)
 }
 
 // From now on no call blocks, and each answer leaves at once; without that some would wait for an acknowledgement.
@@ -107,11 +112,18 @@ fn set_up(stream: &TcpStream) -> io::Result<()> {
     stream.set_nodelay(true)
 }
 
-// Makes a handshake. Returns how long its messages may be.
-fn handshake(alloc: Global, shared: &Shared, stream: &TcpStream) -> Result<WebSocketConfig, End> {
+// Makes a handshake, and keeps the address that its proxy names, if it is trusted and names one. Returns how long its messages may be.
+fn handshake(
+    alloc: Global,
+    shared: &Shared,
+    stream: &TcpStream,
+    client: &Cell<Option<String>>,
+) -> Result<WebSocketConfig, End> {
     let naming = Naming {
         alloc,
         document: shared.site.identity.as_str(),
+        trusts_proxy: shared.trusts_proxy,
+        client,
     };
     let Ok(accepted) = tungstenite::accept_hdr(alloc, stream, naming) else {
         return Err(End::NoHandshake);
@@ -126,8 +138,8 @@ fn handshake(alloc: Global, shared: &Shared, stream: &TcpStream) -> Result<WebSo
     )
 }
 
-// Returns the connection of this socket.
-fn peer_of(
+/// Returns the connection of this socket. Errors: out of memory.
+pub(crate) fn peer_of(
     alloc: Global,
     limits: Limits,
     stream: TcpStream,
@@ -153,6 +165,8 @@ fn peer_of(
         is_listed: false,
         has_come: false,
         read: 0,
+        waits_since: None,
+        is_kicked: false,
     })
 }
 
@@ -178,19 +192,24 @@ where
     (step, seat.own_place())
 }
 
-// Names the document in the answer to a handshake.
+// Names the document in the answer to a handshake, and keeps the address that a proxy names that is trusted.
 #[derive(Drop)]
 struct Naming<'a> {
     alloc: Global,
     document: &'a str,
+    trusts_proxy: bool,
+    client: &'a Cell<Option<String>>,
 }
 
 impl Callback for Naming<'_> {
     fn on_request(
         self,
-        _request: &Request<()>,
+        request: &Request<()>,
         response: Response<()>,
     ) -> Result<Response<()>, ErrorResponse> {
+        if self.trusts_proxy {
+            self.client.set(forwarded_by(self.alloc, request.headers()));
+        }
         let mut response = response;
         if let Ok(value) = HeaderValue::from_str(self.alloc, self.document) {
             let name = HeaderName::from_static("lugcurrant-document");

@@ -77,12 +77,12 @@ where
 // A document that was taken over: its room, its identity, and what is held beside it.
 type OpenDocument<R> = (OpenRoom<DocumentJournal<R>>, String, Tenure);
 
-// Takes a document over, and opens its room, with this number of seats.
+// Takes a document over, and opens its room, with the seats of so many workers.
 fn take_room<R>(
     rt: &R,
     files: HostRuntime,
     store: EtcdStore<R>,
-    seats: usize,
+    workers: usize,
 ) -> Result<OpenDocument<R>, Fault>
 where
     R: Net<Listener = TcpListener, Stream = TcpStream>
@@ -96,7 +96,7 @@ where
         + Drop
         + 'static,
     ensures named { IfOk result (λ opened. IsIdentity (string_bytes opened.1)) }
-    ensures faults { IfErr result (λ fault. IsOpeningFault seats fault ⊎ IsThreadFault fault) }
+    ensures faults { IfErr result (λ fault. IsOpeningFault workers fault ⊎ IsThreadFault fault) }
 {
     let held = match take_over(rt, store) {
         Ok(held) => held,
@@ -108,7 +108,7 @@ where
         mut lease,
         kept,
     } = held;
-    match open_owned(files, shelf, &mut lease, &causes, seats) {
+    match open_owned(files, shelf, &mut lease, &causes, workers) {
         Ok((opened, identity)) => {
             let tenure = Tenure {
                 lease: kept,
@@ -130,18 +130,18 @@ fn open_owned<R>(
     shelf: EtcdShelf<EtcdStore<R>>,
     lease: &mut Lease<R>,
     causes: &Causes,
-    seats: usize,
+    workers: usize,
 ) -> Result<(OpenRoom<DocumentJournal<R>>, String), Fault>
 where
     R: Net<Stream = TcpStream> + Clock + RandomSource + AllocGlobal + Clone + Drop,
     ensures named { IfOk result (λ opened. IsIdentity (string_bytes opened.1)) }
-    ensures faults { IfErr result (IsOpeningFault seats) }
+    ensures faults { IfErr result (IsOpeningFault workers) }
 {
     let identity = identity_of(files, lease)?;
     let shelf = Watched::new(files.alloc(), shelf, NoWitness)?;
     let notes = shelf.notes().share()?;
     let shelf = DocumentShelf::new(files.alloc(), shelf)?;
-    match room_of(files, shelf, notes, seats) {
+    match room_of(files, shelf, notes, workers) {
         Ok(opened) => Ok((opened, identity)),
         Err(fault) => Err(of_document(fault, causes.last())),
     }

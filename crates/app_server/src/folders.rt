@@ -23,13 +23,13 @@ where
     ensures faults { IfErr result (IsPreparingFault serving.now.workers) }
 {
     let listener = listen(rt, serving.port)?;
-    let seats = serving.workers as usize;
+    let workers = serving.workers as usize;
     let OpenFolder {
         opened,
         removed,
         space,
         path,
-    } = open_room(files, dir, seats, serving.accept_loss)?;
+    } = open_room(files, dir, workers, serving.accept_loss)?;
     let identity = identity(&files, &path)?;
     let OpenRoom { room, meter, notes } = opened;
     let document = OwnDocument {

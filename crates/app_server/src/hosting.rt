@@ -4,10 +4,12 @@ ghost use Rattle.net_http.specs.Identities.{IsIdentity};
 ghost use Rattle.app_storage.specs.Faults.{IsPageFault, IsPreparingFault, IsRunningFault, MayEndServer, IsStopFault, IsThreadFault};
 
 use crate::budget::Budget;
-use crate::copies::Copies;
+use crate::copies::{Copies, CopyTask};
 use crate::documents::{DocumentJournal, take_document};
 use crate::folders::take_folder;
 use crate::glancing::{GlanceTask, Seen};
+use crate::kicking::KickFile;
+use crate::kicks::Kicks;
 use crate::opening::opened;
 use crate::own_document::{OwnDocument, OwnRoom};
 use crate::polling::{Caller, Post};
@@ -51,7 +53,7 @@ use std::time::Clock;
 ///
 /// The faults: `StopFile`, if that file is there before, and then nothing was touched; `NoPage`, where the options name the folder of a
 /// page and no file `index.html` can be read in it, and `PortInUse`, `PortDenied` and `NoPort`, where the port can't be had, and then the
-/// document is left alone; `ClientCount`, only for fewer workers than 1 or more than 64; `Denied`, `AboveDenied`, `NoDescriptor`, `NoRoom`,
+/// document is left alone; `WorkerCount`, only for fewer workers than 1 or more than 31; `Denied`, `AboveDenied`, `NoDescriptor`, `NoRoom`,
 /// `Device`, `ChangedIdentity`, `Lost`, `NotKept` and `NoSpace` of a folder, `NoStore` of a document in an etcd, and `InUse`, `Identity`,
 /// `Damaged` and `TooLarge` of both, where it isn't opened; `NoThread`, where not all threads can be made; `Memory`; and later
 /// `JournalFailed`, once the device of the journal has failed, or `StoreFailed` and `LeaseEnded` of an etcd.
@@ -243,7 +245,7 @@ fn serve_taken<K, R>(
     rt: &R,
     room: BlankRoom<K>,
     document: OwnDocument,
-    serving: Serving,
+    mut serving: Serving,
     stop: StopFile,
     supplies: Supplies,
     name: &String,
@@ -263,7 +265,8 @@ where
         removed,
         tenure,
     } = document;
-    let ends = Ends { stop, tenure };
+    let kick = KickFile::new(stop.files, serving.kick_file.take());
+    let ends = Ends { stop, kick, tenure };
     let figures = Figures::new(meter, notes, space);
     let fault = match share(rt, listener, identity, figures, removed, serving, supplies) {
         Ok(shared) => host::<Brand, _, _>(rt, room, &shared, &ends, name),
@@ -296,7 +299,7 @@ where
         message_bytes: serving.message_bytes,
         clients: serving.clients as usize,
     };
-    let quiet = serving.quiet;
+    let (quiet, trusts_proxy) = (serving.quiet, serving.trust_forwarded);
     let (hosts, origins, folder) = serving.into_pages();
     let Supplies { page, log } = supplies;
     let shared = Shared {
@@ -312,6 +315,7 @@ where
         removed,
         has_ended: AtomicBool::new(false),
         limits,
+        trusts_proxy,
         quiet,
         log,
     };
@@ -334,18 +338,18 @@ where
     requires opening { room.opening ≡ N.opening }
     ensures { IsRunningFault result ⊎ IsStopFault ends.now.stop.path result }
 {
+    ends.kick.clear(rt, &shared.log);
     match begin::<N, K, R>(rt, room, shared) {
-        Ok(seen) => watch(rt, shared, &seen, ends, name),
+        Ok((seen, kicks)) => watch(rt, shared, &seen, &kicks, ends, name),
         Err(fault) => fault,
     }
 }
 
+// What is seen of a room, and the connections that an operator ends.
+type Begun = (Arc<Seen, Global>, Arc<Kicks, Global>);
+
 // Gives each worker and the door their threads, and one to who looks at the room.
-fn begin<N, K, R>(
-    rt: &R,
-    room: BlankRoom<K>,
-    shared: &Arc<Shared, Global>,
-) -> Result<Arc<Seen, Global>, Fault>
+fn begin<N, K, R>(rt: &R, room: BlankRoom<K>, shared: &Arc<Shared, Global>) -> Result<Begun, Fault>
 where
     N: RoomName + Send + Sync + 'static,
     K: Keeper + Drop + Send + 'static,
@@ -356,11 +360,14 @@ where
 {
     let (room, seats) = opened::<N, K, R>(rt, room)?;
     let version = room.desk(rt).version();
-    let workers = begin_workers(rt, seats, shared)?;
+    let (posts, bell, wakers) = begin_posts(rt, seats.len() / 2)?;
+    let kicks = Arc::new(rt.alloc(), Kicks::new(rt.alloc(), &wakers)?)?;
+    let presence = Arc::new(rt.alloc(), Presence::new(rt.alloc(), wakers)?)?;
+    let workers = begin_workers(rt, seats, posts, bell, &presence, &kicks, shared)?;
     let seen = begin_glances(rt, room, shared)?;
     begin_door(rt, shared, workers)?;
     announce(rt, shared, version);
-    Ok(seen)
+    Ok((seen, kicks))
 }
 
 // Gives a thread to who looks at the room.
@@ -386,10 +393,14 @@ where
     Ok(seen)
 }
 
-// Gives each seat the thread of a worker.
+// Gives one seat the thread that writes copies, and each two of the others the thread of a worker.
 fn begin_workers<N, K, R>(
     rt: &R,
-    seats: Vec<Seat<N, Lock<K, N, R>>>,
+    mut seats: Vec<Seat<N, Lock<K, N, R>>>,
+    mut posts: VecDeque<BlankWorker>,
+    bell: Bell<Caller>,
+    presence: &Arc<Presence, Global>,
+    kicks: &Arc<Kicks, Global>,
     shared: &Arc<Shared, Global>,
 ) -> Result<Workers, Fault>
 where
@@ -398,14 +409,16 @@ where
     R: Net + Threads + Wait + Clock + AllocGlobal + Clone + Send + Sync + Drop + 'static,
     ensures { IfErr result IsThreadFault }
 {
-    let copies = Arc::new(rt.alloc(), Copies::new(rt.alloc()))?;
     let budget = Arc::new(rt.alloc(), Budget::new())?;
-    let (mut posts, bell, wakers) = begin_posts(rt, seats.len())?;
+    let copies = begin_copies(rt, &mut seats, &budget)?;
     let bell = Arc::new(rt.alloc(), bell)?;
-    let presence = Arc::new(rt.alloc(), Presence::new(rt.alloc(), wakers)?)?;
-    let mut workers = Vec::with_capacity(rt.alloc(), seats.len())?;
-    for seat in seats {
-        let Some(BlankWorker { post, waker }) = posts.pop_front() else {
+    let mut workers = Vec::with_capacity(rt.alloc(), posts.len())?;
+    for _ in 0..posts.len() {
+        let (Some(BlankWorker { post, waker }), Some(seat), Some(copy_seat)) = (
+            posts.pop_front(),
+            seats.pop(),
+            seats.pop(),
+        ) else {
             return Err(Fault::NoThread);
         };
         let (given, connections) = unbounded(rt.alloc())?;
@@ -413,6 +426,7 @@ where
         let task = WorkerTask {
             rt: rt.clone()?,
             seat,
+            copy_seat,
             shared: Arc::try_clone(shared)?,
             copies: Arc::try_clone(&copies)?,
             budget: Arc::try_clone(&budget)?,
@@ -420,7 +434,8 @@ where
             load: Arc::try_clone(&load)?,
             post,
             bell: Arc::try_clone(&bell)?,
-            presence: Arc::try_clone(&presence)?,
+            presence: Arc::try_clone(presence)?,
+            kicks: Arc::try_clone(kicks)?,
         };
         workers.push(Worker {
             connections: given,
@@ -430,6 +445,34 @@ where
         begin_task(rt, task)?;
     }
     Ok(Workers::new(workers, shared.limits.clients))
+}
+
+// Gives the last of these seats the thread that writes copies.
+fn begin_copies<N, K, R>(
+    rt: &R,
+    seats: &mut Vec<Seat<N, Lock<K, N, R>>>,
+    budget: &Arc<Budget, Global>,
+) -> Result<Arc<Copies<N>, Global>, Fault>
+where
+    N: RoomName + Send + Sync + 'static,
+    K: Keeper + Drop + Send + 'static,
+    R: Threads + Wait + Clock + AllocGlobal + Clone + Send + Sync + Drop + 'static,
+    ensures { IfErr result IsThreadFault }
+{
+    let Some(seat) = seats.pop() else {
+        return Err(Fault::NoThread);
+    };
+    let (copies, wants) = Copies::new(rt.alloc())?;
+    let copies = Arc::new(rt.alloc(), copies)?;
+    let task = CopyTask {
+        rt: rt.clone()?,
+        seat,
+        copies: Arc::try_clone(&copies)?,
+        budget: Arc::try_clone(budget)?,
+        wants,
+    };
+    begin_task(rt, task)?;
+    Ok(copies)
 }
 
 // What a worker waits with, and what ends its wait.

@@ -1,5 +1,5 @@
 // A seat as the connections of a worker have it: it answers messages, and tells what is published unasked.
-ghost use Rattle.std.specs.Prelude.{◌≡◌, ◌↔◌, ◌≤◌, ◌⊎◌, ◌∷◌, [], None, IfErr, IfOk, IsTrue, MatchResult, map};
+ghost use Rattle.std.specs.Prelude.{◌≡◌, ◌↔◌, ◌≤◌, ◌⊎◌, ◌∷◌, [], None, IfErr, IfOk, IsTrue, MatchResult, OnErr, map};
 ghost use Rattle.canvas_model.specs.Messages.{Idle};
 ghost use Rattle.canvas_judge.specs.Seen.{seen_message};
 ghost use Rattle.canvas_nodes.specs.Answers.{AreMessageTexts, refusal_alone};
@@ -8,7 +8,7 @@ ghost use Rattle.canvas_turns.specs.Told.{version_told};
 ghost use Rattle.room_handler.specs.Seats.{SeatSeesOn};
 ghost use Rattle.room_handler.specs.Told.{seen_told};
 ghost use Rattle.canvas_sockets.specs.Turned.{RepliesInTexts};
-ghost use Rattle.app_server.specs.Live.{BeginsAt, GivesLiveInTexts, IsNoHere, IsTold, LiveReplies, RefusesHere, RefusesPlace, RepliesToHere, RepliesToWord, TellsUnasked};
+ghost use Rattle.app_server.specs.Live.{BeginsAt, GivesLiveInTexts, IsTold, LiveReplies, LiveSeesOn, RefusesHere, RefusesPlace, RepliesToWord, TellsUnasked};
 
 use crate::budget::pushed;
 use crate::polling::Caller;
@@ -19,8 +19,8 @@ use canvas_bell::Bell;
 use canvas_board::RoomName;
 use canvas_journal::Keeper;
 use canvas_judge::{Message, NoReason};
-use canvas_live::{Here, Place, here_in, place_in};
-use canvas_nodes::{asked, texts_of};
+use canvas_live::{Here, Place, Word};
+use canvas_nodes::texts_of;
 use canvas_room::Lock;
 use canvas_sockets::Replier;
 use canvas_turns::{Handler, Push};
@@ -161,27 +161,15 @@ impl<'a, N: RoomName, D: Drop, W: Wait + Clock + Drop, T: Terms<N> + Drop> LiveS
         }
     }
 
-    // The reply to bytes that are no message: they may be the word by which a client wants to be told unasked.
+    // Returns the reply to bytes that are no message: they may be a word of live connections.
     fn reply_to_word(&mut self, alloc: Global, bytes: &[u8]) -> Result<Vec<Text>, NoReason>
         ensures { MatchResult result
             (λ ts. RepliesInTexts (RepliesToWord N.opening) self.old bytes.now (map text_bytes ts.items) self.new)
             (λ reason. RepliesToWord N.opening self.old bytes.now (refusal_alone reason) self.new) }
     {
-        match place_in(alloc, bytes) {
-            Ok(Some(place)) => self.begin(alloc, place),
-            Ok(None) => self.reply_to_here(alloc, bytes),
-            Err(_) => Err(NoReason::Memory),
-        }
-    }
-
-    // The reply to bytes that are no message and not that word: they may be what a client tells of itself.
-    fn reply_to_here(&mut self, alloc: Global, bytes: &[u8]) -> Result<Vec<Text>, NoReason>
-        ensures replies { IfOk result (λ ts. RepliesInTexts RepliesToHere self.old bytes.now (map text_bytes ts.items) self.new) }
-        ensures refuses { IfErr result (λ reason. RepliesToHere self.old bytes.now (refusal_alone reason) self.new ⊎ IsNoHere bytes.now reason ⊎ (reason ≡ NoReason.Memory)) }
-        ensures stays { self.new ≡ self.old }
-    {
-        match here_in(alloc, bytes) {
-            Ok(Some(here)) => self.hear(alloc, here),
+        match self.terms.word_in(alloc, bytes) {
+            Ok(Some(Word::Live(place))) => self.begin(alloc, place),
+            Ok(Some(Word::Here(here))) => self.hear(alloc, here),
             Ok(None) => Err(NoReason::NotRead),
             Err(_) => Err(NoReason::Memory),
         }
@@ -225,6 +213,7 @@ impl<'a, N: RoomName, D: Drop, W: Wait + Clock + Drop, T: Terms<N> + Drop> LiveS
     fn begin(&mut self, alloc: Global, place: Place) -> Result<Vec<Text>, NoReason>
         ensures begins { IfOk result (λ ts. AreMessageTexts (map text_bytes ts.items) (Idle ∷ []) × SeatSeesOn N.opening self.old.seat self.new.seat × BeginsAt N.opening self.old place (Idle ∷ []) self.new) }
         ensures refuses { IfErr result (λ reason. (reason ≡ NoReason.Memory) ⊎ ((reason ≡ NoReason.Stranger) × SeatSeesOn N.opening self.old.seat self.new.seat × RefusesPlace N.opening self.old place (refusal_alone reason) self.new)) }
+        ensures sees { OnErr result (LiveSeesOn N.opening self.old self.new) }
     {
         let Ok(texts) = idle_alone(alloc) else {
             return Err(NoReason::Memory);
@@ -273,7 +262,7 @@ where
         if texts.len() < 2 {
             return;
         }
-        if let Ok(edits) = edits_of(alloc, texts) {
+        if let Ok(edits) = edits_of(alloc, &self.terms, texts) {
             self.answerer.judge_ahead(edits);
         }
     }
@@ -282,6 +271,7 @@ where
     fn reply_to_asked(&mut self, alloc: Global, message: Message) -> Result<Vec<Text>, NoReason>
         ensures gives { IfOk result (λ ts. GivesLiveInTexts N.opening self.old (seen_message message) (map text_bytes ts.items) self.new) }
         ensures memory { IfErr result (λ reason. reason ≡ NoReason.Memory) }
+        ensures sees { LiveSeesOn N.opening self.old self.new }
     {
         let texts = self.answerer.reply_texts(alloc, message);
         self.ring();
@@ -297,7 +287,7 @@ where
             (λ ts. RepliesInTexts (LiveReplies N.opening) self.old bytes.now (map text_bytes ts.items) self.new)
             (λ reason. LiveReplies N.opening self.old bytes.now (refusal_alone reason) self.new) }
     {
-        match asked(alloc, bytes) {
+        match self.terms.asked(alloc, bytes) {
             Ok(message) => self.reply_to_asked(alloc, message),
             Err(NoReason::NotRead) => self.reply_to_word(alloc, bytes),
             Err(reason) => Err(reason),
@@ -352,7 +342,7 @@ where
         let Some(place) = self.place else {
             return Ok(nothing(alloc, false));
         };
-        if !self.terms.may_tell(place.client, place.version) {
+        if !self.terms.may_tell() {
             return Ok(nothing(alloc, true));
         }
         if let Some((copy, version)) = self.answerer.push_copy(place.client, place.version)? {
@@ -361,6 +351,9 @@ where
                 versions: Vec::from_array(alloc, [version])?,
                 is_held: false,
             });
+        }
+        if self.terms.awaits_copy() {
+            return Ok(nothing(alloc, true));
         }
         let mut told = self.told_after(alloc, place)?;
         let count = pushed(&told);
@@ -403,13 +396,20 @@ where
 /// What the text of an edit begins with, as clients write it.
 pub(crate) const EDIT: &[u8] = b"[\"edit\",";
 
+/// What the text of an Ask begins with.
+pub(crate) const ASK: &[u8] = b"[\"ask\",";
+
 // Returns the edits of which these are the texts, up to the first that isn't one, or isn't the next of its client behind those before: if one that
 // was judged before is refused, none of its client after it may have been taken. Errors: out of memory.
-fn edits_of(alloc: Global, texts: &[Vec<u8>]) -> Result<Vec<Message>, AllocError> {
+fn edits_of<N: RoomName, W: Wait + Clock>(
+    alloc: Global,
+    terms: &SeatTerms<'_, N, W>,
+    texts: &[Vec<u8>],
+) -> Result<Vec<Message>, AllocError> {
     let mut edits = Vec::with_capacity(alloc, texts.len())?;
     let mut last = BTreeMap::new(alloc);
     for text in texts {
-        let Ok(message) = asked(alloc, text.as_slice()) else {
+        let Ok(message) = terms.asked(alloc, text.as_slice()) else {
             break;
         };
         let Some((client, number)) = number_of(&message) else {

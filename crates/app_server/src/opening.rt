@@ -6,7 +6,7 @@ ghost use Rattle.canvas_shelf.specs.Disk.{seen, top_is_listed};
 ghost use Rattle.canvas_journal.specs.Found.{Finds, IsState};
 ghost use Rattle.canvas_journal.specs.Meaning.{IsCountedByEntries, Versioned};
 ghost use Rattle.app_storage.specs.Faults.{IsOpeningFault, IsPortFault};
-ghost use Rattle.app_server.specs.Rooms.{OpensAsFound, fault_of_room_error};
+ghost use Rattle.app_server.specs.Rooms.{HasSeatsFor, OpensAsFound, fault_of_room_error};
 
 use app_faults::Fault;
 use app_identity::read_identity;
@@ -70,17 +70,17 @@ pub(crate) struct OpenFolder {
     pub(crate) path: String,
 }
 
-/// Opens the room of a folder's document, with this number of seats. The folder is made where it is missing, and locked. If opening it would lose
+/// Opens the room of a folder's document, with the seats of so many workers. The folder is made where it is missing, and locked. If opening it would lose
 /// something, nothing is opened, unless that is accepted; nor if its identity isn't one, or the disk has no room for another segment. What crashes
 /// left of checkpoints is removed first.
 pub(crate) fn open_room(
     files: HostRuntime,
     dir: &str,
-    seats: usize,
+    workers: usize,
     accept_loss: bool,
 ) -> Result<OpenFolder, Fault>
-    ensures seats { IfOk result (λ folder. folder.opened.room.seats ≡ seats) }
-    ensures faults { IfErr result (IsOpeningFault seats) }
+    ensures seats { IfOk result (λ folder. HasSeatsFor workers folder.opened.room.seats) }
+    ensures faults { IfErr result (IsOpeningFault workers) }
 {
     if let Err(fault) = set_torn_aside(&files, dir) {
         return Err(fault);
@@ -90,7 +90,7 @@ pub(crate) fn open_room(
     let shelf = DirShelf::open(files.alloc(), folder)?;
     let path = shelf.folder().path()?;
     let removed = shelf.folder().removed().share()?;
-    match open_locked(files, shelf, &path, seats, accept_loss) {
+    match open_locked(files, shelf, &path, workers, accept_loss) {
         Ok(opened) => Ok(OpenFolder {
             opened,
             removed,
@@ -101,7 +101,7 @@ pub(crate) fn open_room(
     }
 }
 
-/// Opens the room of the document of a folder that is locked, whose other files are at this path, with this number of seats.
+/// Opens the room of the document of a folder that is locked, whose other files are at this path, with the seats of so many workers.
 ///
 /// Over an honest folder whose segments a journal wrote (`room_of` has the two premises): if no loss is accepted, none is passed, with some
 /// trace of a document beside them; and the room opens with what recovery finds in its segments.
@@ -109,15 +109,15 @@ fn open_locked<F: Folder + Drop>(
     files: HostRuntime,
     mut shelf: DirShelf<F>,
     path: &str,
-    seats: usize,
+    workers: usize,
     accept_loss: bool,
 ) -> Result<OpenRoom<Counted<FolderShelf<F>>>, Fault>
     requires top { IsTrue (⟦<DirShelf<F> as Shelf>⟧.honest shelf) → top_is_listed (⟦<DirShelf<F> as Shelf>⟧.disk shelf) ≡ true }
     requires counted { IsTrue (⟦<DirShelf<F> as Shelf>⟧.honest shelf) → (s : Versioned) → Finds (seen (⟦<DirShelf<F> as Shelf>⟧.disk shelf)) (IsState s) → IsCountedByEntries s }
     ensures whole { IsTrue (⟦<DirShelf<F> as Shelf>⟧.honest shelf) → OnOk result (accept_loss ≡ false → (trace : Option Trace) × TellsLoss (⟦<DirShelf<F> as Shelf>⟧.disk shelf) trace None) }
     ensures found { IsTrue (⟦<DirShelf<F> as Shelf>⟧.honest shelf) → IfOk result (λ opened. OpensAsFound (⟦<DirShelf<F> as Shelf>⟧.disk shelf) opened.room.opening) }
-    ensures seats { IfOk result (λ opened. opened.room.seats ≡ seats) }
-    ensures faults { IfErr result (IsOpeningFault seats) }
+    ensures seats { IfOk result (λ opened. HasSeatsFor workers opened.room.seats) }
+    ensures faults { IfErr result (IsOpeningFault workers) }
 {
     if let Err(fault) = guard(&files, path, &mut shelf, accept_loss) {
         return Err(fault);
@@ -127,10 +127,15 @@ fn open_locked<F: Folder + Drop>(
     remove_torn(&files, path);
     let shelf = Watched::new(files.alloc(), shelf, SumFiles::new(files, path)?)?;
     let notes = shelf.notes().share()?;
-    room_of(files, FolderShelf::new(files.alloc(), shelf)?, notes, seats)
+    room_of(
+        files,
+        FolderShelf::new(files.alloc(), shelf)?,
+        notes,
+        workers,
+    )
 }
 
-/// Opens the room of what a shelf holds, with this number of seats.
+/// Opens the room of what a shelf holds, with the seats of so many workers.
 ///
 /// The room of an honest shelf opens with what recovery finds there, and a crash just then is found to hold it.
 /// That has two premises: no retired segment stands above the highest listed one, and no client of what is found has more judged edits than
@@ -139,13 +144,13 @@ pub(crate) fn room_of<S: Shelf + Drop>(
     files: HostRuntime,
     shelf: S,
     notes: Notes,
-    seats: usize,
+    workers: usize,
 ) -> Result<OpenRoom<Counted<S>>, Fault>
     requires top { IsTrue (S.honest shelf) → top_is_listed (S.disk shelf) ≡ true }
     requires counted { IsTrue (S.honest shelf) → (s : Versioned) → Finds (seen (S.disk shelf)) (IsState s) → IsCountedByEntries s }
     ensures found { IsTrue (S.honest shelf) → IfOk result (λ opened. OpensAsFound (S.disk shelf) opened.room.opening) }
-    ensures seats { IfOk result (λ opened. opened.room.seats ≡ seats) }
-    ensures faults { IfErr result (IsOpeningFault seats) }
+    ensures seats { IfOk result (λ opened. HasSeatsFor workers opened.room.seats) }
+    ensures faults { IfErr result (IsOpeningFault workers) }
 {
     let alloc = files.alloc();
     let (journal, state, version) = match open(alloc, shelf) {
@@ -154,10 +159,18 @@ pub(crate) fn room_of<S: Shelf + Drop>(
     };
     let meter = Arc::new(alloc, Meter::new(version))?;
     let keeper = Metered::new(journal, files, Arc::try_clone(&meter)?);
+    let seats = seats_of(workers);
     match blank_room(alloc, keeper, Opening { state, version }, seats) {
         Ok(room) => Ok(OpenRoom { room, meter, notes }),
         Err((_keeper, error)) => Err(fault_of_room(error)),
     }
+}
+
+// Returns how many seats a room has for so many workers: two for each, and one for copies.
+fn seats_of(workers: usize) -> usize
+    ensures { HasSeatsFor workers result }
+{
+    workers.saturating_mul(2).saturating_add(1)
 }
 
 // What it means that a room isn't made.
@@ -165,7 +178,7 @@ fn fault_of_room(error: RoomError) -> Fault
     ensures { result ≡ fault_of_room_error error }
 {
     match error {
-        RoomError::SeatCount => Fault::ClientCount,
+        RoomError::SeatCount => Fault::WorkerCount,
         RoomError::NoPlace | RoomError::Memory => Fault::Memory,
     }
 }

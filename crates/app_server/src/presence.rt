@@ -28,21 +28,31 @@ struct Sayings {
 }
 
 impl Sayings {
-    // Takes in what a client tells. Returns its number. Errors: out of memory, and then what it told before may be forgotten.
+    // Takes in what a client tells. Returns its number. Errors: out of memory; then nothing has changed.
     fn tell(&mut self, here: Here) -> Result<u64, AllocError> {
         let number = self.last.saturating_add(1);
-        if let Some(before) = self.numbers.insert(here.client, number)? {
+        let client = here.client;
+        self.heres.insert(number, here)?;
+        let Ok(before) = self.numbers.insert(client, number) else {
+            let _ = self.heres.remove(&number);
+            return Err(AllocError);
+        };
+        if let Some(before) = before {
             let _ = self.heres.remove(&before);
             let _ = self.gone.remove(&before);
         }
-        self.heres.insert(number, here)?;
         self.last = number;
         Ok(number)
     }
 
-    // Takes in that a client has gone, if it told something. Errors: out of memory.
-    fn end(&mut self, client: u32) -> Result<u64, AllocError> {
-        if !self.numbers.contains_key(&client) {
+    // Takes in that the connection has ended that told this number of a client: the client has gone, unless it has told more on another one. Errors:
+    // out of memory.
+    fn end(&mut self, client: u32, told: u64) -> Result<u64, AllocError> {
+        let is_last = match self.numbers.get(&client) {
+            Some(number) => *number == told,
+            None => false,
+        };
+        if !is_last {
             return Ok(self.last);
         }
         let here = Here::gone(self.alloc, client)?;
@@ -130,16 +140,17 @@ impl Presence {
         })
     }
 
-    /// Takes in what a client tells, in the place of what it told before, and calls the workers. Errors: out of memory.
-    pub(crate) fn tell<R: Wait>(&self, rt: &R, here: Here) -> Result<(), AllocError> {
+    /// Takes in what a client tells, in the place of what it told before, and calls the workers. Returns its number. Errors: out of memory.
+    pub(crate) fn tell<R: Wait>(&self, rt: &R, here: Here) -> Result<u64, AllocError> {
         let number = self.sayings.lock(rt).tell(here)?;
         self.call(number);
-        Ok(())
+        Ok(number)
     }
 
-    /// Takes in that a client has gone, and calls the workers. If memory runs out, the others aren't told.
-    pub(crate) fn end<R: Wait>(&self, rt: &R, client: u32) {
-        let number = self.sayings.lock(rt).end(client);
+    /// Takes in that the connection has ended that told this number of a client last, and calls the workers. If memory runs out, the others aren't
+    /// told.
+    pub(crate) fn end<R: Wait>(&self, rt: &R, client: u32, told: u64) {
+        let number = self.sayings.lock(rt).end(client, told);
         if let Ok(number) = number {
             self.call(number);
         }

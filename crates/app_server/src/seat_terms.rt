@@ -1,8 +1,10 @@
 // The terms of a server's seat.
-ghost use Rattle.std.specs.Prelude.{◌≡◌, IfOk, IfSome, map};
+ghost use Rattle.std.specs.Prelude.{◌≡◌, IfErr, IfNone, IfOk, IfSome, map};
 ghost use Rattle.canvas_model.specs.Messages as messages;
 ghost use Rattle.canvas_board.specs.Marks.{board};
-ghost use Rattle.canvas_nodes.specs.Answers.{GivesTexts};
+ghost use Rattle.canvas_judge.specs.Seen.{seen_message};
+ghost use Rattle.canvas_live.specs.Words.{SpellsNoWord, SpellsWord};
+ghost use Rattle.canvas_nodes.specs.Answers.{GivesTexts, IsUnasked, SpellsAsked};
 ghost use Rattle.net_outbox.specs.Texts.{text_bytes};
 ghost use Rattle.room_handler.specs.Table.{Gives, SeesOn, TellsCopyAt};
 ghost use Rattle.canvas_turns.specs.Told.{AreAll};
@@ -15,7 +17,7 @@ use app_listener::Shared;
 use canvas_board::RoomName;
 use canvas_desk::TailLimit;
 use canvas_judge::{Message, NoReason};
-use canvas_live::Here;
+use canvas_live::{Here, Word};
 use canvas_room::{Pace, Seat};
 use net_outbox::Text;
 use room_handler::{Terms, Told, is_too_large};
@@ -38,9 +40,12 @@ pub(crate) struct SeatFlags {
     published: Cell<Option<u64>>,
     // True if there was no room for its last long answer.
     is_refused: Cell<bool>,
-    // The number of what was whispered last to its client, and whether that has told something of itself.
+    // The number of what was whispered last to its client, and of what that has told last of itself, or 0.
     heard: Cell<u64>,
-    has_told: Cell<bool>,
+    told: Cell<u64>,
+    // True if its client waits for a copy, and if one was written for it in its step.
+    awaits_copy: Cell<bool>,
+    has_written: Cell<bool>,
 }
 
 impl SeatFlags {
@@ -54,7 +59,9 @@ impl SeatFlags {
             published: Cell::new(None),
             is_refused: Cell::new(false),
             heard: Cell::new(0),
-            has_told: Cell::new(false),
+            told: Cell::new(0),
+            awaits_copy: Cell::new(false),
+            has_written: Cell::new(false),
         }
     }
 
@@ -67,7 +74,19 @@ impl SeatFlags {
         self.published.swap(&others.published);
         self.is_refused.swap(&others.is_refused);
         self.heard.swap(&others.heard);
-        self.has_told.swap(&others.has_told);
+        self.told.swap(&others.told);
+        self.awaits_copy.swap(&others.awaits_copy);
+        self.has_written.swap(&others.has_written);
+    }
+
+    /// Checks whether its client waits for a copy.
+    pub(crate) fn awaits_copy(&self) -> bool {
+        self.awaits_copy.get()
+    }
+
+    /// Checks whether a copy was written for it in its step, once.
+    pub(crate) fn take_written(&self) -> bool {
+        self.has_written.replace(false)
     }
 }
 
@@ -83,6 +102,8 @@ pub(crate) struct SeatTerms<'a, N: RoomName, W> {
     budget: &'a Budget,
     flags: &'a SeatFlags,
     presence: &'a Presence,
+    // Whether the seat is for clients that need a copy.
+    is_for_copies: bool,
 }
 
 impl<N: RoomName, W> Drop for SeatTerms<'_, N, W> {
@@ -94,12 +115,13 @@ impl<N: RoomName, W> Drop for SeatTerms<'_, N, W> {
             budget: _,
             flags: _,
             presence: _,
+            is_for_copies: _,
         } = self;
     }
 }
 
 impl<'a, N: RoomName, W: Wait + Clock> SeatTerms<'a, N, W> {
-    /// Returns the terms of a seat with these flags, which waits by `rt`.
+    /// Returns the terms of a seat with these flags, which waits by `rt`. It may be one for clients that need a copy.
     pub(crate) fn new(
         rt: &'a W,
         shared: &'a Shared,
@@ -107,6 +129,7 @@ impl<'a, N: RoomName, W: Wait + Clock> SeatTerms<'a, N, W> {
         budget: &'a Budget,
         flags: &'a SeatFlags,
         presence: &'a Presence,
+        is_for_copies: bool,
     ) -> SeatTerms<'a, N, W> {
         SeatTerms {
             rt,
@@ -115,13 +138,35 @@ impl<'a, N: RoomName, W: Wait + Clock> SeatTerms<'a, N, W> {
             budget,
             flags,
             presence,
+            is_for_copies,
         }
+    }
+
+    /// Returns the message that these bytes are a text of, if a client sends such messages. A long one is parsed while no other is. Errors:
+    /// NotRead if they are a text of none, and Memory.
+    pub(crate) fn asked(&self, alloc: Global, bytes: &[u8]) -> Result<Message, NoReason>
+        ensures ok { IfOk result (λ m. SpellsAsked bytes.now (seen_message m)) }
+        ensures err { IfErr result (IsUnasked bytes.now) }
+    {
+        self.budget
+            .parsing
+            .asked(self.rt, alloc, bytes, self.shared.limits.message_bytes)
+    }
+
+    /// Returns the word of live connections that these bytes are a text of, if they are. A long one is parsed while no other is. Errors: out of
+    /// memory.
+    pub(crate) fn word_in(&self, alloc: Global, bytes: &[u8]) -> Result<Option<Word>, AllocError>
+        ensures some { IfOk result (λ found. IfSome found (SpellsWord bytes.now)) }
+        ensures none { IfOk result (λ found. IfNone found (SpellsNoWord bytes.now)) }
+    {
+        self.budget.parsing.word_in(self.rt, alloc, bytes)
     }
 
     /// Tells the others what its client tells of itself. Errors: out of memory.
     pub(crate) fn tell_here(&self, here: Here) -> Result<(), AllocError> {
-        self.flags.has_told.set(true);
-        self.presence.tell(self.rt, here)
+        let number = self.presence.tell(self.rt, here)?;
+        self.flags.told.set(number);
+        Ok(())
     }
 
     /// Returns the texts of what was told of themselves by others up to this number and isn't whispered yet: the first of them. Errors: out of
@@ -138,16 +183,18 @@ impl<'a, N: RoomName, W: Wait + Clock> SeatTerms<'a, N, W> {
         Ok(texts)
     }
 
-    /// Tells the others that this client has gone, if it told something of itself.
+    /// Tells the others that this client has gone, if it told something of itself on this connection, and nothing later on another one.
     pub(crate) fn end_here(&self, client: u32) {
-        if self.flags.has_told.replace(false) {
-            self.presence.end(self.rt, client);
+        let told = self.flags.told.replace(0);
+        if told > 0 {
+            self.presence.end(self.rt, client, told);
         }
     }
 
     /// Gives all back to the budget, and forgets its last reply. Called once its connection has ended.
     pub(crate) fn leave(&self) {
         self.flags.has_answered.set(false);
+        self.flags.awaits_copy.set(false);
         self.want_no_more();
         self.allow();
         self.end_copy();
@@ -219,19 +266,39 @@ impl<'a, N: RoomName, W: Wait + Clock> SeatTerms<'a, N, W> {
         reason
     }
 
-    /// Checks whether there may be room by now for a push to this client at this version: a copy, or the bytes that had no room before.
-    pub(crate) fn may_tell(&self, client: u32, version: u64) -> bool {
-        let wanted = self.flags.wanted.get();
-        let has_room = match wanted {
-            Some(bytes) if bytes > 0 => self.budget.has_room(bytes),
-            _ => !self.is_below(version) || self.makes_room_for_copy(client, version),
-        };
-        if has_room {
-            self.want_no_more();
-        } else if wanted.is_none() {
+    /// Checks whether there may be room by now for the bytes of a push that had none before.
+    pub(crate) fn may_tell(&self) -> bool {
+        match self.flags.wanted.get() {
+            Some(bytes) if bytes > 0 => {
+                let has_room = self.budget.has_room(bytes);
+                if has_room {
+                    self.want_no_more();
+                }
+                has_room
+            }
+            _ => true,
+        }
+    }
+
+    /// Checks whether its client waits for a copy that isn't written yet, or at which the seat can't be.
+    pub(crate) fn awaits_copy(&self) -> bool {
+        self.flags.awaits_copy.get()
+    }
+
+    // Records that its client waits for a copy. One is written soon if there is none, or the seat for copies can't be there.
+    fn await_copy(&self, least: u64, client: u32, version: u64) {
+        self.flags.awaits_copy.set(true);
+        let is_there = !self.is_for_copies && self.copies.is_for(self.rt, least, client, version);
+        if !is_there && !self.copies.want(self.rt) {
             self.want(0);
         }
-        has_room
+    }
+
+    // Records that its client doesn't wait for a copy.
+    fn await_none(&self) {
+        if self.flags.awaits_copy.replace(false) {
+            self.want_no_more();
+        }
     }
 
     // Records that there was no room for an answer: until there is, or its connection ends, slow peers are ended sooner.
@@ -285,9 +352,29 @@ impl<'a, N: RoomName, W: Wait + Clock> SeatTerms<'a, N, W> {
         has_room
     }
 
-    // Checks whether this version is below the floor, by what was published a tenth of a second ago.
-    fn is_below(&self, version: u64) -> bool {
-        version < self.shared.figures.floor()
+    // Returns the text of the copy that is pushed to a client at this version, and the copy's version. Returns `None` if there is none for it yet, or
+    // the seat can't be there. Errors: out of memory.
+    fn held_copy<D: Drop>(
+        &self,
+        alloc: Global,
+        seat: &mut Seat<N, D>,
+        client: u32,
+        version: u64,
+    ) -> Result<Option<(Text, u64)>, AllocError>
+        ensures copy { IfOk result (λ told. IfSome told (λ copy. TellsCopyAt (board N.opening seat.new) client version (text_bytes copy.0) copy.1)) }
+        ensures sees { SeesOn N.opening seat.old seat.new }
+    {
+        let least = self.shared.figures.least_copy();
+        let copy = self
+            .copies
+            .copy_for(self.rt, alloc, seat, least, client, version)?;
+        if copy.is_some() {
+            self.flags.has_copy.set(true);
+            self.await_none();
+        } else {
+            self.await_copy(least, client, version);
+        }
+        Ok(copy)
     }
 
     // Returns the texts of the answer to an Ask that needs a copy. Errors: no room for another copy, or out of memory.
@@ -308,8 +395,17 @@ impl<'a, N: RoomName, W: Wait + Clock> SeatTerms<'a, N, W> {
         }
         self.allow();
         self.flags.has_copy.set(true);
-        self.copies
-            .texts(self.rt, alloc, self.budget, seat, least, client, version)
+        let written = &self.flags.has_written;
+        self.copies.texts(
+            self.rt,
+            alloc,
+            self.budget,
+            written,
+            seat,
+            least,
+            client,
+            version,
+        )
     }
 }
 
@@ -335,7 +431,11 @@ impl<N: RoomName, W: Wait + Clock> Terms<N> for SeatTerms<'_, N, W> {
         is_too_large(alloc, message, self.shared.limits.message_bytes)
     }
 
+    // At the seat for copies nothing is looked at, so that it can be where one was written.
     fn shares_copy<D: Drop>(&self, alloc: Global, seat: &mut Seat<N, D>, version: u64) -> bool {
+        if self.is_for_copies && version < self.shared.figures.floor() {
+            return true;
+        }
         is_below_floor(alloc, seat, version)
     }
 
@@ -361,13 +461,15 @@ impl<N: RoomName, W: Wait + Clock> Terms<N> for SeatTerms<'_, N, W> {
         client: u32,
         version: u64,
     ) -> Result<Option<(Text, u64)>, AllocError> {
+        // At the seat for copies nothing is looked at, as in `shares_copy`.
+        if self.is_for_copies {
+            return self.held_copy(alloc, seat, client, version);
+        }
         if !is_below_floor(alloc, seat, version) {
+            self.await_none();
             return Ok(None);
         }
-        self.flags.has_copy.set(true);
-        let least = self.shared.figures.least_copy();
-        self.copies
-            .copy_for(self.rt, alloc, self.budget, seat, least, client, version)
+        self.held_copy(alloc, seat, client, version)
     }
 
     fn may_send(&self, told: &[Told]) -> bool {

@@ -40,7 +40,7 @@ impl Obstacle {
     // For how many looks the server waits then.
     fn looks(self) -> u32 {
         match self {
-            Obstacle::Owner | Obstacle::Silence(_) => 1,
+            Obstacle::Owner | Obstacle::Silence(_) | Obstacle::Failure(StoreError::Lost) => 1,
             Obstacle::Failure(_) => REST_LOOKS,
         }
     }

@@ -1,7 +1,9 @@
 // The socket of a connection, as its two streams.
-ghost use Rattle.std.specs.Prelude.{◌≤◌, length};
+ghost use Rattle.std.specs.Prelude.{◌≡◌, IfOk, None};
 ghost use Rattle.std.specs.Io.{ReadsAtMost};
+ghost use Rattle.app_server.specs.Fetched.{ReadsFetched};
 
+use crate::fetched::{FETCH_BYTES, Fetched};
 use net_inbox::Inbox;
 use std::alloc::Global;
 use std::cell::{Cell, RefCell};
@@ -9,23 +11,12 @@ use std::io::{self, ErrorKind, Read, Write};
 use std::net::TcpStream;
 use std::rc::Rc;
 
-// How many bytes are read at once.
-const READ_BYTES: usize = 16 * 1024;
-
 // How many bytes are read in one step of a connection, and written, so that others have their turn.
 const STEP_BYTES: usize = 256 * 1024;
-
-// Bytes that were read, and how many of them were given.
-#[derive(Drop)]
-struct Fetched {
-    bytes: Vec<u8>,
-    given: usize,
-}
 
 /// A socket on which no call blocks, and what was read of it.
 #[derive(Drop)]
 pub(crate) struct Socket {
-    alloc: Global,
     stream: TcpStream,
     // False once a read would have waited, until something is reported of it.
     is_readable: Cell<bool>,
@@ -45,16 +36,11 @@ pub(crate) struct Socket {
 impl Socket {
     /// Returns a socket that may be read, after its handshake.
     pub(crate) fn new(alloc: Global, stream: TcpStream) -> Socket {
-        let fetched = Fetched {
-            bytes: Vec::new(alloc),
-            given: 0,
-        };
         Socket {
-            alloc,
             stream,
             is_readable: Cell::new(true),
             is_dry: Cell::new(true),
-            fetched: RefCell::new(fetched),
+            fetched: RefCell::new(Fetched::new(alloc)),
             read: Cell::new(0),
             left: Cell::new(STEP_BYTES),
             is_cut: Cell::new(false),
@@ -111,78 +97,93 @@ impl Socket {
 
     /// Reads what has come, at most 16 KiB, if all that was read before is given. A socket that may not be read isn't read.
     pub(crate) fn fetch(&self) {
-        let Ok(mut fetched) = self.fetched.try_borrow_mut() else {
-            return;
-        };
-        if fetched.given < fetched.bytes.len() || !self.is_readable.get() {
+        if !self.is_readable.get() {
             return;
         }
-        if !self.take(READ_BYTES) {
-            return;
-        }
-        match self.read_some() {
-            Ok(bytes) => {
-                self.inbox.pass(&bytes);
-                self.read.set(self.read.get().saturating_add(bytes.len()));
-                *fetched = Fetched { bytes, given: 0 };
-            }
-            Err(error) => {
-                self.is_readable.set(false);
-                if error.kind() != ErrorKind::WouldBlock {
-                    self.error.set(Some(error.kind()));
-                }
-            }
+        if let Ok(mut fetched) = self.fetched.try_borrow_mut() {
+            // The next read meets an error again.
+            let _ = fetched.fetch(&mut Arriving { socket: self });
         }
     }
 
-    // Reads some bytes. Errors: those of the stream, and `UnexpectedEof` at its end.
-    fn read_some(&self) -> io::Result<Vec<u8>> {
-        let mut bytes = Vec::new(self.alloc);
-        bytes.resize(READ_BYTES, 0)?;
-        let mut stream = &self.stream;
-        let count = stream.read(&mut bytes)?;
-        if count == 0 {
-            return Err(io::Error::from(ErrorKind::UnexpectedEof));
-        }
-        bytes.truncate(count);
-        Ok(bytes)
-    }
-
-    // Gives bytes that were read, as far as there is room for them, and at the end none. Errors: that of the last read; `WouldBlock` if none are left.
+    // Gives the next bytes, as far as there is room for them, and at the end none. Errors: that of the last read; `WouldBlock` if none are left.
     fn give(&self, buf: &mut [u8]) -> io::Result<usize>
         ensures { ReadsAtMost result buf.new }
     {
         let Ok(mut fetched) = self.fetched.try_borrow_mut() else {
             return Err(io::Error::from(ErrorKind::WouldBlock));
         };
-        let count = give_some(&fetched, buf);
-        self.is_dry.set(count == 0);
-        if count > 0 {
-            fetched.given = fetched.given.saturating_add(count);
-            return Ok(count);
+        let result = self.give_fetched(&mut fetched, buf);
+        self.is_dry.set(!matches!(&result, Ok(count) if *count > 0));
+        result
+    }
+
+    // Gives the next bytes: of those that were fetched, or if none are left, of those that have come since.
+    fn give_fetched(&self, fetched: &mut Fetched, buf: &mut [u8]) -> io::Result<usize>
+        ensures bound { ReadsAtMost result buf.new }
+        ensures bytes { ReadsFetched fetched.old None fetched.new None result buf.new }
+    {
+        if fetched.is_empty() && !self.is_readable.get() {
+            return self.last();
         }
-        *fetched = Fetched {
-            bytes: Vec::new(self.alloc),
-            given: 0,
-        };
+        fetched.read(&mut Arriving { socket: self }, buf)
+    }
+
+    // Returns what a read returns that gives no byte: 0 at the end. Errors: that of the last read; `WouldBlock` if it didn't fail.
+    fn last(&self) -> io::Result<usize>
+        ensures { IfOk result (λ count. count ≡ 0) }
+    {
         match self.error.get() {
             Some(ErrorKind::UnexpectedEof) => Ok(0),
             Some(kind) => Err(io::Error::from(kind)),
             None => Err(io::Error::from(ErrorKind::WouldBlock)),
         }
     }
+
+    // Reads bytes that have come. Errors: those of the socket; `WouldBlock` if this step has read its share.
+    fn receive(&self, buf: &mut [u8]) -> io::Result<usize>
+        ensures { ReadsAtMost result buf.new }
+    {
+        if !self.take(FETCH_BYTES) {
+            return Err(io::Error::from(ErrorKind::WouldBlock));
+        }
+        let mut stream = &self.stream;
+        match stream.read(buf) {
+            Ok(0) => {
+                self.stop_reading(ErrorKind::UnexpectedEof);
+                Ok(0)
+            }
+            Ok(count) => {
+                self.inbox.pass(&buf[..count]);
+                self.read.set(self.read.get().saturating_add(count));
+                Ok(count)
+            }
+            Err(error) => {
+                self.stop_reading(error.kind());
+                Err(error)
+            }
+        }
+    }
+
+    // It isn't read again until something is reported of it. The reason is kept, unless that is that no more has come.
+    fn stop_reading(&self, kind: ErrorKind) {
+        self.is_readable.set(false);
+        if kind != ErrorKind::WouldBlock {
+            self.error.set(Some(kind));
+        }
+    }
 }
 
-// Copies bytes that weren't given into a buffer. Returns how many.
-fn give_some(fetched: &Fetched, buf: &mut [u8]) -> usize
-    ensures { result ≤ length buf.new }
-{
-    let Some(left) = fetched.bytes.get(fetched.given..) else {
-        return 0;
-    };
-    let count = left.len().min(buf.len());
-    buf[..count].copy_from_slice(&left[..count]);
-    count
+// What arrives at a socket that may be read.
+#[derive(Drop)]
+struct Arriving<'a> {
+    socket: &'a Socket,
+}
+
+impl Read for Arriving<'_> {
+    fn read(&mut self, buf: &mut [u8]) -> io::Result<usize> {
+        self.socket.receive(buf)
+    }
 }
 
 /// What a connection reads.
@@ -193,7 +194,6 @@ pub(crate) struct Incoming {
 
 impl Read for Incoming {
     fn read(&mut self, buf: &mut [u8]) -> io::Result<usize> {
-        self.socket.fetch();
         self.socket.give(buf)
     }
 }

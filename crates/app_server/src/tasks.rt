@@ -2,11 +2,12 @@
 
 use crate::budget::Budget;
 use crate::copies::Copies;
+use crate::kicks::Kicks;
 use crate::live_seat::LiveSeat;
 use crate::polling::{Caller, Post};
 use crate::presence::Presence;
 use crate::seat_terms::{SeatFlags, SeatTerms};
-use crate::worker::{Means, Round, work};
+use crate::worker::{Means, Round, Seats, work};
 use app_listener::{Door, Load, Log, Shared, Workers, stand, write_lines};
 use app_storage::Task;
 use canvas_bell::Bell;
@@ -15,16 +16,17 @@ use canvas_journal::Keeper;
 use canvas_room::{Lock, Seat};
 use crossbeam_channel::Receiver;
 use room_handler::SeatAnswerer;
-use std::alloc::Global;
+use std::alloc::{AllocError, Global};
 use std::io::Eprint;
 use std::net::TcpStream;
 use std::sync::{Arc, Wait};
 use std::time::Clock;
 
-/// A worker: a seat, and where it is given connections.
+/// A worker: a seat, one for clients that need a copy, and where it is given connections.
 pub(crate) struct WorkerTask<N: RoomName, D: Drop, R: Drop> {
     pub(crate) rt: R,
     pub(crate) seat: Seat<N, D>,
+    pub(crate) copy_seat: Seat<N, D>,
     pub(crate) shared: Arc<Shared, Global>,
     pub(crate) copies: Arc<Copies<N>, Global>,
     pub(crate) budget: Arc<Budget, Global>,
@@ -33,6 +35,7 @@ pub(crate) struct WorkerTask<N: RoomName, D: Drop, R: Drop> {
     pub(crate) post: Post,
     pub(crate) bell: Arc<Bell<Caller>, Global>,
     pub(crate) presence: Arc<Presence, Global>,
+    pub(crate) kicks: Arc<Kicks, Global>,
 }
 
 impl<N: RoomName, D: Drop, R: Drop> Drop for WorkerTask<N, D, R> {
@@ -40,6 +43,7 @@ impl<N: RoomName, D: Drop, R: Drop> Drop for WorkerTask<N, D, R> {
         let WorkerTask {
             rt: _,
             seat: _,
+            copy_seat: _,
             shared: _,
             copies: _,
             budget: _,
@@ -48,6 +52,7 @@ impl<N: RoomName, D: Drop, R: Drop> Drop for WorkerTask<N, D, R> {
             post: _,
             bell: _,
             presence: _,
+            kicks: _,
         } = self;
     }
 }
@@ -64,6 +69,7 @@ where
         let WorkerTask {
             rt,
             seat,
+            copy_seat,
             shared,
             copies,
             budget,
@@ -72,33 +78,49 @@ where
             post,
             bell,
             presence,
+            kicks,
         } = self;
-        let Ok(own) = rt.clone() else {
-            return;
-        };
-        let Ok(shown) = Arc::try_clone(&copies) else {
-            return;
-        };
         let Ok(mut round) = Round::new(&rt, post) else {
             return;
         };
         let flags = SeatFlags::new();
-        let terms = SeatTerms::new(&rt, &shared, shown, &budget, &flags, &presence);
-        let answerer = SeatAnswerer::new(rt.alloc(), own, seat, terms);
-        let terms = SeatTerms::new(&rt, &shared, copies, &budget, &flags, &presence);
-        let mut seat = LiveSeat::new(answerer, terms, &shared, &bell);
         let means = Means {
             shared: &shared,
             flags: &flags,
             budget: &budget,
             bell: &bell,
             presence: &presence,
+            copies: &copies,
+            kicks: &kicks,
             connections: &connections,
             load: &load,
         };
-        work(&rt, &means, &mut round, &mut seat);
+        let Ok(usual) = live_seat(&rt, &means, seat, false) else {
+            return;
+        };
+        let Ok(copying) = live_seat(&rt, &means, copy_seat, true) else {
+            return;
+        };
+        let mut seats = Seats { usual, copying };
+        work(&rt, &means, &mut round, &mut seats);
     }
 }
+
+// Returns this seat for connections of a worker, maybe those whose clients need a copy. Errors: out of memory.
+fn live_seat<'a, N: RoomName, D: Drop, R: Wait + Clock + AllocGlobal + Clone + Drop>(
+    rt: &'a R,
+    means: &Means<'a, N>,
+    seat: Seat<N, D>,
+    is_for_copies: bool,
+) -> Result<OwnSeat<'a, N, D, R>, AllocError> {
+    let own = rt.clone()?;
+    let answerer = SeatAnswerer::new(rt.alloc(), own, seat, means.terms(rt, is_for_copies)?);
+    let terms = means.terms(rt, is_for_copies)?;
+    Ok(LiveSeat::new(answerer, terms, means.shared, means.bell))
+}
+
+// A worker's seat.
+type OwnSeat<'a, N, D, R> = LiveSeat<'a, N, D, R, SeatTerms<'a, N, R>>;
 
 /// The door, and the workers to which it gives connections.
 #[derive(Drop)]

@@ -101,6 +101,11 @@ impl Watch {
         self.due = until;
     }
 
+    /// Has it go on a moment later: it took no step, since its client's copy is being written.
+    pub(crate) fn hold(&mut self, now: u64) {
+        self.due = now.saturating_add(HELD_MILLIS);
+    }
+
     /// Checks whether it doesn't go on yet.
     pub(crate) fn is_tired(&self, now: u64) -> bool {
         now < self.tired

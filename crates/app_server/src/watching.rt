@@ -3,6 +3,8 @@ ghost use Rattle.std.specs.Prelude.{◌⊎◌, IfSome};
 ghost use Rattle.app_storage.specs.Faults.{IsJournalFault, IsStopFault};
 
 use crate::glancing::{GLANCE_MILLIS, Seen};
+use crate::kicking::KickFile;
+use crate::kicks::Kicks;
 use crate::own_document::Tenure;
 use crate::stopping::StopFile;
 use app_faults::Fault;
@@ -25,27 +27,34 @@ const STILL_MILLIS: u64 = 10;
 // How long the last answers may take to leave.
 const LEAVE_MILLIS: u64 = 50;
 
-/// What ends a server, beside its journal.
+/// What ends a server, beside its journal, or connections of it.
 pub(crate) struct Ends {
     /// The file that stops it.
     pub(crate) stop: StopFile,
+    /// The file that names connections to end.
+    pub(crate) kick: KickFile,
     /// What it holds of a document in an etcd, if it has one.
     pub(crate) tenure: Option<Tenure>,
 }
 
 impl Drop for Ends {
     fn drop(self) {
-        let Ends { stop: _, tenure: _ } = self;
+        let Ends {
+            stop: _,
+            kick: _,
+            tenure: _,
+        } = self;
     }
 }
 
 /// Looks ten times a second whether the server must end, and says why then: the lease of its document has ended, or it wasn't renewed in
 /// ten seconds; the file that stops it has come; or the journal has failed. It never waits for the writer or for an etcd. Logs a checkpoint of the
-/// document of this name that isn't made, once until one is.
+/// document of this name that isn't made, once until one is. Looks as often which connections an operator ends.
 pub(crate) fn watch<R: Wait + Clock + AllocGlobal>(
     rt: &R,
     shared: &Shared,
     seen: &Seen,
+    kicks: &Kicks,
     ends: &Ends,
     name: &str,
 ) -> Fault
@@ -64,6 +73,7 @@ pub(crate) fn watch<R: Wait + Clock + AllocGlobal>(
             }
             grace -= 1;
         }
+        ends.kick.look(rt, &shared.log, kicks);
         let refusal = shared.figures.refusal();
         if told.is_none() {
             tell_refusal(rt, shared, name, refusal);

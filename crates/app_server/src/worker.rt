@@ -1,18 +1,22 @@
 // A worker: one thread that serves many connections, a step of one after the other.
 
 use crate::budget::Budget;
-use crate::connections::{End, Peer, begin, step_at};
-use crate::live_seat::{EDIT, LiveSeat};
+use crate::connections::{End, Peer, peer_of, shake, step_at};
+use crate::copies::Copies;
+use crate::kicks::Kicks;
+use crate::live_seat::{ASK, EDIT, LiveSeat};
 use crate::polling::{Caller, Post, socket_of};
 use crate::presence::Presence;
-use crate::seat_terms::SeatFlags;
+use crate::seat_terms::{SeatFlags, SeatTerms};
 use crate::timing::Moment;
 use app_listener::{Load, Shared};
 use canvas_bell::Bell;
 use canvas_board::RoomName;
 use canvas_journal::Keeper;
+use canvas_judge::Message;
+use canvas_nodes::asked;
 use canvas_room::Lock;
-use canvas_turns::{LineEnd, Step};
+use canvas_turns::Step;
 use crossbeam_channel::Receiver;
 use room_handler::Terms;
 use slab::Slab;
@@ -20,7 +24,7 @@ use std::alloc::{AllocError, Global};
 use std::collections::VecDeque;
 use std::io;
 use std::net::TcpStream;
-use std::sync::Wait;
+use std::sync::{Arc, Wait};
 use std::thread::sleep;
 use std::time::{Clock, Duration, Instant};
 
@@ -56,8 +60,7 @@ const TIRED_FACTOR: u64 = 4;
 const FAILED_MILLIS: u64 = 50;
 
 /// What a worker has for its connections, beside its seat.
-#[derive(Drop)]
-pub(crate) struct Means<'a> {
+pub(crate) struct Means<'a, N: RoomName> {
     /// What all threads share.
     pub(crate) shared: &'a Shared,
     /// What the seat keeps of the connection that it serves.
@@ -68,9 +71,65 @@ pub(crate) struct Means<'a> {
     pub(crate) bell: &'a Bell<Caller>,
     /// What clients tell of themselves.
     pub(crate) presence: &'a Presence,
+    /// The copies of the document.
+    pub(crate) copies: &'a Arc<Copies<N>, Global>,
+    /// The connections that an operator ends.
+    pub(crate) kicks: &'a Kicks,
     /// The connections that it is given, and how many it serves.
     pub(crate) connections: &'a Receiver<TcpStream, Global>,
     pub(crate) load: &'a Load,
+}
+
+impl<N: RoomName> Drop for Means<'_, N> {
+    fn drop(self) {
+        let Means {
+            shared: _,
+            flags: _,
+            budget: _,
+            bell: _,
+            presence: _,
+            copies: _,
+            kicks: _,
+            connections: _,
+            load: _,
+        } = self;
+    }
+}
+
+impl<'a, N: RoomName> Means<'a, N> {
+    /// Returns the terms of a seat, which may be one for clients that need a copy. Errors: out of memory.
+    pub(crate) fn terms<R: Wait + Clock>(
+        &self,
+        rt: &'a R,
+        is_for_copies: bool,
+    ) -> Result<SeatTerms<'a, N, R>, AllocError> {
+        let copies = Arc::try_clone(self.copies)?;
+        Ok(SeatTerms::new(
+            rt,
+            self.shared,
+            copies,
+            self.budget,
+            self.flags,
+            self.presence,
+            is_for_copies,
+        ))
+    }
+}
+
+/// The seats of a worker: that of its connections, and that at which those are served whose clients need a copy of the document. As nothing else is
+/// looked at there, that seat can be where a copy was written a moment ago.
+pub(crate) struct Seats<'a, N: RoomName, D: Drop, W: Drop, T: Terms<N> + Drop> {
+    pub(crate) usual: LiveSeat<'a, N, D, W, T>,
+    pub(crate) copying: LiveSeat<'a, N, D, W, T>,
+}
+
+impl<N: RoomName, D: Drop, W: Drop, T: Terms<N> + Drop> Drop for Seats<'_, N, D, W, T> {
+    fn drop(self) {
+        let Seats {
+            usual: _,
+            copying: _,
+        } = self;
+    }
 }
 
 /// The connections of a worker.
@@ -92,6 +151,8 @@ pub(crate) struct Round {
     whispered: u64,
     // Whether it listens at the bell.
     hears: bool,
+    // How many files with connections that an operator ends it has looked at.
+    kicked: u64,
 }
 
 impl Round {
@@ -115,6 +176,7 @@ impl Round {
             looked: 0,
             whispered: 0,
             hears: false,
+            kicked: 0,
         })
     }
 
@@ -211,7 +273,7 @@ impl Round {
 
     // Has the connections go on that are told unasked, if some client has told something of itself, but not before its time.
     fn rouse_live(&mut self, presence: &Presence) {
-        if presence.last() == self.moment.heard {
+        if presence.last() == self.moment.heard && self.looks_again(presence) {
             return;
         }
         let next = self.whispered.saturating_add(WHISPER_MILLIS);
@@ -226,6 +288,34 @@ impl Round {
                 self.rouse(key);
             }
         }
+    }
+
+    // Puts the connections that an operator ends into the list of those that take a step now, tired ones among them.
+    fn rouse_kicked<R: Wait>(&mut self, rt: &R, kicks: &Kicks) {
+        let count = kicks.count();
+        if count == self.kicked {
+            return;
+        }
+        self.kicked = count;
+        for key in 0..self.peers.capacity() {
+            let Some(peer) = self.peers.get_mut(key) else {
+                continue;
+            };
+            if !kicks.has(rt, peer.number) {
+                continue;
+            }
+            peer.is_kicked = true;
+            if !peer.is_ready && self.ready.push_back(key).is_ok() {
+                peer.is_ready = true;
+            }
+        }
+        kicks.end();
+    }
+
+    // Looks once more if some client has told something, and is called once one does from then on: one that told something while it was looked the
+    // last time may have called for what was seen then. Returns whether there is nothing new.
+    fn looks_again(&self, presence: &Presence) -> bool {
+        presence.look(self.post.number()) == self.moment.heard
     }
 
     // Checks whether the client of this connection is told unasked.
@@ -304,38 +394,55 @@ fn tell<R: Wait + AllocGlobal>(rt: &R, shared: &Shared, number: u64, what: &str)
     }
 }
 
-// Logs that a connection begins, and from where.
-fn tell_begin<R: Wait + AllocGlobal>(rt: &R, shared: &Shared, number: u64, stream: &TcpStream) {
+// Logs that a connection begins, and from where, also by the address that its proxy names.
+fn tell_begin<R: Wait + AllocGlobal>(
+    rt: &R,
+    shared: &Shared,
+    number: u64,
+    stream: &TcpStream,
+    client: Option<String>,
+) {
     if shared.quiet {
         return;
     }
     let Ok(address) = stream.peer_addr() else {
         return tell(rt, shared, number, "begins");
     };
-    if let Ok(line) = format!(in rt.alloc(); "connection {number} begins, from {address}") {
+    let line = match client {
+        Some(client) => {
+            format!(in rt.alloc(); "connection {number} begins, from {client}, by {address}")
+        }
+        None => format!(in rt.alloc(); "connection {number} begins, from {address}"),
+    };
+    if let Ok(line) = line {
         shared.log.tell(rt, line);
     }
 }
 
 // Counts and logs a connection that has ended.
-fn close<R: Wait + AllocGlobal>(rt: &R, means: &Means<'_>, number: u64, end: End) {
+fn close<N: RoomName, R: Wait + AllocGlobal>(rt: &R, means: &Means<'_, N>, number: u64, end: End) {
     means.load.end();
     means.shared.figures.end();
     tell(rt, means.shared, number, end.words());
 }
 
 // Takes in a connection.
-fn welcome<R: Wait + Clock + AllocGlobal>(
+fn welcome<N: RoomName, R: Wait + Clock + AllocGlobal>(
     rt: &R,
-    means: &Means<'_>,
+    means: &Means<'_, N>,
     round: &mut Round,
     stream: TcpStream,
 ) {
     let number = means.shared.figures.begin();
-    tell_begin(rt, means.shared, number, &stream);
-    let peer = match begin(rt, means.shared, stream, number, round.moment) {
-        Ok(peer) => peer,
+    let (client, config) = shake(rt.alloc(), means.shared, &stream);
+    tell_begin(rt, means.shared, number, &stream, client);
+    let config = match config {
+        Ok(config) => config,
         Err(end) => return close(rt, means, number, end),
+    };
+    let limits = means.shared.limits;
+    let Ok(peer) = peer_of(rt.alloc(), limits, stream, config, number, round.moment) else {
+        return close(rt, means, number, End::Memory);
     };
     let key = round.peers.vacant_key();
     if round.post.begin(peer.socket.stream(), key).is_err() {
@@ -351,7 +458,9 @@ fn welcome<R: Wait + Clock + AllocGlobal>(
 enum Stepped {
     Goes,
     Rests,
-    Ends(LineEnd),
+    // It took no step yet.
+    Waits,
+    Ends(End),
 }
 
 // Takes a step of a connection.
@@ -370,10 +479,10 @@ where
     T: Terms<N> + Drop,
 {
     let Some(connection) = peer.connection.take() else {
-        return Stepped::Ends(LineEnd::Memory);
+        return Stepped::Ends(End::Memory);
     };
     let Ok(socket) = peer.socket.clone() else {
-        return Stepped::Ends(LineEnd::Memory);
+        return Stepped::Ends(End::Memory);
     };
     let read = peer.socket.take_read();
     let has_come = std::mem::replace(&mut peer.has_come, false);
@@ -399,7 +508,7 @@ where
         }
         Step::Ends(end) => {
             seat.leave();
-            Stepped::Ends(end)
+            Stepped::Ends(End::Served(end))
         }
     };
     seat.end_step();
@@ -407,12 +516,122 @@ where
     stepped
 }
 
+// Ends a connection in place of a step, since an operator does.
+fn kick<K, N, L, R, T>(
+    flags: &SeatFlags,
+    seat: &mut LiveSeat<'_, N, Lock<K, N, L>, R, T>,
+    peer: &Peer,
+) -> Stepped
+where
+    K: Keeper + Drop,
+    N: RoomName,
+    L: Wait + Drop,
+    R: Wait + Clock + AllocGlobal + Clone + Drop,
+    T: Terms<N> + Drop,
+{
+    flags.swap(&peer.flags);
+    seat.go_to_place(peer.place);
+    seat.leave();
+    flags.swap(&peer.flags);
+    Stepped::Ends(End::Kicked)
+}
+
+// Where the next step of a connection is taken.
+#[derive(Clone, Copy, Debug, PartialEq, Eq)]
+enum StepPlace {
+    Usual,
+    Copying,
+    // At no seat yet: its copy is being written.
+    Later,
+}
+
+// Returns where the next step of a connection is taken: if its client asks from below the floor, where a copy is, once it is written. A client that no
+// copy is for is served as others are.
+fn place_of<N: RoomName, R: Wait + AllocGlobal>(
+    rt: &R,
+    means: &Means<'_, N>,
+    peer: &mut Peer,
+) -> StepPlace {
+    let Some((client, version)) = asked_ahead(rt.alloc(), peer) else {
+        return StepPlace::Usual;
+    };
+    let figures = &means.shared.figures;
+    if version >= figures.floor() {
+        return StepPlace::Usual;
+    }
+    if means
+        .copies
+        .is_for(rt, figures.least_copy(), client, version)
+    {
+        return StepPlace::Copying;
+    }
+    let written = means.copies.written(rt);
+    let since = *peer.waits_since.get_or_insert(written);
+    if written.saturating_sub(since) < 2 && means.copies.want(rt) {
+        StepPlace::Later
+    } else {
+        StepPlace::Usual
+    }
+}
+
+// Returns the client and the version of the Ask that comes next on a connection, if one does.
+fn asked_ahead(alloc: Global, peer: &Peer) -> Option<(u32, u64)> {
+    if peer.has_come && peer.socket.is_dry() {
+        peer.socket.fetch();
+    }
+    let text = peer.socket.inbox().peek(ASK)?;
+    match &asked(alloc, &text) {
+        Ok(Message::Ask { client, version }) => Some((*client, *version)),
+        _ => None,
+    }
+}
+
+// Checks whether there is a copy for the client of a connection that waits for one.
+fn has_copy<N: RoomName, R: Wait>(rt: &R, means: &Means<'_, N>, peer: &Peer) -> bool {
+    let Some(place) = peer.place else {
+        return false;
+    };
+    let least = means.shared.figures.least_copy();
+    peer.flags.awaits_copy() && means.copies.is_for(rt, least, place.client, place.version)
+}
+
+// Takes a step of a connection at the seat where it is due. If its client waits for a copy that is there by now, and nothing that it has sent is left
+// to be read, it is told that.
+fn step_due<K, N, L, R, T>(
+    rt: &R,
+    means: &Means<'_, N>,
+    moment: Moment,
+    seats: &mut Seats<'_, N, Lock<K, N, L>, R, T>,
+    peer: &mut Peer,
+) -> Stepped
+where
+    K: Keeper + Drop,
+    N: RoomName,
+    L: Wait + Drop,
+    R: Wait + Clock + AllocGlobal + Clone + Drop,
+    T: Terms<N> + Drop,
+{
+    let stepped = match place_of(rt, means, peer) {
+        StepPlace::Usual => step(rt.alloc(), means.flags, moment, &mut seats.usual, peer),
+        StepPlace::Copying => step(rt.alloc(), means.flags, moment, &mut seats.copying, peer),
+        StepPlace::Later => {
+            peer.watch.hold(moment.now);
+            return Stepped::Waits;
+        }
+    };
+    peer.waits_since = None;
+    if stepped == Stepped::Rests && has_copy(rt, means, peer) {
+        return step(rt.alloc(), means.flags, moment, &mut seats.copying, peer);
+    }
+    stepped
+}
+
 // Takes a step of the connection of this key, and does what it says.
 fn serve<K, N, L, R, T>(
     rt: &R,
-    means: &Means<'_>,
+    means: &Means<'_, N>,
     round: &mut Round,
-    seat: &mut LiveSeat<'_, N, Lock<K, N, L>, R, T>,
+    seats: &mut Seats<'_, N, Lock<K, N, L>, R, T>,
     key: usize,
 )
 where
@@ -427,8 +646,13 @@ where
         return;
     };
     peer.is_ready = false;
-    let stepped = step(rt.alloc(), means.flags, round.moment, seat, peer);
-    let is_much = peer.read >= MUCH_READ;
+    let stepped = if peer.is_kicked {
+        kick(means.flags, &mut seats.usual, peer)
+    } else {
+        step_due(rt, means, round.moment, seats, peer)
+    };
+    let is_much = peer.read >= MUCH_READ || peer.flags.take_written();
+    let due = peer.watch.due();
     let now = round.millis(rt);
     let spent = now.saturating_sub(begun);
     match stepped {
@@ -437,9 +661,10 @@ where
         }
         Stepped::Goes => round.rouse(key),
         Stepped::Rests => round.settle(key),
+        Stepped::Waits => round.due = round.due.min(due),
         Stepped::Ends(end) => if let Some(peer) = round.peers.try_remove(key) {
             round.post.end(peer.socket.stream());
-            close(rt, means, peer.number, End::Served(end));
+            close(rt, means, peer.number, end);
         },
     }
 }
@@ -448,7 +673,7 @@ where
 fn judge_next<K, N, L, R, T>(
     alloc: Global,
     round: &mut Round,
-    seat: &mut LiveSeat<'_, N, Lock<K, N, L>, R, T>,
+    seats: &mut Seats<'_, N, Lock<K, N, L>, R, T>,
 ) -> usize
 where
     K: Keeper + Drop,
@@ -464,7 +689,7 @@ where
         let Some(peer) = round.peers.get(*key) else {
             continue;
         };
-        if peer.has_come && peer.socket.is_dry() {
+        if peer.has_come && !peer.is_kicked && peer.socket.is_dry() {
             peer.socket.fetch();
             let most = MOST_TOGETHER.saturating_sub(texts.len());
             let mut run = peer.socket.inbox().take_ahead(EDIT, most);
@@ -477,16 +702,16 @@ where
         }
     }
     round.moment.tells = texts.len() < 2;
-    seat.judge_all(alloc, &texts);
+    seats.usual.judge_all(alloc, &texts);
     count
 }
 
 // Takes a step of each connection that goes on in this round.
 fn serve_ready<K, N, L, R, T>(
     rt: &R,
-    means: &Means<'_>,
+    means: &Means<'_, N>,
     round: &mut Round,
-    seat: &mut LiveSeat<'_, N, Lock<K, N, L>, R, T>,
+    seats: &mut Seats<'_, N, Lock<K, N, L>, R, T>,
 )
 where
     K: Keeper + Drop,
@@ -500,20 +725,20 @@ where
         if left == 0 {
             break;
         }
-        let count = judge_next(rt.alloc(), round, seat).min(left).max(1);
-        serve_some(rt, means, round, seat, count);
+        let count = judge_next(rt.alloc(), round, seats).min(left).max(1);
+        serve_some(rt, means, round, seats, count);
         left = left.saturating_sub(count);
     }
     round.moment.tells = true;
-    serve_late(rt, means, round, seat);
+    serve_late(rt, means, round, seats);
 }
 
 // Takes a step of each connection that is told something now that all messages are answered.
 fn serve_late<K, N, L, R, T>(
     rt: &R,
-    means: &Means<'_>,
+    means: &Means<'_, N>,
     round: &mut Round,
-    seat: &mut LiveSeat<'_, N, Lock<K, N, L>, R, T>,
+    seats: &mut Seats<'_, N, Lock<K, N, L>, R, T>,
 )
 where
     K: Keeper + Drop,
@@ -526,16 +751,16 @@ where
         let Some(key) = round.late.pop_front() else {
             return;
         };
-        serve(rt, means, round, seat, key);
+        serve(rt, means, round, seats, key);
     }
 }
 
 // Takes a step of so many of the connections that go on next.
 fn serve_some<K, N, L, R, T>(
     rt: &R,
-    means: &Means<'_>,
+    means: &Means<'_, N>,
     round: &mut Round,
-    seat: &mut LiveSeat<'_, N, Lock<K, N, L>, R, T>,
+    seats: &mut Seats<'_, N, Lock<K, N, L>, R, T>,
     count: usize,
 )
 where
@@ -549,12 +774,16 @@ where
         let Some(key) = round.ready.pop_front() else {
             return;
         };
-        serve(rt, means, round, seat, key);
+        serve(rt, means, round, seats, key);
     }
 }
 
 // Takes in the connections that the worker is given.
-fn welcome_each<R: Wait + Clock + AllocGlobal>(rt: &R, means: &Means<'_>, round: &mut Round) {
+fn welcome_each<N: RoomName, R: Wait + Clock + AllocGlobal>(
+    rt: &R,
+    means: &Means<'_, N>,
+    round: &mut Round,
+) {
     for _ in 0..means.connections.len() {
         let Ok(stream) = means.connections.try_recv(rt) else {
             return;
@@ -572,9 +801,9 @@ fn rest_of(count: usize, workers: usize) -> u64 {
 // Waits until there is something to do, and does it.
 fn turn<K, N, L, R, T>(
     rt: &R,
-    means: &Means<'_>,
+    means: &Means<'_, N>,
     round: &mut Round,
-    seat: &mut LiveSeat<'_, N, Lock<K, N, L>, R, T>,
+    seats: &mut Seats<'_, N, Lock<K, N, L>, R, T>,
 )
 where
     K: Keeper + Drop,
@@ -593,9 +822,10 @@ where
         welcome_each(rt, means, round);
         round.rouse_listening();
     }
+    round.rouse_kicked(rt, means.kicks);
     round.rouse_due();
     round.rouse_live(means.presence);
-    serve_ready(rt, means, round, seat);
+    serve_ready(rt, means, round, seats);
     if !round.hears && !round.listening.is_empty() {
         // They look once more at what is published, now that the bell is heard.
         round.listen(means.bell);
@@ -606,9 +836,9 @@ where
 /// Serves the connections that a worker is given, for as long as the server runs.
 pub(crate) fn work<K, N, L, R, T>(
     rt: &R,
-    means: &Means<'_>,
+    means: &Means<'_, N>,
     round: &mut Round,
-    seat: &mut LiveSeat<'_, N, Lock<K, N, L>, R, T>,
+    seats: &mut Seats<'_, N, Lock<K, N, L>, R, T>,
 )
 where
     K: Keeper + Drop,
@@ -618,7 +848,7 @@ where
     T: Terms<N> + Drop,
 {
     for _ in rt.forever() {
-        turn(rt, means, round, seat);
+        turn(rt, means, round, seats);
     }
     unreachable!()
 }

@@ -41,7 +41,7 @@ impl fmt::Display for Refused<'_> {
 /// reports that memory ran out.
 pub fn with_refusal(fault: Fault, refusal: Option<SpaceRefusal>) -> Fault
     ensures fault { result ≡ with_refusal fault refusal }
-    ensures opening { (clients : ℕ) → IsOpeningFault clients fault → IsOpeningFault clients result }
+    ensures opening { (workers : ℕ) → IsOpeningFault workers fault → IsOpeningFault workers result }
 {
     match (fault, refusal) {
         (Fault::Memory, Some(SpaceRefusal::NoSpace { missing })) => Fault::NoSpace { missing },

@@ -56,7 +56,7 @@ where
         + Send
         + Drop
         + 'static,
-    ensures { IfErr result (λ fault. ((clients : ℕ) → IsOpeningFault clients fault) ⊎ IsThreadFault fault) }
+    ensures { IfErr result (λ fault. ((workers : ℕ) → IsOpeningFault workers fault) ⊎ IsThreadFault fault) }
 {
     let causes = store.causes()?;
     let lease = store.lease()?;

@@ -10,12 +10,13 @@ use Rattle.app_faults.specs.declared.subject.Subject.{Subject}
 use Rattle.app_faults.specs.declared.subject.Subject.TheVariants as subject
 use Rattle.canvas_lines.specs.Reports.{WritesReport}
 use Rattle.app_args.specs.declared.asked.Invocation.{Invocation}
-use Rattle.app_args.specs.declared.asked.Invocation.TheVariants.{Serve, Show, Import, Restore, Move, Check, Log}
+use Rattle.app_args.specs.declared.asked.Invocation.TheVariants.{Serve, Show, Import, Restore, Move, Check, Log, Kick}
 use Rattle.app_args.specs.declared.asked.DocumentPlace.{DocumentPlace}
 use Rattle.app_args.specs.declared.asked.DocumentPlace.TheVariants.{Folder, Document}
 use Rattle.app_args.specs.declared.error.WordError.{WordError}
 use Rattle.app_args.specs.Wrong.{fault_of_word}
 use Rattle.app_storage.specs.Faults.{IsServedUntilFault}
+use Rattle.lugcurrant.specs.Kicks.{WritesTaken}
 
 -- the folder of a document, or its name in an etcd
 abbrev pub place_bytes : DocumentPlace → List ℕ
@@ -65,6 +66,8 @@ CarriesOut (Check place) status read left written after faults told =
     (left ≡ read) × EndsAt place (WritesChecked place written after) status faults told
 CarriesOut (Log place) status read left written after faults told =
     (left ≡ read) × EndsAt place (WritesLog written after) status faults told
+CarriesOut (Kick file numbers) status read left written after faults told =
+    (left ≡ read) × EndsCommand (WritesTaken (string_bytes file) written after) subject.Folder (string_bytes file) status faults told
 
 -- the status of a word that isn't as it has to be, where it was told in a line of its own, or 4
 abbrev pub IsWordRefused : WordError → ℕ → (faults told : Option (List ℕ)) → Type 0

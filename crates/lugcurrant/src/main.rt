@@ -2,6 +2,7 @@
 #![tactic(auto)]
 
 mod caring;
+mod kicking;
 mod remote;
 mod running;
 mod telling;

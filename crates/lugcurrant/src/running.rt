@@ -7,6 +7,7 @@ ghost use Rattle.app_storage.specs.Faults.{IsServedUntilFault};
 ghost use Rattle.lugcurrant.specs.Runs.{CarriesOut, EndsAt, IsWordRefused, IsCommandRun, Shows, WritesChecked, WritesShown, place_bytes, served_of};
 
 use crate::caring::{run_check, run_import, run_log, run_restore, run_rows, run_tree};
+use crate::kicking::run_kick;
 use crate::remote::{import_remote, run_move};
 use app_admin::{FolderHome, Home, Layout, NewFolder};
 use app_admin_etcd::DocumentHome;
@@ -123,6 +124,7 @@ where
         } => run_move(rt, files, &dir, &address, is_back, output, faults),
         Invocation::Check { place } => check(rt, files, &place, output, faults),
         Invocation::Log { place } => log(rt, files, &place, output, faults),
+        Invocation::Kick { file, numbers } => run_kick(rt, files, &file, &numbers, output, faults),
     }
 }
 

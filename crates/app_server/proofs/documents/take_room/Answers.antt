@@ -3,10 +3,10 @@ use Rattle.app_faults.specs.declared.fault.Fault.{Fault}
 use Rattle.app_storage.specs.Faults.{IsOpeningFault, IsThreadFault}
 use Rattle.app_server.proofs.documents.take_room.Goals as goal
 
--- what opens no document for any number of clients opens none for this many
-for_seats : (seats : ℕ) (fault : Fault) → ((clients : ℕ) → IsOpeningFault clients fault) ⊎ IsThreadFault fault → IsOpeningFault seats fault ⊎ IsThreadFault fault
-for_seats seats fault (inl any) = inl (any seats)
-for_seats seats fault (inr thread) = inr thread
+-- what opens no document for any number of workers opens none for this many
+for_workers : (count : ℕ) (fault : Fault) → ((workers : ℕ) → IsOpeningFault workers fault) ⊎ IsThreadFault fault → IsOpeningFault count fault ⊎ IsThreadFault fault
+for_workers count fault (inl any) = inl (any count)
+for_workers count fault (inr thread) = inr thread
 
 pub returns-in-Err-clause-faults : goal.returns-in-Err-clause-faults
-returns-in-Err-clause-faults g c = for_seats c.args.seats c.in-Err.fault c.in-Err.ensures
+returns-in-Err-clause-faults g c = for_workers c.args.workers c.in-Err.fault c.in-Err.ensures

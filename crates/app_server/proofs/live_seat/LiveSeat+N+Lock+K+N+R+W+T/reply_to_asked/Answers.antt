@@ -4,5 +4,5 @@ use Rattle.std.proofs.Common.{refl}
 -- what the seat gave; its place stays
 pub returns-in-Ok-clause-gives : goal.returns-in-Ok-clause-gives
 returns-in-Ok-clause-gives g c =
-    let gives = c.in-Ok.ensures in
+    let gives = c.in-Ok.ensures.gives in
     rw (← c.self.view_is) (gives.0, (gives.1, refl), gives.3)

@@ -8,7 +8,8 @@ use Rattle.canvas_turns.specs.Told.{version_told}
 use Rattle.room_handler.specs.Told.{seen_told}
 use Rattle.room_handler.specs.declared.told.Told.{Told}
 use Rattle.app_server.specs.Live.{LiveValue}
-use Rattle.app_server.proofs.Live.{fails_after, seat_further, told_copy, told_each, told_nothing}
+use Rattle.room_handler.proofs.SeesOn.{seat_further}
+use Rattle.app_server.proofs.Live.{fails_after, told_copy, told_each, told_nothing}
 use Rattle.app_server.proofs.live_seat.LiveSeatLockHandler.push.Goals as goal
 
 -- there is no place, or no room
@@ -23,6 +24,15 @@ returns-then-not-may_tell-clause-tells g c =
     let old : LiveValue = record { seat = c.self.inside.answerer; place = c.self.inside.place } in
     let nothing = c.nothing-then-not-may_tell.ensures in
     rw (← c.self.view_is) (told_nothing g.N.RoomName.opening old old _ _ (inl refl, refl) refl (ap (map text_bytes) nothing.texts) nothing.versions)
+
+-- the copy isn't there yet
+pub returns-then-awaits_copy-clause-tells : goal.returns-then-awaits_copy-clause-tells
+returns-then-awaits_copy-clause-tells g c =
+    let o = g.N.RoomName.opening in
+    let old : LiveValue = record { seat = c.self.inside.answerer; place = c.self.inside.place } in
+    let new : LiveValue = record { seat = c.push_copy.new.self; place = c.self.inside.place } in
+    let nothing = c.nothing-then-awaits_copy.ensures in
+    rw (← c.self.view_is) (told_nothing o old new _ _ c.push_copy.ensures.sees refl (ap (map text_bytes) nothing.texts) nothing.versions)
 
 -- a copy is told
 pub returns-in-Some-2-clause-tells : goal.returns-in-Some-2-clause-tells
