@@ -1,0 +1,1 @@
+"""How tools/believe reads specs and contracts."""
