@@ -90,6 +90,8 @@ class Source:
     def __init__(self, top, crate, file):
         self.crate, self.path = crate, str(file.relative_to(top))
         self.lines = file.read_text().split("\n")
+        # The lines without comments, texts and letters.
+        self.bare = [without_comment(LITERAL.sub("0", line)).rstrip() for line in self.lines]
         self.names, self.aliases, self.operators = {}, {}, {}
         # name: the path that a use line of the language gives it
         self.rust, self.types, self.traits, self.impls, self.functions = {}, {}, {}, [], []
@@ -120,8 +122,8 @@ class Source:
         """The line after an item: its last one closes it, or ends with ";"."""
         depth = 0
         for number in range(first, len(self.lines)):
-            line = without_comment(LITERAL.sub("0", self.lines[number])).rstrip()
-            depth += sum((char in OPEN) - (char in CLOSE) for char in line)
+            line = self.bare[number]
+            depth += sum(map(line.count, OPEN)) - sum(map(line.count, CLOSE))
             is_body = line in (indent + "}", indent + "{}") or number == first and line.endswith("}")
             if depth == 0 and (is_body or line.endswith(";")):
                 return number + 1

@@ -339,17 +339,26 @@ class Graph:
         return self.node(("ghost", trait.path, trait.name, item.name), f"{trait.name}::{item.name}", item, item.size(), item.about, trait.source.crate, fill)
 
     def of_given(self, impl, item):
-        """A ghost item as an impl gives it; of a law nothing, as that is a proof."""
+        """A ghost item as an impl gives it."""
+        declared = next((it for it in self.trait_of(impl).members if it.kind == "ghost" and it.name == item.name), None)
 
         def fill(node):
-            bounds, place = bounds_of(impl.generics), f"{impl.path}:{impl.line}"
-            self.add_words(node, item.value(), Context(impl.source, impl, {}, bounds))
-            owner = self.named_in(impl.source, impl.name, "types", place)
-            self.add_fields(node, owner, fields_in(owner, [item]), bounds)
+            self.add_words(node, item.value(), Context(impl.source, impl, {}, bounds_of(impl.generics)))
+            if declared is None or any(word == "Self" for word, _ in declared.value()):
+                self.add_owner(node, impl, item)
 
-        declared = [it for it in self.trait_of(impl).members if it.kind == "ghost" and it.name == item.name]
-        name, about = f"{impl.name} as {impl.trait}::{item.name}", item.about or (declared[0].about if declared else "")
+        name = f"{impl.name} as {impl.trait}::{item.name}"
+        about = item.about or (declared.about if declared else "")
         return self.node(("given", impl.path, impl.name, impl.trait, item.name), name, item, item.size(), about, impl.source.crate, fill)
+
+    def add_owner(self, node, impl, item):
+        """What contracts see of the type of an impl; without a view those of its fields that the item reads."""
+        owner = self.named_in(impl.source, impl.name, "types", f"{impl.path}:{impl.line}")
+        seen = self.seen(owner)
+        if seen.key[0] == "view":
+            self.add(node, seen)
+        else:
+            self.add_fields(node, owner, fields_in(owner, [item]), bounds_of(impl.generics))
 
     def add_clauses(self, node, function, inside):
         """What the clauses of a function name."""
