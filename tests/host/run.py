@@ -68,6 +68,8 @@ own; only the named groups, where some are named.
   takes leaves nothing. A file with something else, a large one, a link, a pipe and a folder end nothing and hold up nothing; nor does one
   that was there before the server.
 - forwarded: with --trust-forwarded the log tells the address that a proxy names last, if it is one, and else the peer's alone.
+- edits: `edit` plays the lines of its input against a server: each is answered before the next is read, a refused edit ends nothing, and `show` has what
+  was made. A bad line, a No, a server that isn't there, is no server or is killed, and an output that takes nothing end it with a sentence and a status.
 - coming: six clients come, edit and go again for SECONDS (30), and the server's memory stays flat.
 
 Prints a line for each group, and exits with 1 where one went wrong. Needs no package."""
@@ -1783,6 +1785,55 @@ def memory(room):
     return f"{at - 1} calls refused in turn"
 
 
+def edited(port, lines, out=subprocess.PIPE):
+    """Status, output and faults of `lugcurrant edit` that plays these lines."""
+    done = subprocess.run([PROGRAM, "edit", "--port", str(port)], input=lines, stdout=out, stderr=subprocess.PIPE, text=True, timeout=60)
+    return done.returncode, done.stdout, done.stderr
+
+
+def edits(room):
+    server, failed = Server(room, "--message-bytes", "1024"), "device or socket failed\n"
+
+    def same(found, wanted):
+        require(found == wanted, repr(found), "and not", repr(wanted))
+
+    lines = "# ten edits\ncreate page 0:0 -\ncreate page 1:1 -\n" + "".join(f"set 1:1 n{at} {at}\n" for at in range(9))
+    answers = "edit 1\nrefused BadParent\n" + "".join(f"edit {at}\n" for at in range(2, 11))
+    tree = "0:0 document\n  1:1 page O\n" + "".join(f"    .n{at} {at}\n" for at in range(9))
+    block = "".join(f"  {line}\n" for line in tree.splitlines())
+    same(edited(server.port, lines), (0, f"{answers}version 11 waiting 0\nme id 1 version 11 waiting 0\n{block}", ""))
+    same(shown(room), "version 11\n" + tree)
+    # What is typed is answered line by line.
+    with subprocess.Popen([PROGRAM, "edit", "--port", str(server.port)], stdin=subprocess.PIPE, stdout=subprocess.PIPE, bufsize=0) as typed:
+        for line, answer in ((b"exchange", b"version 12 waiting 0"), (b"set 1:1 n0 7", b"edit 1"), (b"exchange", b"version 13 waiting 0")):
+            typed.stdin.write(line + b"\n")
+            same(typed.stdout.readline(), answer + b"\n")
+        typed.stdin.close()
+        require(b".n0 7\n" in typed.stdout.read() and typed.wait(60) == 0, "an input that ends isn't played to its end")
+    same(edited(server.port, "create page 0:0 -\nexchange\nset 3:1 name x\nshow\n"), (2, "edit 1\nversion 15 waiting 0\n", "line 3: cannot read\n"))
+    # The server answers `no 8` to an edit that is too large.
+    long = "x" * 2000
+    same(edited(server.port, f'create page 0:0 -\nset 4:1 name "{long}"\n'), (4, "edit 1\nedit 2\n", failed))
+    require("3:1 page" in shown(room) and long not in shown(room), "what a client made before a fault isn't there, or an edit that is too large is")
+    with open("/dev/full", "w") as full:
+        same(edited(server.port, "show\n", full), (4, None, failed))
+    with subprocess.Popen([PROGRAM, "edit", "--port", str(server.port)], stdin=subprocess.PIPE, stdout=subprocess.PIPE, stderr=subprocess.PIPE, bufsize=0) as typed:
+        typed.stdin.write(b"create page 0:0 -\n")
+        same(typed.stdout.readline(), b"edit 1\n")
+        server.kill()
+        typed.stdin.close()
+        same((typed.stdout.read(), typed.stderr.read().decode(), typed.wait(60)), (b"", failed, 4))
+    same(edited(server.port, "show\n"), (4, "", failed))
+    with socket.create_server(("127.0.0.1", 0)) as stranger:
+        thread = threading.Thread(target=lambda: stranger.accept()[0].close())
+        thread.start()
+        same(edited(stranger.getsockname()[1], "show\n"), (4, "", failed))
+        thread.join()
+    for words in (["--port", "0"], ["--port", "65536"], ["--port", "x"], ["7411"]):
+        require(call("edit", *words, status=2, told="error: ") == b"", "words for nothing write something")
+    return "11 lines, one of them refused, are what `show` has; 3 typed ones; a bad line, a No, no output, 3 servers that aren't there, 4 bad words"
+
+
 def coming(room):
     server = Server(room, "--clients", "8", "--quiet")
     stop, refused, served = threading.Event(), [0], [0]
@@ -1820,6 +1871,6 @@ def coming(room):
 
 
 GROUPS = (reuse, full, quiet, strangers, ended, unread, stopped, pages, origins, hosts, handshakes, identity, kills, figures, sizes, copies, pace, pieces, large, disk, space, sentences, rights, rows, restored, whole, lost, torn, gone, moved, checked, served,
-          memory, *operators.GROUPS, coming)
+          memory, *operators.GROUPS, edits, coming)
 
 sys.exit(try_groups(GROUPS, NAMES))

@@ -4,7 +4,7 @@ use Rattle.std.specs.List.{All}
 use Rattle.net_http.specs.Hosts.{IsHost}
 use Rattle.net_http.specs.Origins.{IsOrigin}
 use Rattle.app_args.specs.declared.asked.Invocation.{Invocation}
-use Rattle.app_args.specs.declared.asked.Invocation.TheVariants.{Serve, Show, Import, Restore, Move, Check, Log, Kick}
+use Rattle.app_args.specs.declared.asked.Invocation.TheVariants.{Serve, Show, Import, Restore, Move, Check, Log, Kick, Edit}
 use Rattle.app_args.specs.declared.asked.Serving.{Serving}
 
 -- each host and each origin that it names is one as browsers send it
@@ -21,3 +21,4 @@ AsksForOrigins (Move dir address is_back) = Unit {0}
 AsksForOrigins (Check place) = Unit {0}
 AsksForOrigins (Log place) = Unit {0}
 AsksForOrigins (Kick file numbers) = Unit {0}
+AsksForOrigins (Edit port) = Unit {0}

@@ -70,6 +70,9 @@ fn command_of(alloc: Global, name: &str, matches: &ArgMatches<'_>) -> Result<Inv
             file: text_of(alloc, matches, "file")?,
             numbers: numbers_of(alloc, matches)?,
         },
+        "edit" => Invocation::Edit {
+            port: matches.get_one("port").unwrap_or(7411),
+        },
         _ => Invocation::Check {
             place: place_of(alloc, matches)?,
         },
@@ -113,6 +116,7 @@ fn program<'a>(alloc: Global) -> Result<Command<'a>, AllocError> {
         .subcommand_required(true)
         .arg_required_else_help(true);
     let program = with_command(Ok(program), serve_command(alloc));
+    let program = with_command(program, edit_command(alloc));
     let program = with_command(program, show_command(alloc));
     let program = with_command(program, import_command(alloc));
     let program = with_command(program, restore_command(alloc));
@@ -352,6 +356,20 @@ fn kick_file<'a>(alloc: Global) -> Arg<'a> {
 fn trust_forwarded<'a>(alloc: Global) -> Arg<'a> {
     let help = "Log the address that the proxy names last in X-Forwarded-For";
     flag(alloc, "trust-forwarded", help)
+}
+
+// The words of `edit`.
+fn edit_command<'a>(alloc: Global) -> Result<Command<'a>, AllocError> {
+    let edit = Command::new(alloc, "edit").about(
+        "Edit a served document: a client that plays edit lines from standard input",
+    );
+    with_arg(Ok(edit), Ok(server_port(alloc)))
+}
+
+// The port of the server, as an argument.
+fn server_port<'a>(alloc: Global) -> Arg<'a> {
+    let help = "Port of the server (127.0.0.1 only), 1 to 65535";
+    number(alloc, "port", "PORT", "7411", help).value_parser(value_parser!(u16).range(1..65_536))
 }
 
 // The words of `show`.

@@ -74,6 +74,11 @@ pub enum Invocation {
         /// Their numbers.
         numbers: Vec<u64>,
     },
+    /// To play the edit lines on the input, as a client.
+    Edit {
+        /// The port of the server on this machine.
+        port: u16,
+    },
 }
 
 /// What a server is asked for.

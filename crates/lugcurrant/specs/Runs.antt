@@ -10,12 +10,13 @@ use Rattle.app_faults.specs.declared.subject.Subject.{Subject}
 use Rattle.app_faults.specs.declared.subject.Subject.TheVariants as subject
 use Rattle.canvas_lines.specs.Reports.{WritesReport}
 use Rattle.app_args.specs.declared.asked.Invocation.{Invocation}
-use Rattle.app_args.specs.declared.asked.Invocation.TheVariants.{Serve, Show, Import, Restore, Move, Check, Log, Kick}
+use Rattle.app_args.specs.declared.asked.Invocation.TheVariants.{Serve, Show, Import, Restore, Move, Check, Log, Kick, Edit}
 use Rattle.app_args.specs.declared.asked.DocumentPlace.{DocumentPlace}
 use Rattle.app_args.specs.declared.asked.DocumentPlace.TheVariants.{Folder, Document}
 use Rattle.app_args.specs.declared.error.WordError.{WordError}
 use Rattle.app_args.specs.Wrong.{fault_of_word}
 use Rattle.app_storage.specs.Faults.{IsServedUntilFault}
+use Rattle.lugcurrant.specs.Edits.{PlaysInput}
 use Rattle.lugcurrant.specs.Kicks.{WritesTaken}
 
 -- the folder of a document, or its name in an etcd
@@ -48,7 +49,7 @@ WritesChecked (Folder dir) written after = WritesCheck written after
 WritesChecked (Document address) written after = WritesShelf written after
 
 -- What was asked for was done to its end, and the status is 0; or a fault ended it, which was told. A server is ended by one, or by its file to stop
--- at, and writes no output. Only an import reads its input.
+-- at, and writes no output. Only an import and a client that edits read their input.
 abbrev pub CarriesOut : Invocation → ℕ → (read left written after faults told : Option (List ℕ)) → Type 0
 CarriesOut (Serve options) status read left written after faults told =
     (left ≡ read) × (after ≡ written) × IsServedUntilFault (served_of options.place) (place_bytes options.place) options.serving.port options.serving.workers options.serving.stop_file status faults told
@@ -68,6 +69,8 @@ CarriesOut (Log place) status read left written after faults told =
     (left ≡ read) × EndsAt place (WritesLog written after) status faults told
 CarriesOut (Kick file numbers) status read left written after faults told =
     (left ≡ read) × EndsCommand (WritesTaken (string_bytes file) written after) subject.Folder (string_bytes file) status faults told
+CarriesOut (Edit port) status read left written after faults told =
+    PlaysInput port status read left written after faults told
 
 -- the status of a word that isn't as it has to be, where it was told in a line of its own, or 4
 abbrev pub IsWordRefused : WordError → ℕ → (faults told : Option (List ℕ)) → Type 0

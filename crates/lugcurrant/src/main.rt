@@ -1,7 +1,9 @@
-//! `lugcurrant` serves a document to clients over WebSockets for as long as it is left running, and cares for folders that are not served.
+//! `lugcurrant` serves a document to clients over WebSockets for as long as it is left running, edits one that is served, and cares for folders
+//! that are not served.
 #![tactic(auto)]
 
 mod caring;
+mod editing;
 mod kicking;
 mod remote;
 mod running;

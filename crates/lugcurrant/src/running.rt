@@ -7,6 +7,7 @@ ghost use Rattle.app_storage.specs.Faults.{IsServedUntilFault};
 ghost use Rattle.lugcurrant.specs.Runs.{CarriesOut, EndsAt, IsWordRefused, IsCommandRun, Shows, WritesChecked, WritesShown, place_bytes, served_of};
 
 use crate::caring::{run_check, run_import, run_log, run_restore, run_rows, run_tree};
+use crate::editing::run_edit;
 use crate::kicking::run_kick;
 use crate::remote::{import_remote, run_move};
 use app_admin::{FolderHome, Home, Layout, NewFolder};
@@ -16,7 +17,7 @@ use app_faults::{Fault, Subject, Told, end, tell};
 use app_server::serve;
 use canvas_shelf::Shelf;
 use std::alloc::{AllocError, Global};
-use std::io::{Eprint, Print, Read, Write};
+use std::io::{BufRead, Eprint, Print, Read, Write};
 use std::net::{Net, TcpListener, TcpStream};
 use std::random::RandomSource;
 use std::sync::Wait;
@@ -47,7 +48,7 @@ where
         + Sync
         + Drop
         + 'static,
-    I: Read,
+    I: BufRead,
     W: Write,
     F: Write,
     ensures { IsCommandRun result
@@ -100,7 +101,7 @@ where
         + Sync
         + Drop
         + 'static,
-    I: Read,
+    I: BufRead,
     W: Write,
     F: Write,
     ensures { CarriesOut asked result
@@ -125,6 +126,7 @@ where
         Invocation::Check { place } => check(rt, files, &place, output, faults),
         Invocation::Log { place } => log(rt, files, &place, output, faults),
         Invocation::Kick { file, numbers } => run_kick(rt, files, &file, &numbers, output, faults),
+        Invocation::Edit { port } => run_edit(rt, port, input, output, faults),
     }
 }
 
