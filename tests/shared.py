@@ -19,6 +19,7 @@ FIGURES = os.path.join(os.path.dirname(os.path.dirname(os.path.abspath(__file__)
 LAST = {"welcome", "idle", "no"}
 RUNNING = []  # the processes that a group has started
 GIVEN = set()  # the ports that were given
+LIMIT = float(os.environ.get("H_LIMIT", 30))  # seconds that an answer may take, on a machine that may be busy
 
 
 class Wrong(Exception):
@@ -38,7 +39,7 @@ def record(name, **figures):
 class Client:
     """A WebSocket client that waits for each answer. With `room` the system keeps that many bytes for it, and a server's rest soon waits there."""
 
-    def __init__(self, port, path="/", origin=None, timeout=30, room=None, fields=()):
+    def __init__(self, port, path="/", origin=None, timeout=LIMIT, room=None, fields=()):
         self.socket = socket.socket()
         self.socket.settimeout(timeout)
         if room is not None:
@@ -189,7 +190,7 @@ class Server:
 
     def get(self, path, method="GET", *fields, host=None):
         """Status, head and body of an answer."""
-        with socket.create_connection(("127.0.0.1", self.port), timeout=30) as peer:
+        with socket.create_connection(("127.0.0.1", self.port), timeout=LIMIT) as peer:
             host = host or f"127.0.0.1:{self.port}"
             lines = [f"{method} {path} HTTP/1.1", f"Host: {host}", *fields]
             peer.sendall(("\r\n".join(lines) + "\r\n\r\n").encode())
@@ -238,7 +239,7 @@ def free_port():
 
 def call(program, *words, text=b"", status=0, told=""):
     """What the program writes, once it has ended with this status and told this."""
-    done = subprocess.run([program, *words], input=text, capture_output=True, timeout=120)
+    done = subprocess.run([program, *words], input=text, capture_output=True, timeout=4 * LIMIT)
     require(done.returncode == status and told in done.stderr.decode(), words, "end with", done.returncode, done.stderr)
     return done.stdout
 

@@ -60,7 +60,7 @@ import ending
 from faults import (KEEP_ALIVE, TRANSACTION, Accounted, Front, Health, Lone, compact, move_leader, put_all, put_back, save)
 from parts import (ENDINGS, LEASE, NAME, PROGRAM, Crowd, Editor, Etcd, Pair, Served, call, never_together, read_all, require, shared,
                    served, until)
-from shared import Client, draw, numbers_and_names, page, text_of, try_groups
+from shared import LIMIT, Client, draw, numbers_and_names, page, text_of, try_groups
 
 NUMBERS, NAMES = numbers_and_names(sys.argv[2:])
 KILLS = int(NUMBERS[0]) if NUMBERS else 50
@@ -682,7 +682,7 @@ def large(room):
     lines = [ROOT.strip()] + [text_of([[1, number], *page(1, number)[2:], [["text", "x" * 1_000_000]]]) for number in range(1, 21)]
     require(call("import", *etcd.words(), text="\n".join(lines).encode()) == b"version 1, objects 21\n", "20 MB aren't imported")
     server = Served(etcd, "--standby", "--message-bytes", "6000000", listens=False).await_serving()
-    client = Client(server.port, timeout=60)
+    client = Client(server.port, timeout=2 * LIMIT)
     name = client.join()
     copy = client.ask("ask", name, 0)[0]
     require(copy[:3] == ["copy", 2, 0] and [text_of(row) for row in copy[3]] == lines, "a copy of 20 MB is another", copy[:3])
@@ -692,7 +692,7 @@ def large(room):
     kept = [text_of(row) for row in json.loads(shown(etcd, "--json"))]
     require(kept[0] == lines[0] and kept[2:] == lines[2:] and kept[1].count("y") == 5_000_000, "an edit of 5 MB isn't kept")
     server = served(etcd)
-    client = Client(server.port, timeout=60)
+    client = Client(server.port, timeout=2 * LIMIT)
     require(client.ask("ask", name, 0)[0][:3] == ["copy", 3, 1], "a large document isn't served again")
     require(client.ask("edit", name, 2, ["set", [1, 1], "text", "y" * 1_100_000]) == [["no", 8]], "an edit above the usual limit is answered otherwise")
     server.kill()

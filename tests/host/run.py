@@ -72,7 +72,8 @@ own; only the named groups, where some are named.
   was made. A bad line, a No, a server that isn't there, is no server or is killed, and an output that takes nothing end it with a sentence and a status.
 - coming: six clients come, edit and go again for SECONDS (30), and the server's memory stays flat.
 
-Prints a line for each group, and exits with 1 where one went wrong. Needs no package."""
+Prints a line for each group, and exits with 1 where one went wrong. With H_LIMIT in the environment an answer may take so many seconds (30), for a
+machine that is busy. Needs no package."""
 
 import functools
 import json
@@ -875,7 +876,7 @@ def copies(room):
     first.leave()
     time.sleep(1)
     before, most, longest, sizes, done = server.memory(), [0], [0.0], [], threading.Event()
-    clients = [Client(server.port, timeout=60) for _ in range(64)]
+    clients = [Client(server.port, timeout=2 * shared.LIMIT) for _ in range(64)]
     besides = [threading.Thread(target=watched, args=(server, done, most)),
                threading.Thread(target=edits_meanwhile, args=(clients[0], names[0], done, longest))]
     askers = [threading.Thread(target=sent_a_copy, args=(clients[i], names[i], sizes)) for i in range(1, 64)]
