@@ -796,8 +796,10 @@ FILLED = POOL + (3 + 2) * 1000 * BIG_EDITS + SMALL
 def big_entries(server):
     """Has a client make edits of 1 MB. Returns the version before them, and the bytes of an answer to a client at this version."""
     author, text = Peer(server).begin(), "b" * 1_000_000
-    for number in range(1, BIG_EDITS + 1):
-        author.edit(number, "set", [0, 0], "big", text)
+    edits = [edit_frame(author.name, number, ["set", [0, 0], "big", text]) for number in range(1, BIG_EDITS + 1)]
+    # It reads while it sends: a server that has much for it reads nothing of it.
+    sender = threading.Thread(target=author.send_frames, args=(edits,), daemon=True)
+    sender.start()
     require(author.answers(BIG_EDITS) == [["idle"]] * BIG_EDITS, "an edit of 1 MB isn't judged")
     end = time.monotonic() + LIMIT
     while author.done < BIG_EDITS:

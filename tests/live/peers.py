@@ -74,7 +74,7 @@ class Peer(shared.Client):
         super().__init__(server.port, timeout=timeout, room=room)
         require(self.status == 101, "a client is answered", self.head)
         self.name, self.version, self.done, self.told, self.ends = 0, 0, 0, [], []
-        self.heres = []
+        self.heres, self.whole = [], threading.Lock()
 
     def begin(self, version=None):
         """Joins, and becomes a live client from this version on, or from the current one."""
@@ -92,6 +92,12 @@ class Peer(shared.Client):
             for message in answer[:-1]:
                 version = message[1]
         return version
+
+    def send_frames(self, frames):
+        """Sends frames, also while another thread reads and answers pings."""
+        for frame in frames:
+            with self.whole:
+                self.socket.sendall(frame)
 
     def edit(self, number, *change):
         self.say("edit", self.name, number, list(change))
@@ -125,7 +131,7 @@ class Peer(shared.Client):
 
     def take_frame(self, opcode, payload):
         if opcode == 9:
-            self.send(payload, opcode=10)
+            self.send_frames([shared.framed(payload, opcode=10)])
         elif opcode == 8:
             raise ConnectionError(f"the server closed: {payload!r}")
         elif opcode == 2:
