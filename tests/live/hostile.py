@@ -1,6 +1,7 @@
 """The groups of clients that break the protocol, or don't read. In each, two other clients measure how late edits arrive (peers.py)."""
 
 import contextlib
+import itertools
 import random
 import select
 import socket
@@ -577,6 +578,35 @@ def busy(room):
     return f"a client that sent {sent[0]} asks within {BUSY} s isn't silent; {notes[0]}"
 
 
+# For how many seconds a client sends, longer than a slow reader is waited for; the bytes of its edits; and the most seconds between two answers, on a machine
+# that may be busy.
+EAGER, EAGER_BYTES, EAGER_PAUSE = 25, (10_000, 1_000_000), 15
+
+
+def eager(room):
+    """Clients send large edits without a pause, and read what comes: they are answered all the time, and stay."""
+    notes, found = [], []
+    with watched(room, notes, LARGE) as server:
+        for size in EAGER_BYTES:
+            peer = Peer(server).begin()
+            frames = (edit_frame(peer.name, number, ["set", [0, 0], "a", "x" * size]) for number in itertools.count(1))
+            is_over, begun = time.monotonic() + EAGER, time.monotonic()
+            sender = threading.Thread(target=peer.send_frames, args=(itertools.takewhile(lambda _, end=is_over: time.monotonic() < end, frames),), daemon=True)
+            sender.start()
+            last, longest = begun, 0.0
+            while sender.is_alive():
+                count = len(peer.ends)
+                peer.read(0.1)
+                if len(peer.ends) > count:
+                    last = time.monotonic()
+                longest = max(longest, time.monotonic() - last)
+            found.append((len(peer.ends), longest))
+            require(all(end == ["idle"] for end in peer.ends) and server.ended(SLOW) == 0, "the connection of a client that reads has ended")
+            peer.leave()
+    require(all(longest < EAGER_PAUSE for _, longest in found), "between two answers of a client that sends without a pause pass so many seconds:", found)
+    return f"clients that send edits of {EAGER_BYTES} bytes without a pause have {[count for count, _ in found]} answers within {EAGER} s; {notes[0]}"
+
+
 RESETS = 40
 
 
@@ -882,4 +912,4 @@ def burst(room):
     return f"of {BURST} clients that ask at once for answers of {size / 1e6:.1f} MB {full} are answered No 7, and the others are disconnected; {notes[0]}"
 
 
-GROUPS = (garbage, words, here, quiet, crowd, counts, together, large, trees, silent, deaf, pings, trickle, busy, resets, slow, ninth, resting, newcomers, hoarders, filled, burst)
+GROUPS = (garbage, words, here, quiet, crowd, counts, together, large, trees, silent, deaf, pings, trickle, busy, eager, resets, slow, ninth, resting, newcomers, hoarders, filled, burst)

@@ -19,6 +19,7 @@ all groups are run.
 - pings: a client sends 200,000 pings and reads no pong; of another one each ping has its pong.
 - trickle: four clients ask for copies of 4 MB and read a byte a second.
 - busy: a client sends without a pause for longer than --idle, and isn't silent.
+- eager: clients send large edits without a pause, longer than a slow reader is waited for, and read: they are answered all the time.
 - resets: connections are reset with edits under way; the edits that were judged are the first ones.
 - slow: 20 live clients read nothing while another one sends batches of 20 edits of 200 kB.
 - ninth: eight clients read a byte a second of their copies of 10 MB; a ninth one joins, and has its own copy.
