@@ -11,7 +11,7 @@ use std::io::{self, ErrorKind, Read, Write};
 use std::net::TcpStream;
 use std::rc::Rc;
 
-// How many bytes are read in one step of a connection, and written, so that others have their turn.
+// How many bytes are read in one step of a connection, and how many are written, so that others have their turn.
 const STEP_BYTES: usize = 256 * 1024;
 
 /// A socket on which no call blocks, and what was read of it.
@@ -25,8 +25,10 @@ pub(crate) struct Socket {
     fetched: RefCell<Fetched>,
     // How many bytes were read since that was asked for.
     read: Cell<usize>,
-    // How many bytes may be read and written in this step, and whether it would have been more.
-    left: Cell<usize>,
+    // How many bytes may still be read in this step, how many may be written, and whether it would have been more. If both had one share, nothing
+    // would be written to a peer that sends without a pause.
+    reads: Cell<usize>,
+    writes: Cell<usize>,
     is_cut: Cell<bool>,
     // Why the last read failed, if it did.
     error: Cell<Option<ErrorKind>>,
@@ -42,7 +44,8 @@ impl Socket {
             is_dry: Cell::new(true),
             fetched: RefCell::new(Fetched::new(alloc)),
             read: Cell::new(0),
-            left: Cell::new(STEP_BYTES),
+            reads: Cell::new(STEP_BYTES),
+            writes: Cell::new(STEP_BYTES),
             is_cut: Cell::new(false),
             error: Cell::new(None),
             inbox: Inbox::new(alloc),
@@ -71,7 +74,8 @@ impl Socket {
 
     /// A step of its connection begins.
     pub(crate) fn begin_step(&self) {
-        self.left.set(STEP_BYTES);
+        self.reads.set(STEP_BYTES);
+        self.writes.set(STEP_BYTES);
         self.is_cut.set(false);
     }
 
@@ -80,10 +84,10 @@ impl Socket {
         self.is_cut.get()
     }
 
-    // Takes bytes of those that this step may read and write. Returns whether any were left.
-    fn take(&self, bytes: usize) -> bool {
-        let left = self.left.get();
-        self.left.set(left.saturating_sub(bytes));
+    // Takes bytes of one of this step's shares. Returns whether any were left.
+    fn take(&self, share: &Cell<usize>, bytes: usize) -> bool {
+        let left = share.get();
+        share.set(left.saturating_sub(bytes));
         if left == 0 {
             self.is_cut.set(true);
         }
@@ -144,7 +148,7 @@ impl Socket {
     fn receive(&self, buf: &mut [u8]) -> io::Result<usize>
         ensures { ReadsAtMost result buf.new }
     {
-        if !self.take(FETCH_BYTES) {
+        if !self.take(&self.reads, FETCH_BYTES) {
             return Err(io::Error::from(ErrorKind::WouldBlock));
         }
         let mut stream = &self.stream;
@@ -213,7 +217,7 @@ impl Read for Outgoing {
 impl Write for Outgoing {
     fn write(&mut self, buf: &[u8]) -> io::Result<usize> {
         let most = buf.len().min(STEP_BYTES);
-        if !self.socket.take(most) {
+        if !self.socket.take(&self.socket.writes, most) {
             return Err(io::Error::from(ErrorKind::WouldBlock));
         }
         let mut stream = &self.socket.stream;
