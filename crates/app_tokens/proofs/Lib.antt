@@ -1,0 +1,5 @@
+mod Carries
+mod Codes
+mod Cuts
+mod Jsons
+mod Lines
