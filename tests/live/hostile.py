@@ -898,18 +898,20 @@ def burst(room):
     imported(room, BIG_ROWS, 1_000_000)
     with watched(room, notes, BURSTS) as server:
         version, size = big_entries(server)
-        peers = [Peer(server, room=4096) for _ in range(BURST)]
+        # They ask for half as much again as there is room for.
+        count = max(BURST, 3 * POOL * 1024 // (2 * size))
+        peers = [Peer(server, room=4096) for _ in range(count)]
         for peer in peers:
             peer.name = peer.join()
         for peer in peers:
             peer.say("ask", peer.name, version)
-        until(lambda: server.ended(SLOW) + sum(map(is_told_full, peers)) == BURST, "of clients that ask at once not all are answered No 7, or disconnected")
+        until(lambda: server.ended(SLOW) + sum(map(is_told_full, peers)) == count, "of clients that ask at once not all are answered No 7, or disconnected")
         full = sum(map(is_told_full, peers))
-        require(full > 0, "of", BURST, "clients that ask for", size, "bytes none is answered No 7")
+        require(full > 0, "of", count, "clients that ask for", size, "bytes none is answered No 7")
         for peer in peers:
             peer.reset()
         until(lambda: server.metric("clients") == 2, "a seat isn't free again")
-    return f"of {BURST} clients that ask at once for answers of {size / 1e6:.1f} MB {full} are answered No 7, and the others are disconnected; {notes[0]}"
+    return f"of {count} clients that ask at once for answers of {size / 1e6:.1f} MB {full} are answered No 7, and the others are disconnected; {notes[0]}"
 
 
 GROUPS = (garbage, words, here, quiet, crowd, counts, together, large, trees, silent, deaf, pings, trickle, busy, eager, resets, slow, ninth, resting, newcomers, hoarders, filled, burst)
